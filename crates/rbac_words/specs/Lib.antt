@@ -1,0 +1,17 @@
+pub mod Authorization
+pub mod Build
+pub mod Denials
+pub mod Effect
+pub mod Founding
+pub mod Front
+pub mod Inheritance
+pub mod Limits
+pub mod Message
+pub mod Name
+pub mod Replay
+pub mod Right
+pub mod Rows
+pub mod Sound
+pub mod Stamp
+pub mod State
+pub mod World

@@ -1,0 +1,31 @@
+-- How much a policy and a group may hold.
+use Rattle.std.specs.Prelude.{ℕ}
+
+abbrev pub most_users : ℕ
+most_users = 4096
+
+abbrev pub most_roles : ℕ
+most_roles = 1024
+
+abbrev pub most_sessions : ℕ
+most_sessions = 8192
+
+abbrev pub most_operations : ℕ
+most_operations = 256
+
+abbrev pub most_objects : ℕ
+most_objects = 4096
+
+abbrev pub most_permissions : ℕ
+most_permissions = 16384
+
+abbrev pub most_members : ℕ
+most_members = 8
+
+-- the largest whole number below 2^53
+abbrev pub last_clock : ℕ
+last_clock = 9007199254740991
+
+-- the most messages that a member may ever send, of which a founding may allow fewer
+abbrev pub most_sent : ℕ
+most_sent = 65536

@@ -1,0 +1,63 @@
+-- Messages, the commands in them, and the lists of messages that a member may send (Lamport 1978).
+use Rattle.std.specs.Prelude.{ℕ, Bool, suc, ◌≡◌, ◌≤◌, ◌==◌, ⊤, List, [], ◌∷◌, length, count_by, map}
+use Rattle.std.specs.List.{AllByRecursion, flat_map, filter}
+use Rattle.rbac_words.specs.Limits.{last_clock}
+use Rattle.rbac_words.specs.Founding.{Group}
+use Rattle.rbac_words.specs.Stamp.{IsRising}
+use Rattle.rbac_words.specs.declared.command.Command.{Command}
+use Rattle.rbac_words.specs.declared.stamp.Stamp.{Stamp}
+use Rattle.rbac_words.specs.declared.message.Message.{Message}
+use Rattle.rbac_words.specs.declared.message.Message.TheVariants.{Call, Ack}
+use Rattle.rbac_words.specs.declared.message.Submission.{Submission}
+use Rattle.rbac_words.specs.declared.record.Record.{Record}
+
+-- when a message was sent
+abbrev pub stamp_of : Message → Stamp
+stamp_of (Call stamp caller serial command) = stamp
+stamp_of (Ack stamp) = stamp
+
+-- when a command was submitted
+abbrev pub submitted_at : Submission → Stamp
+submitted_at x = x.stamp
+
+-- the commands of a message
+abbrev pub submissions_of : Message → List Submission
+submissions_of (Call stamp caller serial command) = record { stamp = stamp; caller = caller; serial = serial; command = command } ∷ []
+submissions_of (Ack stamp) = []
+
+-- the commands of a list of messages
+abbrev pub submissions : List Message → List Submission
+submissions messages = flat_map submissions_of messages
+
+-- whether a command is of this caller
+abbrev pub is_by : ℕ → Submission → Bool
+is_by caller x = x.caller == caller
+
+-- the number of a caller's commands: its next serial
+abbrev pub next_serial : ℕ → List Submission → ℕ
+next_serial caller xs = length (filter (is_by caller) xs)
+
+-- the serials are n, n + 1, n + 2 and so on
+abbrev pub CountsFrom : ℕ → List Submission → Type 0
+CountsFrom n [] = ⊤
+CountsFrom n (x ∷ xs) = (x.serial ≡ n) × CountsFrom (suc n) xs
+
+-- each caller's serials are 0, 1, 2 and so on
+abbrev pub AreSerialsInOrder : List Submission → Type 0
+AreSerialsInOrder xs = (caller : ℕ) → CountsFrom 0 (filter (is_by caller) xs)
+
+-- a sent list of a member: its own stamps, which rise, within the limits, and each caller's commands in order
+pub record IsLawful (member : ℕ) (group : Group) (sent : List Message) : Type 0 where
+  pub own : AllByRecursion (λ m. (stamp_of m).member ≡ member) sent
+  pub rising : IsRising stamp_of sent
+  pub clocks_in_range : AllByRecursion (λ m. (stamp_of m).clock ≤ last_clock) sent
+  pub within_limit : length sent ≤ group.sent_limit
+  pub serials : AreSerialsInOrder (submissions sent)
+
+-- a record's command as it was submitted
+abbrev pub submission_of : Record → Submission
+submission_of r = record { stamp = r.stamp; caller = r.caller; serial = r.serial; command = r.command }
+
+-- the commands of a history
+abbrev pub told : List Record → List Submission
+told history = map submission_of history

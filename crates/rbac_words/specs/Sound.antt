@@ -1,0 +1,32 @@
+-- What holds of each policy, whatever commands it was given.
+use Rattle.std.specs.Prelude.{ℕ, ◌≡◌, ◌≤◌, List, length, IsTrue, Some}
+use Rattle.std.specs.FinMap.Entries.{find}
+use Rattle.sorted_keys.specs.Keys.{has}
+use Rattle.rbac_words.specs.Name.{Name, Permission, name_cmp, pair_cmp, grant_cmp}
+use Rattle.rbac_words.specs.Limits.{most_users, most_roles, most_sessions, most_operations, most_objects, most_permissions}
+use Rattle.rbac_words.specs.State.{State, Session}
+use Rattle.rbac_words.specs.Authorization.{IsAuthorized}
+
+-- assignments and grants are between what exists
+pub record HasReferences (s : State) : Type 0 where
+  pub assigned : (user role : Name) → IsTrue (has pair_cmp (user, role) s.assigned) → IsTrue (has name_cmp user s.users) × IsTrue (has name_cmp role s.roles)
+  pub granted : (permission : Permission) (role : Name) → IsTrue (has grant_cmp (permission, role) s.granted) → IsTrue (has pair_cmp permission s.permissions) × IsTrue (has name_cmp role s.roles)
+
+-- nothing is more than its limit
+pub record IsWithinLimits (s : State) : Type 0 where
+  pub users : length s.users ≤ most_users
+  pub roles : length s.roles ≤ most_roles
+  pub sessions : length s.sessions ≤ most_sessions
+  pub operations : length s.operations ≤ most_operations
+  pub objects : length s.objects ≤ most_objects
+  pub permissions : length s.permissions ≤ most_permissions
+
+-- a session's owner exists, and is authorized for each of its active roles
+pub record IsSessionSound (s : State) (session : Session) : Type 0 where
+  pub owned : IsTrue (has name_cmp session.owner s.users)
+  pub authorized : (role : Name) → IsTrue (has name_cmp role session.active) → IsAuthorized s session.owner role
+
+pub record IsSound (s : State) : Type 0 where
+  pub references : HasReferences s
+  pub limits : IsWithinLimits s
+  pub sessions : (name : Name) (session : Session) → find name_cmp name s.sessions ≡ Some session → IsSessionSound s session

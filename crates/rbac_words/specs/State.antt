@@ -1,0 +1,40 @@
+-- The state of a policy, as plain sets. A set is the list of its elements, sorted and without repeats, so that two
+-- sets are equal exactly where they have the same elements.
+use Rattle.std.specs.Prelude.{List, []}
+use Rattle.rbac_words.specs.Name.{Name, Permission, Grant}
+use Rattle.rbac_words.specs.Founding.{Vocabulary}
+
+-- a session has one owner and a set of active roles (ANSI INCITS 359-2004, 5.1: session_users, session_roles)
+pub record Session : Type 0 where
+  pub owner : Name
+  pub active : List Name
+
+-- ANSI INCITS 359-2004, 5.1 Core RBAC
+pub record State : Type 0 where
+  -- USERS
+  pub users : List Name
+  -- ROLES
+  pub roles : List Name
+  -- UA: user and role
+  pub assigned : List (Name × Name)
+  -- PA: permission and role
+  pub granted : List Grant
+  -- SESSIONS, each by its name
+  pub sessions : List (Name × Session)
+  -- OPS, OBS and PRMS, which no command changes
+  pub operations : List Name
+  pub objects : List Name
+  pub permissions : List Permission
+
+-- the vocabulary and nothing else
+abbrev pub founding_state : Vocabulary → State
+founding_state v = record {
+  users = [];
+  roles = [];
+  assigned = [];
+  granted = [];
+  sessions = [];
+  operations = v.operations;
+  objects = v.objects;
+  permissions = v.permissions;
+}

@@ -1,0 +1,208 @@
+-- A world of members, and the step that an event is (Lamport 1978, "Ordering the Events Totally"; the numbers on the
+-- links, the limits and the refusals are this project's own).
+use Rattle.std.specs.Prelude.{ℕ, Bool, true, false, not, ◌≡◌, ◌==◌, ◌-◌, ◌+◌, ◌&&◌, ◌||◌, max, nat_lt, nat_le, if◌then◌else◌, List, [], ◌∷◌, ◌++◌, Option, Some, None, Result, Ok, Err, length, map, take, slice_set, slice_index, slice_index_or}
+use Rattle.std.specs.List.{flat_map, filter, list_any, list_all}
+use Rattle.rbac_words.specs.Limits.{last_clock}
+use Rattle.rbac_words.specs.Founding.{Group, Vocabulary}
+use Rattle.rbac_words.specs.State.{founding_state}
+use Rattle.rbac_words.specs.Effect.{reply}
+use Rattle.rbac_words.specs.Replay.{state_after}
+use Rattle.rbac_words.specs.Stamp.{is_before, is_same_stamp, sort_by_stamp}
+use Rattle.rbac_words.specs.Message.{stamp_of, submitted_at, submissions, next_serial, told}
+use Rattle.rbac_words.specs.Front.{command_of}
+use Rattle.rbac_words.specs.declared.command.Command.{Command}
+use Rattle.rbac_words.specs.declared.stamp.Stamp.{Stamp}
+use Rattle.rbac_words.specs.declared.message.Message.{Message}
+use Rattle.rbac_words.specs.declared.message.Message.TheVariants.{Call, Ack}
+use Rattle.rbac_words.specs.declared.message.Submission.{Submission}
+use Rattle.rbac_words.specs.declared.record.Record.{Record}
+use Rattle.rbac_words.specs.declared.event.Event.{Event}
+use Rattle.rbac_words.specs.declared.event.Event.TheVariants.{Submit, Receive, Deliver}
+use Rattle.rbac_words.specs.declared.event.Outcome.{Outcome}
+use Rattle.rbac_words.specs.declared.event.Outcome.TheVariants.{Submitted, Received, Delivered}
+use Rattle.rbac_words.specs.declared.event.Refusal.{Refusal}
+use Rattle.rbac_words.specs.declared.event.Refusal.TheVariants.{UnknownMember, FromSelf, NotSent, Repeat, Gap, ClockFull, SentFull, BadSerial}
+
+-- a member as a world shows it: its number, its clock, what it sent, how many messages it read of each member, and what
+-- it delivered
+pub record Node : Type 0 where
+  pub number : ℕ
+  pub clock : ℕ
+  pub sent : List Message
+  pub read : List ℕ
+  pub history : List Record
+
+-- what was founded, and the members in order of number
+pub record World : Type 0 where
+  pub group : Group
+  pub vocabulary : Vocabulary
+  pub nodes : List Node
+
+-- ---- What a member has heard
+
+abbrev pub nobody : Node
+nobody = record { number = 0; clock = 0; sent = []; read = []; history = [] }
+
+-- the member of this number
+abbrev pub node : World → ℕ → Node
+node w k = slice_index_or w.nodes (k - 1) nobody
+
+abbrev pub is_member : World → ℕ → Bool
+is_member w k = nat_le 1 k && nat_le k (length w.nodes)
+
+-- how many messages a node has read of member k
+abbrev pub read_of : Node → ℕ → ℕ
+read_of v k = slice_index v.read (k - 1)
+
+-- what a node has heard of another: all that it sent itself, and what it read of the others
+abbrev pub heard_of : Node → Node → List Message
+heard_of v other = if other.number == v.number then other.sent else take (read_of v other.number) other.sent
+
+-- the commands that a node has heard, in stamp order
+abbrev pub heard_commands : World → Node → List Submission
+heard_commands w v = sort_by_stamp submitted_at (flat_map (λ other. submissions (heard_of v other)) w.nodes)
+
+-- whether a command is in a history
+abbrev pub is_told : List Record → Submission → Bool
+is_told history x = list_any (λ r. is_same_stamp r.stamp x.stamp) history
+
+-- of each member other than this one and the command's, a message with a greater stamp was heard: no command that
+-- comes later can have a smaller stamp
+abbrev pub is_stable : World → Node → Submission → Bool
+is_stable w v x =
+    list_all (λ other. (other.number == v.number || other.number == x.stamp.member) || list_any (λ m. is_before x.stamp (stamp_of m)) (heard_of v other)) w.nodes
+
+-- the least command that a node has heard and has not delivered
+abbrev pub least : List Submission → Option Submission
+least [] = None
+least (x ∷ xs) = Some x
+
+abbrev pub if_stable : World → Node → Option Submission → Option Submission
+if_stable w v None = None
+if_stable w v (Some x) = if is_stable w v x then Some x else None
+
+-- the command that a node delivers next, if one is due
+abbrev pub due : World → Node → Option Submission
+due w v = if_stable w v (least (filter (λ x. not (is_told v.history x)) (heard_commands w v)))
+
+-- ---- What a step leaves of one member
+
+abbrev pub stamp : ℕ → ℕ → Stamp
+stamp clock member = record { clock = clock; member = member }
+
+-- the clock rises by one, and the command is sent with that stamp
+abbrev pub submit_at : Node → ℕ → ℕ → Command → Node
+submit_at v caller serial command = record v { clock = v.clock + 1; sent = v.sent ++ Call (stamp (v.clock + 1) v.number) caller serial command ∷ [] }
+
+-- the clock after a message with this clock
+abbrev pub clock_after : ℕ → Message → ℕ
+clock_after clock (Call s caller serial command) = (max clock s.clock + 1) + 1
+clock_after clock (Ack s) = max clock s.clock + 1
+
+-- what is sent upon a message: an acknowledgement of a command, and of nothing else
+abbrev pub acknowledgement : Node → Message → Option Stamp
+acknowledgement v (Call s caller serial command) = Some (stamp (clock_after v.clock (Call s caller serial command)) v.number)
+acknowledgement v (Ack s) = None
+
+abbrev pub acks : Option Stamp → List Message
+acks None = []
+acks (Some s) = Ack s ∷ []
+
+abbrev pub receive_at : Node → ℕ → Message → Node
+receive_at v from m =
+    record v {
+      clock = clock_after v.clock m;
+      read = slice_set v.read (from - 1) (read_of v from + 1);
+      sent = v.sent ++ acks (acknowledgement v m);
+    }
+
+-- the record of a command that is delivered next
+abbrev pub record_of : Vocabulary → Node → Submission → Record
+record_of vocabulary v x =
+    record {
+      stamp = x.stamp;
+      caller = x.caller;
+      serial = x.serial;
+      command = x.command;
+      answer = reply x.command (state_after (founding_state vocabulary) (map command_of (told v.history)));
+    }
+
+abbrev pub deliver_at : Vocabulary → Node → Option Submission → Node
+deliver_at vocabulary v None = v
+deliver_at vocabulary v (Some x) = record v { history = v.history ++ record_of vocabulary v x ∷ [] }
+
+-- ---- The step of the world
+
+-- message number n of a member
+abbrev pub message : Node → ℕ → Message
+message v n = slice_index_or v.sent (n - 1) (Ack (stamp 0 0))
+
+abbrev pub is_sent_full : Group → Node → Bool
+is_sent_full group v = nat_le group.sent_limit (length v.sent)
+
+abbrev pub submit_refusal : Group → Node → ℕ → ℕ → Option Refusal
+submit_refusal group v caller serial =
+    if nat_le last_clock v.clock then Some ClockFull
+    else (if is_sent_full group v then Some SentFull
+    else (if serial == next_serial caller (submissions v.sent) then None
+    else Some (BadSerial (next_serial caller (submissions v.sent)))))
+
+abbrev pub needs_ack : Message → Bool
+needs_ack (Call s caller serial command) = true
+needs_ack (Ack s) = false
+
+abbrev pub room_refusal : Group → Node → Message → Option Refusal
+room_refusal group v m =
+    if nat_lt last_clock (clock_after v.clock m) then Some ClockFull
+    else (if needs_ack m && is_sent_full group v then Some SentFull else None)
+
+abbrev pub receive_refusal : Group → Node → Node → ℕ → Option Refusal
+receive_refusal group v sender n =
+    if n == 0 || nat_lt (length sender.sent) n then Some NotSent
+    else (if nat_lt n (read_of v sender.number + 1) then Some (Repeat (read_of v sender.number + 1))
+    else (if nat_lt (read_of v sender.number + 1) n then Some (Gap (read_of v sender.number + 1))
+    else room_refusal group v (message sender n)))
+
+-- why an event is refused: the first that applies
+abbrev pub refusal : World → Event → Option Refusal
+refusal w (Submit at caller serial command) =
+    if is_member w at then submit_refusal w.group (node w at) caller serial else Some UnknownMember
+refusal w (Receive at from n) =
+    if is_member w at && is_member w from
+    then (if from == at then Some FromSelf else receive_refusal w.group (node w at) (node w from) n)
+    else Some UnknownMember
+refusal w (Deliver at) = if is_member w at then None else Some UnknownMember
+
+abbrev pub with_node : World → ℕ → Node → World
+with_node w at v = record w { nodes = slice_set w.nodes (at - 1) v }
+
+-- the world after an event that is not refused
+abbrev pub after : World → Event → World
+after w (Submit at caller serial command) = with_node w at (submit_at (node w at) caller serial command)
+after w (Receive at from n) = with_node w at (receive_at (node w at) from (message (node w from) n))
+after w (Deliver at) = with_node w at (deliver_at w.vocabulary (node w at) (due w (node w at)))
+
+abbrev pub place_of : Node → Option Submission → Option ℕ
+place_of v None = None
+place_of v (Some x) = Some (length v.history)
+
+-- what an event that is not refused gives
+abbrev pub outcome : World → Event → Outcome
+outcome w (Submit at caller serial command) = Submitted (stamp ((node w at).clock + 1) at)
+outcome w (Receive at from n) = Received (acknowledgement (node w at) (message (node w from) n))
+outcome w (Deliver at) = Delivered (place_of (node w at) (due w (node w at)))
+
+abbrev pub answer_unless : Option Refusal → Outcome → Result Outcome Refusal
+answer_unless None o = Ok o
+answer_unless (Some r) o = Err r
+
+abbrev pub world_unless : Option Refusal → World → World → World
+world_unless None new old = new
+world_unless (Some r) new old = old
+
+-- the step of the world: its outcome or its first refusal, and the world after it, which a refusal leaves as it was
+abbrev pub step_outcome : World → Event → Result Outcome Refusal
+step_outcome w e = answer_unless (refusal w e) (outcome w e)
+
+abbrev pub step : World → Event → World
+step w e = world_unless (refusal w e) (after w e) w
