@@ -1,0 +1,10 @@
+pub mod AuthorizationLemmas
+pub mod FoundingLemmas
+pub mod InheritanceLemmas
+pub mod MessageLemmas
+pub mod NameLemmas
+pub mod PurgeLemmas
+pub mod ReplayLemmas
+pub mod SoundLemmas
+pub mod StampLemmas
+pub mod VocabularyLemmas

@@ -1,0 +1,72 @@
+//! Laws about the definitions: functions with an empty body, whose contracts are proved like any other.
+ghost use Rattle.std.specs.Prelude.{List, IsTrue, IfErr, ◌↔◌, ◌≡◌, ◌⊎◌};
+ghost use Rattle.std.specs.declared.cmp.Ordering.TheVariants.{Less};
+ghost use Rattle.std.specs.List.{list_all};
+ghost use Rattle.std.specs.List.Sorted.{IsPermutation};
+ghost use Rattle.rbac_words.specs.declared.command.Command.{Command};
+ghost use Rattle.rbac_words.specs.declared.event.Event.{Event};
+ghost use Rattle.rbac_words.specs.declared.message.Submission.{Submission};
+ghost use Rattle.rbac_words.specs.declared.stamp.Stamp.{Stamp};
+ghost use Rattle.rbac_words.specs.Authorization.{IsAuthorized, is_authorized, Holds, holds, is_entitled, purge};
+ghost use Rattle.rbac_words.specs.Effect.{effect};
+ghost use Rattle.rbac_words.specs.Founding.{Group as GroupValue, Vocabulary as VocabularyValue, IsVocabulary};
+ghost use Rattle.rbac_words.specs.Inheritance.{Inherits, inherits};
+ghost use Rattle.rbac_words.specs.Message.{submitted_at};
+ghost use Rattle.rbac_words.specs.Name.{Name, Permission};
+ghost use Rattle.rbac_words.specs.Right.{AreHistoriesRight, founding_world};
+ghost use Rattle.rbac_words.specs.Stamp.{IsBefore, is_before, stamp_cmp, IsInStampOrder, sort_by_stamp};
+ghost use Rattle.rbac_words.specs.Sound.{IsSound};
+ghost use Rattle.rbac_words.specs.State.{State, Session, founding_state};
+ghost use Rattle.rbac_words.specs.World.{World, step, step_outcome};
+
+/// The test of inheritance tells whether there is a chain of declared pairs.
+pub fn a_test_tells_inheritance()
+    ensures { (roles : List Name) (declared : List (Name × Name)) (r q : Name) → IsTrue (inherits roles declared r q) ↔ Inherits roles declared r q }
+{}
+
+/// The test of authorization tells whether the user is assigned a role that inherits this one.
+pub fn a_test_tells_authorization()
+    ensures { (s : State) (user role : Name) → IsTrue (is_authorized s user role) ↔ IsAuthorized s user role }
+{}
+
+/// The test of holding tells whether an active role inherits one to which the permission is granted.
+pub fn a_test_tells_holding()
+    ensures { (s : State) (session : Session) (permission : Permission) → IsTrue (holds s session permission) ↔ Holds s session permission }
+{}
+
+/// Stamps are in a total order, which the test and the comparison of stamps tell.
+pub fn stamps_are_totally_ordered()
+    ensures test { (s t : Stamp) → IsTrue (is_before s t) ↔ IsBefore s t }
+    ensures comparison { (s t : Stamp) → (stamp_cmp s t ≡ Less) ↔ IsBefore s t }
+    ensures transitive { (s t u : Stamp) → IsBefore s t → IsBefore t u → IsBefore s u }
+    ensures irreflexive { (s : Stamp) → ¬ (IsBefore s s) }
+    ensures total { (s t : Stamp) → (s ≡ t) ⊎ (IsBefore s t ⊎ IsBefore t s) }
+{}
+
+/// To sort by stamp keeps the elements, and puts them in the order of their stamps.
+pub fn sorting_by_stamp()
+    ensures elements { (xs : List Submission) → IsPermutation xs (sort_by_stamp submitted_at xs) }
+    ensures in_order { (xs : List Submission) → IsInStampOrder submitted_at (sort_by_stamp submitted_at xs) }
+{}
+
+/// A purge leaves the sessions that are entitled to their active roles, and they still are.
+pub fn a_purge_leaves_the_entitled()
+    ensures entitled { (s : State) → IsTrue (list_all (λ e. is_entitled (purge s) e.1) (purge s).sessions) }
+    ensures unchanged { (s : State) → IsTrue (list_all (λ e. is_entitled s e.1) s.sessions) → purge s ≡ s }
+{}
+
+/// A refused event changes nothing.
+pub fn a_refusal_changes_nothing()
+    ensures { (w : World) (e : Event) → IfErr (step_outcome w e) (λ _. step w e ≡ w) }
+{}
+
+/// In the founding world each history is right.
+pub fn a_founding_is_right()
+    ensures { (group : GroupValue) (vocabulary : VocabularyValue) → AreHistoriesRight (founding_world group vocabulary) }
+{}
+
+/// A policy is sound as it is founded, and each command leaves it so.
+pub fn each_command_keeps_a_policy_sound()
+    ensures founding { (vocabulary : VocabularyValue) → IsVocabulary vocabulary → IsSound (founding_state vocabulary) }
+    ensures command { (c : Command) (s : State) → IsSound s → IsSound (effect c s) }
+{}

@@ -1,0 +1,63 @@
+//! Messages between members.
+ghost use Rattle.std.specs.Prelude.{◌≡◌, IfOk};
+ghost use Rattle.rbac_words.specs.Message.{stamp_of};
+
+use crate::command::Command;
+use crate::stamp::Stamp;
+use std::alloc::{AllocError, Global};
+
+/// A command as it was submitted: when and where, by which caller of that member, and as the how manieth of that
+/// caller's commands, counted from 0.
+#[derive(Drop)]
+pub struct Submission {
+    pub stamp: Stamp,
+    pub caller: u32,
+    pub serial: u32,
+    pub command: Command,
+}
+
+/// What a member sends to all others: a command, or an acknowledgement that it received one (Lamport 1978).
+#[derive(Drop)]
+pub enum Message {
+    Call {
+        stamp: Stamp,
+        caller: u32,
+        serial: u32,
+        command: Command,
+    },
+    Ack {
+        stamp: Stamp,
+    },
+}
+
+impl Message {
+    /// When it was sent.
+    pub fn stamp(&self) -> Stamp
+        ensures { result ≡ stamp_of self.now }
+    {
+        match self {
+            Message::Call { stamp, .. } => *stamp,
+            Message::Ack { stamp } => *stamp,
+        }
+    }
+
+    /// An equal message.
+    pub fn copy(&self, alloc: Global) -> Result<Message, AllocError>
+        ensures { IfOk result (λ copy. copy ≡ self.now) }
+    {
+        match self {
+            Message::Call {
+                stamp,
+                caller,
+                serial,
+                command,
+            } => Ok(Message::Call {
+                stamp: *stamp,
+                caller: *caller,
+                serial: *serial,
+                command: command.copy(alloc)?,
+            }),
+            Message::Ack { stamp } => Ok(Message::Ack { stamp: *stamp }),
+        }
+    }
+}

@@ -1,0 +1,154 @@
+//! Names: 1 to 64 bytes of a fixed alphabet.
+ghost use Rattle.std.specs.Prelude.{◌≡◌, ◌↔◌, IsTrue, IfOk, false};
+ghost use Rattle.std.specs.List.{list_all};
+ghost use Rattle.rbac_words.specs.Name.{is_name_byte as is_byte_of_a_name, is_name as is_a_name};
+
+use sorted_keys::{Duplicate, Exact};
+use std::alloc::{AllocError, Global};
+use std::cmp::Ordering;
+use std::marker::Model;
+
+/// A name of 1 to 64 bytes, each of `A-Z a-z 0-9 _ - .`, ordered by its bytes.
+#[derive(Drop)]
+pub struct Name {
+    bytes: Vec<u8>,
+}
+
+impl Model for Name {
+    ghost use Rattle.std.specs.Prelude.{List, ℕ, IsTrue};
+    ghost use Rattle.rbac_words.specs.Name.{is_name};
+
+    ghost Value = { List ℕ };
+
+    ghost view = { λ name. name.bytes.items };
+
+    ghost invariant = { λ name. IsTrue (is_name name.bytes.items) };
+}
+
+impl PartialEq for Name {
+    ghost use Rattle.std.specs.Prelude.{◌==◌};
+    ghost use Rattle.std.specs.Cmp.Lexicographic.{pointwise};
+    ghost use Rattle.std.specs.Cmp.{partial_equiv_from_equiv};
+    ghost use Rattle.std.proofs.lemmas.Cmp.{nat_list_eq_equiv};
+
+    ghost eq = { pointwise ◌==◌ };
+
+    ghost laws = { partial_equiv_from_equiv nat_list_eq_equiv };
+
+    fn eq(&self, other: &Name) -> bool {
+        self.bytes == other.bytes
+    }
+}
+
+impl Eq for Name {
+    ghost use Rattle.std.proofs.lemmas.Cmp.{nat_list_eq_equiv};
+
+    ghost laws = { nat_list_eq_equiv };
+}
+
+impl Ord for Name {
+    ghost use Rattle.std.proofs.Common.{rules};
+    ghost use Rattle.std.specs.Cmp.Rules.{comparing};
+    ghost use Rattle.std.proofs.lemmas.Cmp.{nat_list_cmp_total};
+    ghost use Rattle.rbac_words.specs.Name.{name_cmp};
+
+    ghost cmp = { name_cmp };
+
+    ghost total = { nat_list_cmp_total };
+
+    ghost matches_partial_cmp = { Prim.search (comparing, rules) };
+
+    ghost matches_eq = { Prim.search (comparing, rules) };
+
+    fn cmp(&self, other: &Name) -> Ordering {
+        self.bytes.cmp(&other.bytes)
+    }
+}
+
+impl PartialOrd for Name {
+    ghost use Rattle.std.proofs.Common.{rules};
+    ghost use Rattle.std.specs.Cmp.{partial_order_from_own_ties};
+    ghost use Rattle.std.specs.Cmp.Rules.{comparing};
+    ghost use Rattle.std.specs.Ordering.{as_partial_cmp};
+    ghost use Rattle.rbac_words.specs.Name.{name_cmp};
+
+    ghost partial_cmp = { as_partial_cmp name_cmp };
+
+    ghost laws = { partial_order_from_own_ties (Prim.search (comparing, rules)) (Prim.search (comparing, rules)) };
+
+    fn partial_cmp(&self, other: &Name) -> Option<Ordering> {
+        Some(self.cmp(other))
+    }
+}
+
+/// Why bytes were not taken as a name, in the order of the checks.
+#[derive(Clone, Copy, Debug, PartialEq, Eq, Drop)]
+pub enum NameRefusal {
+    BadName,
+    NoMemory,
+}
+
+fn is_name_byte(byte: u8) -> bool
+    ensures { result ≡ is_byte_of_a_name byte }
+{
+    matches!(byte, b'A'..=b'Z' | b'a'..=b'z' | b'0'..=b'9' | b'_' | b'-' | b'.')
+}
+
+fn are_name_bytes(bytes: &[u8]) -> bool
+    ensures { result ≡ list_all is_byte_of_a_name bytes.now }
+{
+    bytes.iter().all(|byte| is_name_byte(*byte))
+}
+
+fn is_name(bytes: &[u8]) -> bool
+    ensures { result ≡ is_a_name bytes.now }
+{
+    1 <= bytes.len() && bytes.len() <= 64 && are_name_bytes(bytes)
+}
+
+impl Name {
+    /// Reads a name: each byte string is a name or refused.
+    pub fn read(alloc: Global, bytes: &[u8]) -> Result<Name, NameRefusal>
+        ensures named { IfOk result (λ name. name ≡ bytes.now) }
+        ensures well_formed { IfOk result (λ name. IsTrue (is_a_name name)) }
+        ensures bad { (result ≡ Err NameRefusal.BadName) ↔ (is_a_name bytes.now ≡ false) }
+    {
+        if !is_name(bytes) {
+            return Err(NameRefusal::BadName);
+        }
+        match Vec::from_slice(alloc, bytes) {
+            Ok(bytes) => Ok(Name { bytes }),
+            Err(AllocError) => Err(NameRefusal::NoMemory),
+        }
+    }
+
+    /// The bytes that were read.
+    pub fn as_bytes(&self) -> &[u8]
+        ensures bytes { result.now ≡ self.now }
+        ensures well_formed { IsTrue (is_a_name self.now) }
+    {
+        &self.bytes
+    }
+
+    /// An equal name.
+    pub fn copy(&self, alloc: Global) -> Result<Name, AllocError>
+        ensures { IfOk result (λ copy. copy ≡ self.now) }
+    {
+        Ok(Name {
+            bytes: Vec::from_slice(alloc, &self.bytes)?,
+        })
+    }
+}
+
+/// Only equal names tie.
+impl Exact for Name {
+    ghost use Rattle.std.specs.FinMap.{slice_cmp-IsAntisymmetric, nat_cmp-IsAntisymmetric};
+
+    ghost exact = { slice_cmp-IsAntisymmetric nat_cmp-IsAntisymmetric };
+}
+
+impl Duplicate for Name {
+    fn duplicate(&self, alloc: Global) -> Result<Name, AllocError> {
+        self.copy(alloc)
+    }
+}

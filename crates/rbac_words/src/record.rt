@@ -1,0 +1,32 @@
+//! What a member's history keeps of a delivered command.
+ghost use Rattle.std.specs.Prelude.{◌≡◌, IfOk};
+
+use crate::answer::Answer;
+use crate::command::Command;
+use crate::stamp::Stamp;
+use std::alloc::{AllocError, Global};
+
+/// A delivered command with its answer.
+#[derive(Drop)]
+pub struct Record {
+    pub stamp: Stamp,
+    pub caller: u32,
+    pub serial: u32,
+    pub command: Command,
+    pub answer: Answer,
+}
+
+impl Record {
+    /// An equal record.
+    pub fn copy(&self, alloc: Global) -> Result<Record, AllocError>
+        ensures { IfOk result (λ copy. copy ≡ self.now) }
+    {
+        Ok(Record {
+            stamp: self.stamp,
+            caller: self.caller,
+            serial: self.serial,
+            command: self.command.copy(alloc)?,
+            answer: self.answer,
+        })
+    }
+}

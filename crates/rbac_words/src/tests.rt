@@ -1,0 +1,487 @@
+//! Each public call with ample memory. What is expected was written by hand.
+use crate::{
+    Answer, Command, Denial, Group, GroupRefusal, Message, Name, NameRefusal, NameSet, Record,
+    Stamp, Vocabulary, VocabularyRefusal,
+};
+use std::alloc::Global;
+use std::process::Abort;
+use std::test::Fail;
+
+fn name(rt: &impl Abort, alloc: Global, text: &str) -> Name {
+    Name::read(alloc, text.as_bytes()).expect(rt, "a name")
+}
+
+fn names(rt: &impl Abort, alloc: Global, texts: &[&str]) -> Vec<Name> {
+    let mut names = Vec::new(alloc);
+    for text in texts {
+        names.push(name(rt, alloc, text)).expect(rt, "memory");
+    }
+    names
+}
+
+fn pairs(rt: &impl Abort, alloc: Global, texts: &[(&str, &str)]) -> Vec<(Name, Name)> {
+    let mut pairs = Vec::new(alloc);
+    for (first, second) in texts {
+        pairs
+            .push((name(rt, alloc, first), name(rt, alloc, second)))
+            .expect(rt, "memory");
+    }
+    pairs
+}
+
+fn set(rt: &impl Abort, alloc: Global, texts: &[&str]) -> NameSet {
+    let mut set = NameSet::new(alloc);
+    for text in texts {
+        set.add(name(rt, alloc, text)).expect(rt, "memory");
+    }
+    set
+}
+
+fn assert_names(rt: &impl Abort, names: &[Name], texts: &[&str]) {
+    assert_eq!(rt; names.len(), texts.len());
+    for (name, text) in names.iter().zip(texts) {
+        assert_eq!(rt; name.as_bytes(), text.as_bytes());
+    }
+}
+
+#[test]
+fn names_are_read(rt: HostRuntime) -> Result<(), Fail> {
+    let alloc = rt.alloc();
+    for good in [b"a".as_slice(), b"Z", b"0", b"AZaz09_-.", &[b'x'; 64]] {
+        let name = Name::read(alloc, good)?;
+        assert_eq!(rt; name.as_bytes(), good);
+        assert!(rt; name.copy(alloc)? == name);
+    }
+    for bad in [b"".as_slice(), &[b'x'; 65]] {
+        assert!(rt; matches!(Name::read(alloc, bad), Err(NameRefusal::BadName)));
+    }
+    for byte in [
+        0, b'\t', b'\n', b' ', b',', b'/', b':', b'@', b'[', b'^', b'`', b'{', 127, 128, 255,
+    ] {
+        for bad in [[byte, b'a'].as_slice(), &[b'a', byte]] {
+            let refused = Name::read(alloc, bad);
+            assert!(rt; matches!(refused, Err(NameRefusal::BadName)), "byte {byte}");
+        }
+    }
+    Ok(())
+}
+
+#[test]
+fn names_are_ordered_by_bytes(rt: HostRuntime) {
+    let alloc = rt.alloc();
+    let rising = names(
+        &rt,
+        alloc,
+        &["-", ".", "0", "A", "B", "_", "a", "a-", "aa", "b"],
+    );
+    for pair in rising.windows(2) {
+        assert_eq!(rt; pair.len(), 2);
+        assert!(rt; pair[0] < pair[1]);
+        assert!(rt; pair[0] != pair[1]);
+    }
+}
+
+#[test]
+fn a_set_of_names(rt: HostRuntime) -> Result<(), Fail> {
+    let alloc = rt.alloc();
+    let mut set = NameSet::new(alloc);
+    assert!(rt; set.is_empty());
+    for text in ["clerk", "Boss", "auditor", "clerk"] {
+        set.add(name(&rt, alloc, text))?;
+    }
+    assert_eq!(rt; set.len(), 3);
+    assert!(rt; !set.is_empty());
+    assert!(rt; set.contains(&name(&rt, alloc, "auditor")));
+    assert!(rt; !set.contains(&name(&rt, alloc, "boss")));
+    assert_names(&rt, set.names(), &["Boss", "auditor", "clerk"]);
+    let copy = set.copy(alloc)?;
+    set.remove(&name(&rt, alloc, "auditor"));
+    set.remove(&name(&rt, alloc, "boss"));
+    assert_names(&rt, set.names(), &["Boss", "clerk"]);
+    assert_names(&rt, copy.names(), &["Boss", "auditor", "clerk"]);
+    Ok(())
+}
+
+// The kind of a command and its names.
+fn fields(command: &Command) -> [&[u8]; 4] {
+    match command {
+        Command::AddUser { user } => [b"AddUser", user.as_bytes(), b"", b""],
+        Command::AddRole { role } => [b"AddRole", role.as_bytes(), b"", b""],
+        Command::AssignUser { user, role } => [
+            b"AssignUser",
+            user.as_bytes(),
+            role.as_bytes(),
+            b"",
+        ],
+        Command::GrantPermission {
+            operation,
+            object,
+            role,
+        } => {
+            [
+                b"GrantPermission",
+                operation.as_bytes(),
+                object.as_bytes(),
+                role.as_bytes(),
+            ]
+        }
+        Command::CreateSession { user, session, .. } => {
+            [b"CreateSession", user.as_bytes(), session.as_bytes(), b""]
+        }
+        Command::CheckAccess {
+            session,
+            operation,
+            object,
+        } => {
+            [
+                b"CheckAccess",
+                session.as_bytes(),
+                operation.as_bytes(),
+                object.as_bytes(),
+            ]
+        }
+    }
+}
+
+fn roles(command: &Command) -> &[Name] {
+    match command {
+        Command::CreateSession { roles, .. } => roles.names(),
+        _ => &[],
+    }
+}
+
+fn is_same(command: &Command, other: &Command) -> bool {
+    fields(command) == fields(other) && roles(command) == roles(other)
+}
+
+fn grant(rt: &impl Abort, alloc: Global) -> Command {
+    Command::GrantPermission {
+        operation: name(rt, alloc, "read"),
+        object: name(rt, alloc, "ledger"),
+        role: name(rt, alloc, "clerk"),
+    }
+}
+
+#[test]
+fn a_copy_is_the_same_command(rt: HostRuntime) -> Result<(), Fail> {
+    let alloc = rt.alloc();
+    let ann = || name(&rt, alloc, "ann");
+    let clerk = || name(&rt, alloc, "clerk");
+    for command in [
+        Command::AddUser { user: ann() },
+        Command::AddRole { role: clerk() },
+        Command::AssignUser {
+            user: ann(),
+            role: clerk(),
+        },
+        grant(&rt, alloc),
+        Command::CreateSession {
+            user: ann(),
+            session: name(&rt, alloc, "s1"),
+            roles: set(&rt, alloc, &["payer", "clerk"]),
+        },
+        Command::CheckAccess {
+            session: name(&rt, alloc, "s1"),
+            operation: name(&rt, alloc, "pay"),
+            object: name(&rt, alloc, "invoice"),
+        },
+    ] {
+        assert!(rt; is_same(&command.copy(alloc)?, &command));
+    }
+    assert!(rt;
+        !is_same(
+            &Command::AddUser { user: ann() },
+            &Command::AddUser { user: clerk() }
+        )
+    );
+    Ok(())
+}
+
+#[test]
+fn messages_are_copied(rt: HostRuntime) -> Result<(), Fail> {
+    let alloc = rt.alloc();
+    let stamp = Stamp {
+        clock: 7,
+        member: 2,
+    };
+    let ack = Message::Ack { stamp };
+    assert_eq!(rt; ack.stamp(), stamp);
+    assert!(rt; matches!(ack.copy(alloc)?, Message::Ack { stamp: copied } if copied == stamp));
+    let command = grant(&rt, alloc);
+    let call = Message::Call {
+        stamp,
+        caller: 3,
+        serial: 4,
+        command,
+    };
+    assert_eq!(rt; call.stamp(), stamp);
+    let Message::Call {
+        stamp: copied,
+        caller,
+        serial,
+        command,
+    } = call.copy(alloc)?
+    else {
+        panic!(rt; "a call is copied as a call");
+    };
+    assert_eq!(rt; (copied, caller, serial), (stamp, 3, 4));
+    assert!(rt; is_same(&command, &grant(&rt, alloc)));
+    Ok(())
+}
+
+#[test]
+fn records_are_copied(rt: HostRuntime) -> Result<(), Fail> {
+    let alloc = rt.alloc();
+    let stamp = Stamp {
+        clock: 7,
+        member: 2,
+    };
+    let command = grant(&rt, alloc);
+    let answer = Answer::Denied(Denial::NoRole);
+    let record = Record {
+        stamp,
+        caller: 3,
+        serial: 4,
+        command,
+        answer,
+    };
+    let copy = record.copy(alloc)?;
+    assert_eq!(rt; (copy.stamp, copy.caller, copy.serial), (stamp, 3, 4));
+    assert_eq!(rt; copy.answer, answer);
+    assert!(rt; is_same(&copy.command, &grant(&rt, alloc)));
+    Ok(())
+}
+
+#[test]
+fn denials_have_numbers_and_words(rt: HostRuntime) {
+    for (denial, number, word) in [
+        (Denial::UserExists, 1, "UserExists"),
+        (Denial::NoUser, 2, "NoUser"),
+        (Denial::RoleExists, 3, "RoleExists"),
+        (Denial::NoRole, 4, "NoRole"),
+        (Denial::Assigned, 5, "Assigned"),
+        (Denial::NotAssigned, 6, "NotAssigned"),
+        (Denial::NoPermission, 7, "NoPermission"),
+        (Denial::NotGranted, 8, "NotGranted"),
+        (Denial::SessionExists, 9, "SessionExists"),
+        (Denial::NoSession, 10, "NoSession"),
+        (Denial::NotOwner, 11, "NotOwner"),
+        (Denial::NotAuthorized, 12, "NotAuthorized"),
+        (Denial::RoleActive, 13, "RoleActive"),
+        (Denial::RoleNotActive, 14, "RoleNotActive"),
+        (Denial::Inherits, 15, "Inherits"),
+        (Denial::NoInheritance, 16, "NoInheritance"),
+        (Denial::Cycle, 17, "Cycle"),
+        (Denial::SsdViolated, 18, "SsdViolated"),
+        (Denial::DsdViolated, 19, "DsdViolated"),
+        (Denial::SetExists, 20, "SetExists"),
+        (Denial::NoSet, 21, "NoSet"),
+        (Denial::BadCardinality, 22, "BadCardinality"),
+        (Denial::InSet, 23, "InSet"),
+        (Denial::NotInSet, 24, "NotInSet"),
+        (Denial::RoleConstrained, 25, "RoleConstrained"),
+        (Denial::Limit, 26, "Limit"),
+        (Denial::NoOperation, 27, "NoOperation"),
+        (Denial::NoObject, 28, "NoObject"),
+    ] {
+        assert_eq!(rt; denial.number(), number);
+        assert_eq!(rt; denial.word(), word);
+    }
+}
+
+#[test]
+fn groups_are_within_limits(rt: HostRuntime) -> Result<(), Fail> {
+    let last = 9_007_199_254_740_991;
+    for (members, clock, sent_limit) in [(1, 0, 1), (8, last, 65_536), (3, 17, 100)] {
+        let group = Group::build(members, clock, sent_limit)?;
+        assert_eq!(rt; group.members(), members);
+        assert_eq!(rt; group.clock(), clock);
+        assert_eq!(rt; group.sent_limit(), sent_limit);
+    }
+    for (members, clock, sent_limit, refusal) in [
+        (0, 0, 1, GroupRefusal::BadMembers),
+        (9, 0, 1, GroupRefusal::BadMembers),
+        (9, last + 1, 0, GroupRefusal::BadMembers),
+        (8, last + 1, 1, GroupRefusal::BadClock),
+        (1, last + 1, 65_537, GroupRefusal::BadClock),
+        (1, last, 0, GroupRefusal::BadSentLimit),
+        (8, 0, 65_537, GroupRefusal::BadSentLimit),
+    ] {
+        let refused = Group::build(members, clock, sent_limit);
+        assert_eq!(rt; refused.err(), Some(refusal));
+    }
+    Ok(())
+}
+
+const LETTERS: [u8; 64] = *b"0123456789ABCDEFGHIJKLMNOPQRSTUVWXYZ_-abcdefghijklmnopqrstuvwxyz";
+
+// A name for each number below 262,144.
+fn numbered(rt: &impl Abort, alloc: Global, number: usize) -> Name {
+    let bytes = [
+        LETTERS[number / 4_096 % 64],
+        LETTERS[number / 64 % 64],
+        LETTERS[number % 64],
+    ];
+    Name::read(alloc, &bytes).expect(rt, "a name")
+}
+
+fn many_names(rt: &impl Abort, alloc: Global, count: usize) -> Vec<Name> {
+    let mut names = Vec::new(alloc);
+    for number in 0..count {
+        names.push(numbered(rt, alloc, number)).expect(rt, "memory");
+    }
+    names
+}
+
+fn many_pairs(rt: &impl Abort, alloc: Global, count: usize) -> Vec<(Name, Name)> {
+    let mut pairs = Vec::new(alloc);
+    for number in 0..count {
+        let pair = (
+            numbered(rt, alloc, number % 256),
+            numbered(rt, alloc, number / 256),
+        );
+        pairs.push(pair).expect(rt, "memory");
+    }
+    pairs
+}
+
+fn refusal_of_many(
+    rt: &impl Abort,
+    alloc: Global,
+    operations: usize,
+    objects: usize,
+    permissions: usize,
+) -> Option<VocabularyRefusal> {
+    Vocabulary::build(
+        many_names(rt, alloc, operations),
+        many_names(rt, alloc, objects),
+        many_pairs(rt, alloc, permissions),
+    )
+    .err()
+}
+
+#[test]
+fn vocabularies_are_within_limits(rt: HostRuntime) {
+    let alloc = rt.alloc();
+    for (operations, objects, permissions, refusal) in [
+        (0, 0, 0, None),
+        (256, 4_096, 16_384, None),
+        (257, 0, 0, Some(VocabularyRefusal::TooMany)),
+        (0, 4_097, 0, Some(VocabularyRefusal::TooMany)),
+        (256, 4_096, 16_385, Some(VocabularyRefusal::TooMany)),
+        (255, 64, 16_384, Some(VocabularyRefusal::UnknownName)),
+        (256, 63, 16_384, Some(VocabularyRefusal::UnknownName)),
+        (1, 1, 16_385, Some(VocabularyRefusal::TooMany)),
+    ] {
+        assert_eq!(rt;
+            refusal_of_many(&rt, alloc, operations, objects, permissions),
+            refusal
+        );
+    }
+}
+
+fn refusal_of(
+    rt: &impl Abort,
+    alloc: Global,
+    operations: &[&str],
+    objects: &[&str],
+    permissions: &[(&str, &str)],
+) -> Option<VocabularyRefusal> {
+    Vocabulary::build(
+        names(rt, alloc, operations),
+        names(rt, alloc, objects),
+        pairs(rt, alloc, permissions),
+    )
+    .err()
+}
+
+#[test]
+fn vocabularies_are_refused_in_order(rt: HostRuntime) {
+    let alloc = rt.alloc();
+    let repeated = Some(VocabularyRefusal::Repeated);
+    let unknown = Some(VocabularyRefusal::UnknownName);
+    let read = ("read", "ledger");
+    assert_eq!(rt;
+        refusal_of(&rt, alloc, &["pay", "read"], &["ledger"], &[read]),
+        None
+    );
+    assert_eq!(rt;
+        refusal_of(&rt, alloc, &["read", "pay", "read"], &["ledger"], &[]),
+        repeated
+    );
+    assert_eq!(rt;
+        refusal_of(&rt, alloc, &["read"], &["ledger", "ledger"], &[]),
+        repeated
+    );
+    assert_eq!(rt;
+        refusal_of(&rt, alloc, &["read"], &["ledger"], &[read, read]),
+        repeated
+    );
+    assert_eq!(rt;
+        refusal_of(&rt, alloc, &["pay"], &["ledger"], &[read]),
+        unknown
+    );
+    assert_eq!(rt;
+        refusal_of(&rt, alloc, &["read"], &["invoice"], &[read]),
+        unknown
+    );
+    assert_eq!(rt;
+        refusal_of(&rt, alloc, &["ledger"], &["read"], &[read]),
+        unknown
+    );
+    assert_eq!(rt;
+        refusal_of(&rt, alloc, &["pay"], &["ledger"], &[read, read]),
+        repeated
+    );
+}
+
+#[test]
+fn too_many_is_tried_first(rt: HostRuntime) {
+    let alloc = rt.alloc();
+    let many = Vocabulary::build(
+        names(&rt, alloc, &["read", "read"]),
+        many_names(&rt, alloc, 4_097),
+        pairs(&rt, alloc, &[("read", "ledger")]),
+    );
+    assert_eq!(rt; many.err(), Some(VocabularyRefusal::TooMany));
+}
+
+#[test]
+fn a_vocabulary_and_its_copy(rt: HostRuntime) -> Result<(), Fail> {
+    let alloc = rt.alloc();
+    let operations = names(&rt, alloc, &["read", "approve", "pay"]);
+    let objects = names(&rt, alloc, &["ledger", "invoice"]);
+    let permissions = pairs(&rt, alloc, &[("read", "ledger"), ("pay", "invoice")]);
+    let vocabulary = Vocabulary::build(operations, objects, permissions)?;
+    vocabulary.invariants();
+    let read = name(&rt, alloc, "read");
+    let pay = name(&rt, alloc, "pay");
+    let ledger = name(&rt, alloc, "ledger");
+    let invoice = name(&rt, alloc, "invoice");
+    for vocabulary in [&vocabulary, &vocabulary.copy(alloc)?] {
+        assert!(rt; vocabulary.has_operation(&read) && vocabulary.has_operation(&pay));
+        assert!(rt; !vocabulary.has_operation(&ledger));
+        assert!(rt; vocabulary.has_object(&ledger) && vocabulary.has_object(&invoice));
+        assert!(rt; !vocabulary.has_object(&read));
+        assert!(rt; vocabulary.has_permission(&read, &ledger));
+        assert!(rt; vocabulary.has_permission(&pay, &invoice));
+        assert!(rt; !vocabulary.has_permission(&read, &invoice));
+        assert!(rt; !vocabulary.has_permission(&ledger, &read));
+    }
+    Ok(())
+}
+
+#[test]
+fn stamps_are_ordered_by_clock_and_member(rt: HostRuntime) {
+    let rising = [(1, 2), (1, 3), (2, 1), (2, 2), (10, 1)];
+    for (i, (clock, member)) in rising.into_iter().enumerate() {
+        for (j, (other_clock, other_member)) in rising.into_iter().enumerate() {
+            let stamp = Stamp { clock, member };
+            let other = Stamp {
+                clock: other_clock,
+                member: other_member,
+            };
+            assert_eq!(rt; stamp.is_before(other), i < j);
+        }
+    }
+}
