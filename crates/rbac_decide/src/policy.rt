@@ -1,0 +1,124 @@
+//! A policy: what commands answer, and what they change.
+ghost use Rattle.std.specs.Prelude.{◌≡◌, IfOk, IfErr, OnOk, OnErr, Some, None};
+ghost use Rattle.std.specs.FinMap.Entries.{find};
+ghost use Rattle.rbac_words.specs.Name.{name_cmp};
+ghost use Rattle.rbac_words.specs.State.{founding_state};
+ghost use Rattle.rbac_words.specs.Rows.{first_denial};
+ghost use Rattle.rbac_words.specs.Effect.{answer, effect, reply, session_holds};
+ghost use Rattle.rbac_words.specs.Sound.{IsSound};
+
+mod access;
+mod denial;
+
+use crate::tables::Tables;
+use rbac_words::{Answer, Command, Denial, Name, Vocabulary};
+use std::alloc::{AllocError, Global};
+use std::marker::Model;
+
+/// A policy of ANSI INCITS 359-2004: its sets, and the vocabulary that it was founded with.
+#[derive(Drop)]
+pub struct Policy {
+    tables: Tables,
+    vocabulary: Vocabulary,
+}
+
+impl Model for Policy {
+    ghost use Rattle.rbac_words.specs.State.{State};
+    ghost use Rattle.rbac_decide.specs.Tables.{state_of};
+
+    ghost Value = { State };
+
+    ghost view = { λ p. state_of p.tables p.vocabulary };
+
+    ghost use Rattle.rbac_words.specs.Sound.{IsSound};
+
+    ghost invariant = { λ p. IsSound (state_of p.tables p.vocabulary) };
+}
+
+impl Policy {
+    /// The policy that knows this vocabulary and nothing else.
+    pub fn found(alloc: Global, vocabulary: Vocabulary) -> Policy
+        ensures { result ≡ founding_state vocabulary }
+    {
+        vocabulary.invariants();
+        Policy {
+            tables: Tables::new(alloc),
+            vocabulary,
+        }
+    }
+}
+
+impl Policy {
+    // The answer to a command that is not denied.
+    fn answer(&self, command: &Command) -> Answer
+        ensures { result ≡ answer command.now self.now }
+    {
+        match command {
+            Command::CheckAccess {
+                session,
+                operation,
+                object,
+            } => {
+                if self.session_holds(session, operation, object) {
+                    Answer::Granted
+                } else {
+                    Answer::Refused
+                }
+            }
+            Command::AddUser { .. }
+            | Command::AddRole { .. }
+            | Command::AssignUser { .. }
+            | Command::GrantPermission { .. }
+            | Command::CreateSession { .. } => Answer::Done,
+        }
+    }
+
+    /// Answers a command, and makes its change: in a copy, which is put in place at the end.
+    pub fn apply(&mut self, alloc: Global, command: &Command) -> Result<Answer, AllocError>
+        ensures reply { IfOk result (λ answer. answer ≡ reply command.now self.old) }
+        ensures effect { OnOk result (self.new ≡ effect command.now self.old) }
+        ensures unchanged { OnErr result (self.new ≡ self.old) }
+    {
+        if let Some(denial) = self.first_denial(command) {
+            return Ok(Answer::Denied(denial));
+        }
+        let answer = self.answer(command);
+        if let Command::CheckAccess { .. } = command {
+            return Ok(answer);
+        }
+        let mut next = self.tables.copy(alloc)?;
+        next.change(alloc, command)?;
+        self.tables = next;
+        Ok(answer)
+    }
+
+    /// Whether the session may perform the operation on the object: the answer of CheckAccess, without a command.
+    pub fn check(&self, session: &Name, operation: &Name, object: &Name) -> Result<bool, Denial>
+        ensures denied { IfErr result (λ denial. first_denial (Command.CheckAccess session.now operation.now object.now) self.now ≡ Some denial) }
+        ensures held { IfOk result (λ granted. granted ≡ session_holds (find name_cmp session.now self.now.sessions) self.now (operation.now, object.now)) }
+        ensures allowed { OnOk result (first_denial (Command.CheckAccess session.now operation.now object.now) self.now ≡ None) }
+    {
+        if let Some(denial) = self.first_check_access(session, operation, object) {
+            return Err(denial);
+        }
+        Ok(self.session_holds(session, operation, object))
+    }
+
+    /// Of each policy references exist, counts are within their limits, and each session's owner exists and is authorized
+    /// for its active roles.
+    pub fn invariants(&self)
+        ensures { IsSound self.now }
+    {
+        let _tables = &self.tables;
+    }
+
+    /// An equal policy.
+    pub fn copy(&self, alloc: Global) -> Result<Policy, AllocError>
+        ensures { IfOk result (λ copy. copy ≡ self.now) }
+    {
+        Ok(Policy {
+            tables: self.tables.copy(alloc)?,
+            vocabulary: self.vocabulary.copy(alloc)?,
+        })
+    }
+}

@@ -1,0 +1,31 @@
+//! A session: its owner and its active roles.
+ghost use Rattle.std.specs.Prelude.{◌≡◌, IfOk};
+
+use rbac_words::{Name, NameSet};
+use sorted_keys::Duplicate;
+use std::alloc::{AllocError, Global};
+use std::marker::Model;
+
+/// A session's owner and its active roles.
+#[derive(Drop)]
+pub struct Session {
+    pub owner: Name,
+    pub active: NameSet,
+}
+
+impl Model for Session {
+    ghost use Rattle.rbac_words.specs.State.{Session as SessionValue};
+
+    ghost Value = { SessionValue };
+
+    ghost view = { λ s. record { owner = s.owner; active = s.active } };
+}
+
+impl Duplicate for Session {
+    fn duplicate(&self, alloc: Global) -> Result<Session, AllocError> {
+        Ok(Session {
+            owner: self.owner.copy(alloc)?,
+            active: self.active.copy(alloc)?,
+        })
+    }
+}
