@@ -1,0 +1,77 @@
+-- What the code's lists say in the words of the definitions.
+use Rattle.std.proofs.Common.{ℕ, Bool, true, false, cond, ◌≡◌, ◌+◌, ◌==◌, List, [], ◌∷◌, ◌++◌, length, count_by, refl, sym, ap, ◌∙◌, arith, Option, Some, None, get_or, slice_get}
+use Rattle.std.specs.List.{filter}
+use Rattle.std.proofs.lemmas.List.Sums.{sum_by-cons}
+use Rattle.rbac_words.specs.Founding.{Vocabulary}
+use Rattle.rbac_words.specs.State.{State}
+use Rattle.rbac_words.specs.Rows.{first_denial}
+use Rattle.rbac_words.specs.Effect.{change, effect, effect_unless, reply}
+use Rattle.rbac_words.specs.Message.{is_by, submissions_of, submissions, next_serial}
+use Rattle.rbac_words.specs.World.{stamp}
+use Rattle.rbac_words.specs.declared.answer.Answer.{Answer}
+use Rattle.rbac_words.specs.declared.answer.Denial.{Denial}
+use Rattle.rbac_words.specs.declared.command.Command.{Command}
+use Rattle.rbac_words.specs.declared.command.Command.TheVariants.{AddUser, AddRole, AssignUser, GrantPermission, CreateSession, CheckAccess}
+use Rattle.rbac_words.specs.declared.message.Message.{Message}
+use Rattle.rbac_words.specs.declared.message.Message.TheVariants.{Call, Ack}
+use Rattle.rbac_words.specs.declared.message.Submission.{Submission}
+use Rattle.rbac_words.specs.declared.record.Record.{Record}
+use Rattle.rbac_words.specs.declared.stamp.Stamp.{Stamp}
+use Rattle.rbac_member.specs.Inside.{vocabulary_of}
+use Rattle.rbac_member.specs.Lists.{is_call_by, TakesOver}
+use Rattle.rbac_member.specs.Member.{Member, submission, submitted, delivery, delivered}
+
+pub count_of_calls : (caller : ℕ) (ms : List Message) → count_by (is_call_by caller) ms ≡ next_serial caller (submissions ms)
+count_of_calls caller [] = refl
+count_of_calls caller (Ack stamp ∷ ms) = let rest = count_of_calls caller ms in let first = sum_by-cons (λ m. cond (is_call_by caller m) 1 0) (Ack stamp) ms in omega arith
+count_of_calls caller (Call stamp other serial command ∷ ms) = sum_by-cons (λ m. cond (is_call_by caller m) 1 0) (Call stamp other serial command) ms ∙ go (other == caller) (count_of_calls caller ms)
+  where
+    x : Submission
+    x = record { stamp = stamp; caller = other; serial = serial; command = command }
+
+    go : (b : Bool) → count_by (is_call_by caller) ms ≡ next_serial caller (submissions ms)
+        → cond b 1 0 + count_by (is_call_by caller) ms ≡ length (cond b (x ∷ filter (is_by caller) (submissions ms)) (filter (is_by caller) (submissions ms)))
+    go true e = omega arith
+    go false e = omega arith
+
+vocabulary-change : (c : Command) (s : State) → vocabulary_of (change c s) ≡ vocabulary_of s
+vocabulary-change (AddUser user) s = refl
+vocabulary-change (AddRole role) s = refl
+vocabulary-change (AssignUser user role) s = refl
+vocabulary-change (GrantPermission operation object role) s = refl
+vocabulary-change (CreateSession user session roles) s = refl
+vocabulary-change (CheckAccess session operation object) s = refl
+
+-- no command changes the vocabulary
+vocabulary-effect : (c : Command) (s : State) → vocabulary_of (effect c s) ≡ vocabulary_of s
+vocabulary-effect c s = go (first_denial c s)
+  where
+    go : (o : Option Denial) → vocabulary_of (effect_unless o c s) ≡ vocabulary_of s
+    go None = vocabulary-change c s
+    go (Some d) = refl
+
+-- the first of a list is the first
+pub same_first : (xs ys : List Submission) (next first : Submission) → next ≡ get_or xs 0 next → xs ≡ first ∷ ys → next ≡ first
+same_first xs ys next first e f = e ∙ ap (λ (l : List Submission). get_or l 0 next) f
+
+-- the least held command is taken over with its reply
+pub delivered_is : (v : Member) (policy : State) (history before : List Record) (held : List Submission) (next : Submission) (answer : Answer) (over : TakesOver answer v.held before held history)
+    → before ≡ v.history → next ≡ over.first → policy ≡ effect next.command v.policy → answer ≡ reply next.command v.policy → vocabulary_of v.policy ≡ v.vocabulary
+    → (let m : Member = record v { vocabulary = vocabulary_of policy; held = held; history = history; policy = policy } in m) ≡ delivered v over.first held
+delivered_is v policy history before held next answer over same first changed replied known =
+    let by_policy : policy ≡ effect over.first.command v.policy = changed ∙ ap (λ (x : Submission). effect x.command v.policy) first in
+    let by_vocabulary : vocabulary_of policy ≡ v.vocabulary = ap vocabulary_of by_policy ∙ vocabulary-effect over.first.command v.policy ∙ known in
+    let by_answer : answer ≡ reply over.first.command v.policy = replied ∙ ap (λ (x : Submission). reply x.command v.policy) first in
+    let by_history : history ≡ v.history ++ delivery v over.first ∷ [] =
+    over.history_is ∙ ap (λ (l : List Record). l ++ (record { stamp = over.first.stamp; caller = over.first.caller; serial = over.first.serial; command = over.first.command; answer = answer }) ∷ []) same
+    ∙ ap (λ (a : Answer). v.history ++ (record { stamp = over.first.stamp; caller = over.first.caller; serial = over.first.serial; command = over.first.command; answer = a }) ∷ []) by_answer in
+    λ i. record { group = v.group; vocabulary = by_vocabulary i; number = v.number; clock = v.clock; sent = v.sent; held = held; history = by_history i; policy = by_policy i }
+
+-- a message with the next stamp was sent and is held
+pub submitted_is : (v : Member) (caller serial : ℕ) (command : Command) (s : Stamp) (sent : List Message) (held : List Submission) → s ≡ stamp (v.clock + 1) v.number
+    → sent ≡ v.sent ++ Call s caller serial command ∷ [] → held ≡ v.held ++ submissions_of (Call s caller serial command)
+    → (let m : Member = record v { clock = s.clock; sent = sent; held = held } in m) ≡ submitted v caller serial command
+submitted_is v caller serial command s sent held e f g =
+    let by_sent : sent ≡ v.sent ++ Call (stamp (v.clock + 1) v.number) caller serial command ∷ [] = f ∙ ap (λ (t : Stamp). v.sent ++ Call t caller serial command ∷ []) e in
+    let by_held : held ≡ v.held ++ submission v caller serial command ∷ [] = g ∙ ap (λ (t : Stamp). v.held ++ submissions_of (Call t caller serial command)) e in
+    λ i. record { group = v.group; vocabulary = v.vocabulary; number = v.number; clock = (e i).clock; sent = by_sent i; held = by_held i; history = v.history; policy = v.policy }

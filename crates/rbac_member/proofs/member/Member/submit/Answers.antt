@@ -1,0 +1,20 @@
+use Rattle.std.proofs.Common.{sym, ◌∙◌, ap, ◌≡◌, ◌+◌, None, subst}
+use Rattle.rbac_words.specs.World.{stamp, submit_refusal}
+use Rattle.rbac_member.specs.Inside.{member_of}
+use Rattle.rbac_member.specs.Member.{Member, IsMember, node_of, submitted}
+use Rattle.rbac_member.proofs.CallLemmas.{submitted_is}
+use Rattle.rbac_member.proofs.KeepLemmas.{Passed, passed, keeps_submitted}
+use Rattle.rbac_member.proofs.member.Member.submit.Goals as goal
+
+pub invariant_of-self : goal.invariant_of-self
+invariant_of-self c =
+    let v = member_of c.self.inside in
+    let seen = sym c.self.view_is in
+    let tests = passed v c.args.caller c.args.serial (ap (λ (m : Member). submit_refusal m.group (node_of m) c.args.caller c.args.serial) c.self.view_is ∙ c.in-Ok.ensures.accepted) in
+    record {
+      alone = c.self.invariant.alone;
+      kept = subst IsMember
+          (sym (submitted_is v c.args.caller c.args.serial c.args.command c.in-Ok.stamp c.send.new.sent.items c.send.new.held.items
+          (c.in-Ok.ensures.stamp ∙ ap (λ (m : Member). stamp (m.clock + 1) m.number) seen) c.in-Ok-send.ensures.sent c.in-Ok-send.ensures.held))
+          (keeps_submitted v c.args.caller c.args.serial c.args.command tests.clock tests.room tests.next c.self.invariant.kept);
+    }

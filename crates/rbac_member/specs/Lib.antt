@@ -1,0 +1,4 @@
+pub mod Calls
+pub mod Inside
+pub mod Lists
+pub mod Member

@@ -1,0 +1,295 @@
+//! A member of a group.
+ghost use Rattle.std.specs.Prelude.{◌≡◌, ◌≢◌, ◌≤◌, ◌<◌, ◌+◌, ◌⊎◌, [], ◌∷◌, ◌++◌, None, IfOk, IfErr, OnOk, OnErr, vec_len, vec_capacity, count_by};
+ghost use Rattle.rbac_words.specs.Message.{submissions, submissions_of, next_serial};
+ghost use Rattle.rbac_member.specs.Lists.{is_call_by, TakesOver};
+
+use crate::refusal::{FoundRefusal, SubmitRefusal};
+use rbac_decide::Policy;
+use rbac_words::{Answer, Command, Group, Message, Record, Stamp, Submission, Vocabulary};
+use std::alloc::{AllocError, Global};
+use std::collections::VecDeque;
+use std::marker::Model;
+
+const LAST_CLOCK: u64 = 9_007_199_254_740_991;
+
+/// A member: its clock, what it sent, what it holds, what it delivered, and its policy.
+#[derive(Drop)]
+pub struct Member {
+    group: Group,
+    number: u32,
+    clock: u64,
+    sent: Vec<Message>,
+    held: VecDeque<Submission>,
+    history: Vec<Record>,
+    policy: Policy,
+}
+
+impl Model for Member {
+    ghost use Rattle.rbac_member.specs.Member.{Member as MemberValue};
+
+    ghost Value = { MemberValue };
+
+    ghost use Rattle.rbac_member.specs.Inside.{member_of, IsKept};
+
+    ghost view = { member_of };
+
+    ghost invariant = { IsKept };
+}
+
+// Sends a message of the member itself, and holds its command.
+fn send(
+    alloc: Global,
+    sent: &mut Vec<Message>,
+    held: &mut VecDeque<Submission>,
+    message: Message,
+) -> Result<(), AllocError>
+    ensures sent { OnOk result (sent.new.items ≡ sent.old.items ++ message ∷ []) }
+    ensures held { OnOk result (held.new.items ≡ held.old.items ++ submissions_of message) }
+    ensures sent_unchanged { OnErr result (sent.new.items ≡ sent.old.items) }
+    ensures held_unchanged { OnErr result (held.new.items ≡ held.old.items) }
+{
+    sent.reserve(1)?;
+    if let Message::Call {
+        stamp,
+        caller,
+        serial,
+        command,
+    } = &message
+    {
+        held.push_back(Submission {
+            stamp: *stamp,
+            caller: *caller,
+            serial: *serial,
+            command: command.copy(alloc)?,
+        })?;
+    }
+    let Ok(()) = sent.push(message) else {
+        unreachable!()
+    };
+    Ok(())
+}
+
+// Moves the least held command to the history, with its answer.
+fn take_over(held: &mut VecDeque<Submission>, history: &mut Vec<Record>, answer: Answer)
+    requires some { held.old.items ≢ [] }
+    requires room { vec_len history.old < vec_capacity history.old }
+    ensures { TakesOver answer held.old.items history.old.items held.new.items history.new.items }
+{
+    let Some(
+        Submission {
+            stamp,
+            caller,
+            serial,
+            command,
+        },
+    ) = held.pop_front()
+    else {
+        unreachable!()
+    };
+    let Ok(()) = history.push(Record {
+        stamp,
+        caller,
+        serial,
+        command,
+        answer,
+    }) else {
+        unreachable!()
+    };
+}
+
+// Whether a message is a command of this caller.
+fn is_call_of(message: &Message, caller: u32) -> bool
+    ensures { result ≡ is_call_by caller message.now }
+{
+    match message {
+        Message::Call { caller: other, .. } => *other == caller,
+        Message::Ack { .. } => false,
+    }
+}
+
+// How many commands of this caller there are.
+fn count_of_caller(sent: &[Message], caller: u32) -> u64
+    ensures { result ≡ next_serial caller (submissions sent.now) }
+{
+    count_of_calls(sent, caller) as u64
+}
+
+fn count_of_calls(sent: &[Message], caller: u32) -> usize
+    ensures { result ≡ count_by (is_call_by caller) sent.now }
+{
+    sent.iter()
+        .filter(|message| is_call_of(message, caller))
+        .count()
+}
+
+impl Member {
+    ghost use Rattle.rbac_words.specs.World.{stamp, submit_refusal};
+    ghost use Rattle.rbac_member.specs.Member.{IsMember, founded, submitted, deliver_least, node_of};
+    ghost use Rattle.rbac_member.specs.Calls.{refusal_of, place_of_delivery};
+
+    /// Its clock.
+    pub fn clock(&self) -> u64
+        ensures { result ≡ self.now.clock }
+    {
+        self.clock
+    }
+
+    /// Its number.
+    pub fn number(&self) -> u32
+        ensures { result ≡ self.now.number }
+    {
+        self.number
+    }
+
+    /// What it delivered, in order, with the answers.
+    pub fn history(&self) -> &[Record]
+        ensures { result.now ≡ self.now.history }
+    {
+        &self.history
+    }
+
+    /// What it sent, in order: message number j is item j, counted from 1.
+    pub fn sent(&self) -> &[Message]
+        ensures { result.now ≡ self.now.sent }
+    {
+        &self.sent
+    }
+
+    /// Its policy.
+    pub fn policy(&self) -> &Policy
+        ensures { result.now ≡ self.now.policy }
+    {
+        &self.policy
+    }
+
+    /// What each member keeps. Until groups come it is alone in its group.
+    pub fn invariants(&self)
+        ensures kept { IsMember self.now }
+        ensures alone { self.now.group.members ≡ 1 }
+    {
+        let _history = &self.history;
+    }
+
+    /// The member of this number, with nothing sent, held or delivered. It takes no memory.
+    pub fn found(
+        alloc: Global,
+        group: Group,
+        number: u32,
+        vocabulary: Vocabulary,
+    ) -> Result<Member, FoundRefusal>
+        requires { group.members ≡ 1 }
+        ensures founded { IfOk result (λ member. member ≡ founded group number vocabulary) }
+        ensures known { OnOk result ((1 ≤ number) × (number ≤ group.members)) }
+        ensures unknown { IfErr result (λ refusal. (refusal ≡ FoundRefusal.UnknownMember) × ((number < 1) ⊎ (group.members < number))) }
+    {
+        if number < 1 || group.members() < number {
+            return Err(FoundRefusal::UnknownMember);
+        }
+        let clock = group.clock();
+        Ok(Member {
+            group,
+            number,
+            clock,
+            sent: Vec::new(alloc),
+            held: VecDeque::new(alloc),
+            history: Vec::new(alloc),
+            policy: Policy::found(alloc, vocabulary),
+        })
+    }
+
+    // The stamp of a caller's next command, where nothing stands in its way.
+    fn next_stamp(&self, caller: u32, serial: u32) -> Result<Stamp, SubmitRefusal>
+        ensures stamp { IfOk result (λ s. s ≡ stamp (self.now.clock + 1) self.now.number) }
+        ensures accepted { OnOk result (submit_refusal self.now.group (node_of self.now) caller serial ≡ None) }
+        ensures first_refusal { IfErr result (λ refusal. submit_refusal self.now.group (node_of self.now) caller serial ≡ refusal_of refusal) }
+    {
+        if LAST_CLOCK <= self.clock {
+            return Err(SubmitRefusal::ClockFull);
+        }
+        if self.group.sent_limit() as usize <= self.sent.len() {
+            return Err(SubmitRefusal::SentFull);
+        }
+        let next = count_of_caller(&self.sent, caller);
+        if u64::from(serial) != next {
+            return Err(SubmitRefusal::BadSerial { next });
+        }
+        Ok(Stamp {
+            clock: self.clock + 1,
+            member: self.number,
+        })
+    }
+
+    /// Sends a caller's next command to all members, and holds it. Serials count a caller's commands from 0.
+    pub fn submit(
+        &mut self,
+        alloc: Global,
+        caller: u32,
+        serial: u32,
+        command: Command,
+    ) -> Result<Stamp, SubmitRefusal>
+        ensures stamp { IfOk result (λ s. s ≡ stamp (self.old.clock + 1) self.old.number) }
+        ensures submitted { OnOk result (self.new ≡ submitted self.old caller serial command) }
+        ensures accepted { OnOk result (submit_refusal self.old.group (node_of self.old) caller serial ≡ None) }
+        ensures first_refusal { IfErr result (λ refusal. submit_refusal self.old.group (node_of self.old) caller serial ≡ refusal_of refusal) }
+        ensures unchanged { OnErr result (self.new ≡ self.old) }
+    {
+        let stamp = match self.next_stamp(caller, serial) {
+            Ok(stamp) => stamp,
+            Err(refusal) => return Err(refusal),
+        };
+        let message = Message::Call {
+            stamp,
+            caller,
+            serial,
+            command,
+        };
+        match send(alloc, &mut self.sent, &mut self.held, message) {
+            Ok(()) => {
+                self.clock = stamp.clock;
+                Ok(stamp)
+            }
+            Err(AllocError) => Err(SubmitRefusal::NoMemory),
+        }
+    }
+
+    /// Submits a copy of a command, which is made only where nothing but memory stands in its way.
+    pub fn submit_copy(
+        &mut self,
+        alloc: Global,
+        caller: u32,
+        serial: u32,
+        command: &Command,
+    ) -> Result<Stamp, SubmitRefusal>
+        ensures stamp { IfOk result (λ s. s ≡ stamp (self.old.clock + 1) self.old.number) }
+        ensures submitted { OnOk result (self.new ≡ submitted self.old caller serial command.now) }
+        ensures accepted { OnOk result (submit_refusal self.old.group (node_of self.old) caller serial ≡ None) }
+        ensures first_refusal { IfErr result (λ refusal. submit_refusal self.old.group (node_of self.old) caller serial ≡ refusal_of refusal) }
+        ensures unchanged { OnErr result (self.new ≡ self.old) }
+    {
+        if let Err(refusal) = self.next_stamp(caller, serial) {
+            return Err(refusal);
+        }
+        match command.copy(alloc) {
+            Ok(command) => self.submit(alloc, caller, serial, command),
+            Err(AllocError) => Err(SubmitRefusal::NoMemory),
+        }
+    }
+
+    /// Delivers the least held command, if one is due: it leaves what is held, its record joins the history, and the
+    /// policy becomes its effect. Answers the record's place in the history.
+    pub fn deliver(&mut self, alloc: Global) -> Result<Option<usize>, AllocError>
+        ensures place { IfOk result (λ place. place ≡ place_of_delivery self.old self.old.held) }
+        ensures delivered { OnOk result (self.new ≡ deliver_least self.old self.old.held) }
+        ensures unchanged { OnErr result (self.new ≡ self.old) }
+        ensures was_due { OnErr result (self.old.held ≢ []) }
+    {
+        let Some(next) = self.held.front() else {
+            return Ok(None);
+        };
+        self.history.reserve(1)?;
+        let answer = self.policy.apply(alloc, &next.command)?;
+        let place = self.history.len();
+        take_over(&mut self.held, &mut self.history, answer);
+        Ok(Some(place))
+    }
+}

@@ -1,0 +1,20 @@
+-- A world's member as the world of the definitions.
+use Rattle.std.specs.Prelude.{ℕ, ◌≡◌, [], ◌∷◌}
+use Rattle.rbac_words.specs.World.{World}
+use Rattle.rbac_member.specs.Member.{Member, IsMember, node_of}
+use Rattle.rbac_world.specs.declared.world.World.TheInside.{Inside}
+
+-- the world of one member
+abbrev pub world_of : Member → World
+world_of v = record { group = v.group; vocabulary = v.vocabulary; nodes = node_of v ∷ [] }
+
+abbrev pub shown : Inside → World
+shown a = world_of a.member
+
+-- until groups come the one member is alone
+pub record IsAlone (v : Member) : Type 0 where
+  pub alone : v.group.members ≡ 1
+  pub kept : IsMember v
+
+abbrev pub IsKept : Inside → Type 0
+IsKept a = IsAlone a.member
