@@ -1,0 +1,61 @@
+-- Reading an array of names, one element after another.
+use Rattle.std.proofs.Common.{◌≡◌, ◌&&◌, ◌+◌, ◌<◌, ◌≤◌, ℕ, List, [], ◌∷◌, map, drop, get_or, length, fold, Bool, true, false, Option, None, Some, Ok, Err, is_some, option_map, option_and_then, unwrap_or, if◌then◌else◌, refl, sym, ap, ◌∙◌}
+use Rattle.std.specs.List.{list_all}
+use Rattle.std.proofs.lemmas.List.{at_drop_more, at_drop_all}
+use Rattle.serde_json.specs.declared.value.Value.{Value}
+use Rattle.serde_json.specs.Find.{as_str}
+use Rattle.serde_json.specs.View.{view, items_view}
+use Rattle.sorted_keys.specs.Keys.{with_key}
+use Rattle.rbac_words.specs.Name.{Name, is_name, name_cmp}
+use Rattle.rbac_lines.specs.Fields.{Reading, ◌>>=◌, name_of, names_of, texts_of}
+use Rattle.rbac_lines.specs.declared.refusal.LineRefusal.TheVariants.{WrongKind, BadName}
+
+-- the text of an element
+abbrev pub text_of : Value → List ℕ
+text_of value = unwrap_or (as_str (view value)) []
+
+-- the names that are left to add to a set
+abbrev pub names_from : List Name → List (List ℕ) → Reading (List Name)
+names_from set texts = if list_all is_name texts then Ok (fold (λ names name. with_key name_cmp name names) set texts) else Err BadName
+
+first_added : (set : List Name) (text : List ℕ) (texts : List (List ℕ)) (b : Bool)
+    → (if b && list_all is_name texts then Ok (fold (λ names name. with_key name_cmp name names) (with_key name_cmp text set) texts) else Err BadName) ≡ ((if b then Ok text else Err BadName) >>= λ name. names_from (with_key name_cmp name set) texts)
+first_added set text texts true = refl
+first_added set text texts false = refl
+
+-- the next element is read as a name and added, or refused
+pub names_from_next : (set : List Name) (array : List Value) (i : ℕ) (value : Value) (text : List ℕ) (answer : Reading Name)
+    → i < length array → value ≡ get_or array i value → text ≡ text_of value → name_of text ≡ answer
+    → names_from set (map text_of (drop i array)) ≡ (answer >>= λ name. names_from (with_key name_cmp name set) (map text_of (drop (i + 1) array)))
+names_from_next set array i value text answer within here is read =
+    let later = map text_of (drop (i + 1) array) in
+    at_drop_more (λ values. names_from set (map text_of values)) array i value within
+    ∙ ap (λ element. names_from set (text_of element ∷ later)) (sym here)
+    ∙ ap (λ first. names_from set (first ∷ later)) (sym is)
+    ∙ first_added set text later (is_name text)
+    ∙ ap (λ r. r >>= λ name. names_from (with_key name_cmp name set) later) read
+
+-- after the last element the set is read
+pub names_from_end : (set : List Name) (array : List Value) (i : ℕ) → length array ≤ i → names_from set (map text_of (drop i array)) ≡ Ok set
+names_from_end set array i h = at_drop_all (λ values. names_from set (map text_of values)) array i h
+
+texts_more : (found : Option (List ℕ)) (all : Bool) (texts : List (List ℕ))
+    → option_and_then (λ text. option_map (λ later. text ∷ later) (if all then Some texts else None)) found ≡ (if is_some found && all then Some (unwrap_or found [] ∷ texts) else None)
+texts_more None all texts = refl
+texts_more (Some text) true texts = refl
+texts_more (Some text) false texts = refl
+
+-- an array has texts if each element is one
+pub texts_of_array : (array : List Value) → texts_of (items_view array) ≡ (if list_all (λ value. is_some (as_str (view value))) array then Some (map text_of array) else None)
+texts_of_array [] = refl
+texts_of_array (value ∷ array) =
+    ap (λ rest. option_and_then (λ text. option_map (λ later. text ∷ later) rest) (as_str (view value))) (texts_of_array array)
+    ∙ texts_more (as_str (view value)) (list_all (λ v. is_some (as_str (view v))) array) (map text_of array)
+
+-- an array with another element is refused
+pub names_of_others : (array : List Value) → false ≡ list_all (λ value. is_some (as_str (view value))) array → names_of (items_view array) ≡ Err WrongKind
+names_of_others array others = rw (texts_of_array array, ← others)
+
+-- an array of texts is read from its first element on
+pub names_of_texts : (array : List Value) → true ≡ list_all (λ value. is_some (as_str (view value))) array → names_of (items_view array) ≡ names_from [] (map text_of array)
+names_of_texts array texts = rw (texts_of_array array, ← texts)

@@ -1,0 +1,5 @@
+pub mod ArrayLemmas
+pub mod EventLemmas
+pub mod FieldLemmas
+pub mod TextLemmas
+pub mod RunLemmas

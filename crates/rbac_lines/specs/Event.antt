@@ -1,0 +1,73 @@
+-- What event a line stands for. A line is refused for the first of these: it is too long, it is no JSON, it is no object;
+-- then its object is checked whole: its word, the fields that belong to that from left to right, and no other key; and
+-- only then is the command object of a submit looked into, in the same way.
+use Rattle.std.specs.Prelude.{ℕ, List, [], ◌∷◌, length, codes, nat_lt, if◌then◌else◌, Option, None, ok_or, Ok, Err}
+use Rattle.std.specs.Str.{is_utf8}
+use Rattle.serde_json.specs.Data.{Data, Members}
+use Rattle.serde_json.specs.Read.{read}
+use Rattle.serde_json.specs.Find.{as_object}
+use Rattle.rbac_words.specs.declared.event.Event.{Event}
+use Rattle.rbac_words.specs.declared.event.Event.TheVariants.{Submit, Receive, Deliver}
+use Rattle.rbac_lines.specs.declared.refusal.LineRefusal.TheVariants.{TooLong, NotJson, NotObject}
+use Rattle.rbac_lines.specs.Fields.{Reading, ◌>>=◌, ◌>>◌, whole_in, text_in, object_in, only_keys, by_word}
+use Rattle.rbac_lines.specs.Command.{command_of}
+
+-- submit: at, caller, serial, and the object command
+abbrev pub submit : Members → Reading Event
+submit object = do
+  at ← whole_in (codes "at") object
+  caller ← whole_in (codes "caller") object
+  serial ← whole_in (codes "serial") object
+  fields ← object_in (codes "command") object
+  only_keys (codes "do" ∷ codes "at" ∷ codes "caller" ∷ codes "serial" ∷ codes "command" ∷ []) object
+  command ← command_of fields
+  Ok (Submit at caller serial command)
+
+-- receive: at, from, number
+abbrev pub receive : Members → Reading Event
+receive object = do
+  at ← whole_in (codes "at") object
+  from ← whole_in (codes "from") object
+  number ← whole_in (codes "number") object
+  only_keys (codes "do" ∷ codes "at" ∷ codes "from" ∷ codes "number" ∷ []) object
+  Ok (Receive at from number)
+
+-- deliver: at
+abbrev pub deliver : Members → Reading Event
+deliver object = do
+  at ← whole_in (codes "at") object
+  only_keys (codes "do" ∷ codes "at" ∷ []) object
+  Ok (Deliver at)
+
+-- the events by their words
+abbrev pub events_by_word : List (List ℕ × (Members → Reading Event))
+events_by_word =
+    (codes "submit", submit)
+    ∷ (codes "receive", receive)
+    ∷ (codes "deliver", deliver)
+    ∷ []
+
+-- the event that an object stands for
+abbrev pub event_of : Members → Reading Event
+event_of object = do
+  word ← text_in (codes "do") object
+  by_word events_by_word word object
+
+-- the value of a JSON text, which is UTF-8
+abbrev pub json_of : List ℕ → Option Data
+json_of text = if is_utf8 text then read text else None
+
+-- the most bytes that a line has
+abbrev pub longest_line : ℕ
+longest_line = 65536
+
+-- the value of a line
+abbrev pub value_of : List ℕ → Reading Data
+value_of line = if nat_lt longest_line (length line) then Err TooLong else ok_or (json_of line) NotJson
+
+-- the event that a line stands for, or the first refusal
+unfoldable pub event : List ℕ → Reading Event
+event line = do
+  value ← value_of line
+  object ← ok_or (as_object value) NotObject
+  event_of object

@@ -1,0 +1,13 @@
+-- The sample founding: one member, and a small vocabulary of bookkeeping.
+use Rattle.std.specs.Prelude.{List, [], ◌∷◌, codes}
+use Rattle.rbac_words.specs.Founding.{Group, Vocabulary}
+
+abbrev pub sample_group : Group
+sample_group = record { members = 1; clock = 0; sent_limit = 65536 }
+
+abbrev pub sample_vocabulary : Vocabulary
+sample_vocabulary = record {
+  operations = codes "approve" ∷ codes "pay" ∷ codes "read" ∷ [];
+  objects = codes "invoice" ∷ codes "ledger" ∷ [];
+  permissions = (codes "approve", codes "invoice") ∷ (codes "pay", codes "invoice") ∷ (codes "read", codes "ledger") ∷ [];
+}

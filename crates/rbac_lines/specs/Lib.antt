@@ -1,0 +1,6 @@
+pub mod Command
+pub mod Event
+pub mod Fields
+pub mod Text
+pub mod Output
+pub mod Founding

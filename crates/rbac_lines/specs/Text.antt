@@ -1,0 +1,118 @@
+-- What a line is answered with: compact JSON without blanks, its keys in the order of their bytes, and a line feed.
+use Rattle.std.specs.Prelude.{ℕ, List, ◌++◌, codes, decimal, Option, Some, None}
+use Rattle.rbac_words.specs.Denials.{denial_word, denial_number}
+use Rattle.rbac_words.specs.declared.stamp.Stamp.{Stamp}
+use Rattle.rbac_words.specs.declared.record.Record.{Record}
+use Rattle.rbac_words.specs.declared.answer.Denial.{Denial}
+use Rattle.rbac_words.specs.declared.answer.Answer.{Answer}
+use Rattle.rbac_words.specs.declared.answer.Answer.TheVariants.{Done, Granted, Refused, Denied}
+use Rattle.rbac_words.specs.declared.event.Outcome.{Outcome}
+use Rattle.rbac_words.specs.declared.event.Outcome.TheVariants.{Submitted, Received, Delivered}
+use Rattle.rbac_words.specs.declared.event.Refusal.{Refusal}
+use Rattle.rbac_words.specs.declared.event.Refusal.TheVariants.{UnknownMember, FromSelf, NotSent, Repeat, Gap, StampNotRising, ClockFull, SentFull, BadSerial, NoMemory}
+use Rattle.rbac_lines.specs.declared.refusal.LineRefusal.{LineRefusal}
+use Rattle.rbac_lines.specs.declared.refusal.LineRefusal.TheVariants.{TooLong, NotJson, NotObject, UnknownWord, MissingField, WrongKind, BadName, ExtraField, NoMemory as LineNoMemory}
+
+-- ---- Parts of a text
+
+-- [1,1]: the clock and the member
+abbrev pub stamp_text : Stamp → List ℕ
+stamp_text stamp = codes "[" ++ decimal stamp.clock ++ codes "," ++ decimal stamp.member ++ codes "]"
+
+-- a stamp, or null where there is none
+abbrev pub stamp_or_null : Option Stamp → List ℕ
+stamp_or_null (Some stamp) = stamp_text stamp
+stamp_or_null None = codes "null"
+
+-- {"denied":"NoSession","number":10}
+abbrev pub denial_text : Denial → List ℕ
+denial_text denial = codes "{\"denied\":\"" ++ denial_word denial ++ codes "\",\"number\":" ++ decimal (denial_number denial) ++ codes "}"
+
+-- "Done", "Granted", "Refused", or a denial
+abbrev pub answer_text : Answer → List ℕ
+answer_text Done = codes "\"Done\""
+answer_text Granted = codes "\"Granted\""
+answer_text Refused = codes "\"Refused\""
+answer_text (Denied denial) = denial_text denial
+
+-- how each refusal ends
+abbrev pub refused_word_text : List ℕ → List ℕ
+refused_word_text word = codes ",\"refused\":\"" ++ word ++ codes "\"}\n"
+
+-- ---- Outcomes
+
+-- {"line":5,"stamp":[1,1]}: a command was submitted at this stamp
+abbrev pub submitted_text : ℕ → Stamp → List ℕ
+submitted_text line stamp = codes "{\"line\":" ++ decimal line ++ codes ",\"stamp\":" ++ stamp_text stamp ++ codes "}\n"
+
+-- {"acknowledged":[3,1],"line":5} where a command was received, and {"acknowledged":null,"line":5} where an
+-- acknowledgement was
+abbrev pub received_text : ℕ → Option Stamp → List ℕ
+received_text line acknowledged = codes "{\"acknowledged\":" ++ stamp_or_null acknowledged ++ codes ",\"line\":" ++ decimal line ++ codes "}\n"
+
+-- {"answer":"Done","caller":0,"line":5,"serial":0,"stamp":[1,1]}: a command was delivered, and this is its record
+abbrev pub delivered_text : ℕ → Record → List ℕ
+delivered_text line delivered =
+    codes "{\"answer\":" ++ answer_text delivered.answer ++ codes ",\"caller\":" ++ decimal delivered.caller ++ codes ",\"line\":" ++ decimal line
+    ++ codes ",\"serial\":" ++ decimal delivered.serial ++ codes ",\"stamp\":" ++ stamp_text delivered.stamp ++ codes "}\n"
+
+-- {"answer":null,"line":5}: no command was due
+abbrev pub nothing_delivered_text : ℕ → List ℕ
+nothing_delivered_text line = codes "{\"answer\":null,\"line\":" ++ decimal line ++ codes "}\n"
+
+-- the text of an outcome of the event of this line, with the record that was delivered, if one was
+abbrev pub outcome_text : ℕ → Outcome → Option Record → List ℕ
+outcome_text line (Submitted stamp) delivered = submitted_text line stamp
+outcome_text line (Received acknowledgement) delivered = received_text line acknowledgement
+outcome_text line (Delivered place) (Some delivered) = delivered_text line delivered
+outcome_text line (Delivered place) None = nothing_delivered_text line
+
+-- ---- Refusals
+
+-- the word of an event's refusal
+abbrev pub refusal_word : Refusal → List ℕ
+refusal_word UnknownMember = codes "UnknownMember"
+refusal_word FromSelf = codes "FromSelf"
+refusal_word NotSent = codes "NotSent"
+refusal_word (Repeat expected) = codes "Repeat"
+refusal_word (Gap expected) = codes "Gap"
+refusal_word StampNotRising = codes "StampNotRising"
+refusal_word ClockFull = codes "ClockFull"
+refusal_word SentFull = codes "SentFull"
+refusal_word (BadSerial next) = codes "BadSerial"
+refusal_word NoMemory = codes "NoMemory"
+
+-- the word of a line's refusal
+abbrev pub line_refusal_word : LineRefusal → List ℕ
+line_refusal_word TooLong = codes "TooLong"
+line_refusal_word NotJson = codes "NotJson"
+line_refusal_word NotObject = codes "NotObject"
+line_refusal_word UnknownWord = codes "UnknownWord"
+line_refusal_word MissingField = codes "MissingField"
+line_refusal_word WrongKind = codes "WrongKind"
+line_refusal_word BadName = codes "BadName"
+line_refusal_word ExtraField = codes "ExtraField"
+line_refusal_word LineNoMemory = codes "NoMemory"
+
+-- {"line":5,"refused":"NotSent"}: a refusal that has no more to tell
+abbrev pub refused_text : ℕ → List ℕ → List ℕ
+refused_text line word = codes "{\"line\":" ++ decimal line ++ refused_word_text word
+
+-- {"expected":1,"line":5,"refused":"Gap"}: a message out of turn
+abbrev pub out_of_turn_text : ℕ → ℕ → List ℕ → List ℕ
+out_of_turn_text line expected word = codes "{\"expected\":" ++ decimal expected ++ codes ",\"line\":" ++ decimal line ++ refused_word_text word
+
+-- {"line":5,"next":0,"refused":"BadSerial"}: a serial out of turn
+abbrev pub bad_serial_text : ℕ → ℕ → List ℕ → List ℕ
+bad_serial_text line next word = codes "{\"line\":" ++ decimal line ++ codes ",\"next\":" ++ decimal next ++ refused_word_text word
+
+-- the text of a refusal of this line's event
+abbrev pub refusal_text : ℕ → Refusal → List ℕ
+refusal_text line (Repeat expected) = out_of_turn_text line expected (refusal_word (Repeat expected))
+refusal_text line (Gap expected) = out_of_turn_text line expected (refusal_word (Gap expected))
+refusal_text line (BadSerial next) = bad_serial_text line next (refusal_word (BadSerial next))
+refusal_text line refusal = refused_text line (refusal_word refusal)
+
+-- the text of a refusal of this line itself
+abbrev pub line_refusal_text : ℕ → LineRefusal → List ℕ
+line_refusal_text line refusal = refused_text line (line_refusal_word refusal)

@@ -1,0 +1,20 @@
+//! Lines of JSON as events, what came of them as lines of JSON, and a whole input played on a world.
+#![tactic(auto)]
+
+pub mod founding;
+mod playing;
+pub mod reading;
+pub mod refusal;
+mod running;
+pub mod text;
+
+pub use founding::{Founding, sample_founding};
+pub use line_engine::{RunFault, Summary, Watched, watch};
+pub use rbac_world as world;
+pub use reading::read_line;
+pub use refusal::LineRefusal;
+pub use running::run;
+pub use text::{
+    put_delivered, put_line_refused, put_nothing_delivered, put_received, put_refused,
+    put_submitted,
+};

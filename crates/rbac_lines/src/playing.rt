@@ -1,0 +1,107 @@
+//! Lines played on a world.
+ghost use Rattle.std.specs.Prelude.{◌≡◌, ◌⊎◌, ◌++◌, Ok, IfOk, OnOk, OnErr, is_err};
+ghost use Rattle.std.specs.Option.{option_copied};
+ghost use Rattle.rbac_words.specs.World.{World as WorldValue, step, step_outcome};
+ghost use Rattle.rbac_lines.specs.Text.{outcome_text};
+ghost use Rattle.rbac_lines.specs.Output.{delivered_record, event_text, PlaysLine};
+
+use crate::reading::read_line;
+use crate::refusal::LineRefusal;
+use crate::text::{
+    put_delivered, put_line_refused, put_nothing_delivered, put_received, put_refused,
+    put_submitted,
+};
+use line_engine::Taking;
+use rbac_words::{Event, Outcome, Record, Refusal};
+use rbac_world::World;
+use std::alloc::{AllocError, Global};
+
+/// A world takes lines: each is an event, or refused.
+pub struct Playing;
+
+impl Taking for Playing {
+    type Over = World;
+
+    ghost State = { WorldValue };
+
+    ghost state = { λ w. w };
+
+    ghost takes = { PlaysLine };
+
+    fn take_line(
+        world: &mut World,
+        alloc: Global,
+        number: u64,
+        line: &[u8],
+        text: &mut Vec<u8>,
+    ) -> Result<bool, AllocError> {
+        match read_line(alloc, line) {
+            Ok(event) => play(alloc, world, number, &event, text),
+            Err(LineRefusal::NoMemory) => Err(AllocError),
+            Err(refusal) => match put_line_refused(text, number, refusal) {
+                Ok(()) => Ok(true),
+                Err(AllocError) => Err(AllocError),
+            },
+        }
+    }
+}
+
+// One event, and its text behind what the buffer has. Ok says whether it was refused.
+fn play(
+    alloc: Global,
+    world: &mut World,
+    number: u64,
+    event: &Event,
+    text: &mut Vec<u8>,
+) -> Result<bool, AllocError>
+    ensures text { OnOk result (text.new.items ≡ text.old.items ++ event_text world.old number event.now) }
+    ensures refused { IfOk result (λ is_refused. is_refused ≡ is_err (step_outcome world.old event.now)) }
+    ensures stepped { OnOk result (world.new ≡ step world.old event.now) }
+    ensures starved { OnErr result ((world.new ≡ world.old) ⊎ (world.new ≡ step world.old event.now)) }
+{
+    match world.step(alloc, event) {
+        Ok(outcome) => {
+            let delivered = record_of(world, event, outcome);
+            match put_outcome(text, number, outcome, delivered) {
+                Ok(()) => Ok(false),
+                Err(AllocError) => Err(AllocError),
+            }
+        }
+        Err(Refusal::NoMemory) => Err(AllocError),
+        Err(refusal) => match put_refused(text, number, &refusal) {
+            Ok(()) => Ok(true),
+            Err(AllocError) => Err(AllocError),
+        },
+    }
+}
+
+// The record that an event has delivered.
+fn record_of<'a>(world: &'a World, event: &Event, outcome: Outcome) -> Option<&'a Record>
+    ensures { (old : WorldValue) → step_outcome old event.now ≡ Ok outcome → world.now ≡ step old event.now → option_copied result ≡ delivered_record old event.now }
+{
+    match (event, outcome) {
+        (Event::Deliver { at }, Outcome::Delivered(Some(place))) => match world.member(*at) {
+            Some(member) => member.history().get(place),
+            None => None,
+        },
+        _ => None,
+    }
+}
+
+fn put_outcome(
+    text: &mut Vec<u8>,
+    number: u64,
+    outcome: Outcome,
+    delivered: Option<&Record>,
+) -> Result<(), AllocError>
+    ensures { OnOk result (text.new.items ≡ text.old.items ++ outcome_text number outcome (option_copied delivered.entry)) }
+{
+    match outcome {
+        Outcome::Submitted(stamp) => put_submitted(text, number, stamp),
+        Outcome::Received(acknowledged) => put_received(text, number, acknowledged),
+        Outcome::Delivered(_) => match delivered {
+            Some(record) => put_delivered(text, number, record),
+            None => put_nothing_delivered(text, number),
+        },
+    }
+}

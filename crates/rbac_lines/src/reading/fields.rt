@@ -1,0 +1,130 @@
+//! The fields of a JSON object, each read as what it has to be: refused as MissingField where its key is not there, as
+//! WrongKind where its value is of another kind, and as BadName where a name is due and the text is none.
+ghost use Rattle.std.specs.Prelude.{◌≡◌, [], map, is_some, unwrap_or, string_bytes};
+ghost use Rattle.std.specs.BTreeMap.{keys as entry_keys};
+ghost use Rattle.std.specs.List.{list_all, list_any};
+ghost use Rattle.std.specs.Str.{bytes_eq};
+ghost use Rattle.serde_json.specs.Find.{as_str};
+ghost use Rattle.serde_json.specs.View.{view, items_view, members_view};
+ghost use Rattle.rbac_lines.specs.Fields.{seen, Reads, value_in, whole_in, text_in, object_in, name_of, name_in, names_of, names_in, only_keys};
+
+use crate::refusal::LineRefusal;
+use rbac_words::{Name, NameRefusal, NameSet};
+use serde_json::{Map, Value};
+use std::alloc::Global;
+
+/// A JSON object, whose keys have no order. Where a key was given twice, it has the last value.
+pub(crate) type Object = Map<String, Value>;
+
+fn value_in<'o>(object: &'o Object, key: &str) -> Result<&'o Value, LineRefusal>
+    ensures { seen (λ value. view value.now) result ≡ value_in key.now (members_view object.now.entries) }
+{
+    object.get(key).ok_or(LineRefusal::MissingField)
+}
+
+/// The whole number at a key, up to 4,294,967,295. Any other number is of another kind, 1.0 and negative ones among them.
+pub(crate) fn whole_in(object: &Object, key: &str) -> Result<u32, LineRefusal>
+    ensures { result ≡ whole_in key.now (members_view object.now.entries) }
+{
+    let value = value_in(object, key)?;
+    value
+        .as_u64()
+        .and_then(|number| u32::try_from(number).ok())
+        .ok_or(LineRefusal::WrongKind)
+}
+
+/// The text at a key.
+pub(crate) fn text_in<'o>(object: &'o Object, key: &str) -> Result<&'o str, LineRefusal>
+    ensures { seen (λ text. text.now) result ≡ text_in key.now (members_view object.now.entries) }
+{
+    let value = value_in(object, key)?;
+    value.as_str().ok_or(LineRefusal::WrongKind)
+}
+
+/// The object at a key.
+pub(crate) fn object_in<'o>(object: &'o Object, key: &str) -> Result<&'o Object, LineRefusal>
+    ensures { seen (λ inner. members_view inner.now.entries) result ≡ object_in key.now (members_view object.now.entries) }
+{
+    let value = value_in(object, key)?;
+    value.as_object().ok_or(LineRefusal::WrongKind)
+}
+
+/// The name that a text is.
+fn name_of(alloc: Global, text: &str) -> Result<Name, LineRefusal>
+    ensures { Reads (name_of text.now) result }
+{
+    match Name::read(alloc, text.as_bytes()) {
+        Ok(name) => Ok(name),
+        Err(NameRefusal::BadName) => Err(LineRefusal::BadName),
+        Err(NameRefusal::NoMemory) => Err(LineRefusal::NoMemory),
+    }
+}
+
+/// The name at a key.
+pub(crate) fn name_in(alloc: Global, object: &Object, key: &str) -> Result<Name, LineRefusal>
+    ensures { Reads (name_in key.now (members_view object.now.entries)) result }
+{
+    let text = text_in(object, key)?;
+    name_of(alloc, text)
+}
+
+fn are_texts(array: &[Value]) -> bool
+    ensures { result ≡ list_all (λ value. is_some (as_str (view value))) array.now }
+{
+    array.iter().all(|value| value.is_string())
+}
+
+/// A value's text, or an empty one where it is no text.
+fn text_of(value: &Value) -> &str
+    ensures { result.now ≡ unwrap_or (as_str (view value.now)) [] }
+{
+    value.as_str().unwrap_or("")
+}
+
+/// The set of the names in an array. An element that is no text is refused before any text that is no name, so that
+/// the array is looked through before the first name is read. A name given twice counts once.
+fn names_of(alloc: Global, array: &[Value]) -> Result<NameSet, LineRefusal>
+    ensures { Reads (names_of (items_view array.now)) result }
+{
+    if !are_texts(array) {
+        return Err(LineRefusal::WrongKind);
+    }
+    let mut names = NameSet::new(alloc);
+    for value in array {
+        let name = name_of(alloc, text_of(value))?;
+        names.add(name)?;
+    }
+    Ok(names)
+}
+
+/// The set of the names at a key.
+pub(crate) fn names_in(alloc: Global, object: &Object, key: &str) -> Result<NameSet, LineRefusal>
+    ensures { Reads (names_in key.now (members_view object.now.entries)) result }
+{
+    let value = value_in(object, key)?;
+    let array = value.as_array().ok_or(LineRefusal::WrongKind)?;
+    names_of(alloc, array)
+}
+
+fn is_one_of(keys: &[&str], key: &str) -> bool
+    ensures { result ≡ list_any (λ known. bytes_eq key.now known.now) keys.now }
+{
+    keys.iter().any(|known| key == *known)
+}
+
+fn has_only(object: &Object, keys: &[&str]) -> bool
+    ensures { result ≡ list_all (λ key. list_any (λ known. bytes_eq (string_bytes key) known.now) keys.now) (entry_keys object.now) }
+{
+    object.keys().all(|key| is_one_of(keys, key.as_str()))
+}
+
+/// Refuses an object that has a key besides these.
+pub(crate) fn only_keys(object: &Object, keys: &[&str]) -> Result<(), LineRefusal>
+    ensures { result ≡ only_keys (map (λ key. key.now) keys.now) (members_view object.now.entries) }
+{
+    if has_only(object, keys) {
+        Ok(())
+    } else {
+        Err(LineRefusal::ExtraField)
+    }
+}

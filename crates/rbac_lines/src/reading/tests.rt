@@ -1,0 +1,335 @@
+//! What lines are read as, and of refused ones by lines that a later check would refuse too, where there is such a check.
+
+use crate::reading::read_line;
+use crate::refusal::LineRefusal;
+use rbac_words::{Command, Event, Name};
+use std::alloc::{AllocError, Global};
+
+fn refusal_of(alloc: Global, line: &[u8]) -> Option<LineRefusal> {
+    read_line(alloc, line).err()
+}
+
+/// A line that submits this command.
+fn submit_line(alloc: Global, command: &str) -> Result<String, AllocError> {
+    format!(in alloc; r#"{{"do":"submit","at":1,"caller":0,"serial":0,"command":{command}}}"#)
+}
+
+/// A line of this many bytes: an event, and blanks behind it.
+fn long_line(alloc: Global, length: usize) -> Result<Vec<u8>, AllocError> {
+    let mut line = Vec::from_slice(alloc, br#"{"do":"deliver","at":1}"#)?;
+    for _ in line.len()..length {
+        line.push(b' ')?;
+    }
+    Ok(line)
+}
+
+/// So many arrays, one in another.
+fn nested_arrays(alloc: Global, levels: usize) -> Result<Vec<u8>, AllocError> {
+    let mut line = Vec::new(alloc);
+    for _ in 0..levels {
+        line.push(b'[')?;
+    }
+    for _ in 0..levels {
+        line.push(b']')?;
+    }
+    Ok(line)
+}
+
+#[test]
+fn a_line_has_65536_bytes_at_most(rt: HostRuntime) -> Result<(), AllocError> {
+    let longest = long_line(rt.alloc(), 65_536)?;
+    assert_eq!(rt; refusal_of(rt.alloc(), &longest), None);
+    let longer = long_line(rt.alloc(), 65_537)?;
+    assert_eq!(rt; refusal_of(rt.alloc(), &longer), Some(LineRefusal::TooLong));
+    Ok(())
+}
+
+#[test]
+fn arrays_nest_127_deep_at_most(rt: HostRuntime) -> Result<(), AllocError> {
+    let deepest = nested_arrays(rt.alloc(), 127)?;
+    assert_eq!(rt;
+        refusal_of(rt.alloc(), &deepest),
+        Some(LineRefusal::NotObject)
+    );
+    let deeper = nested_arrays(rt.alloc(), 128)?;
+    assert_eq!(rt; refusal_of(rt.alloc(), &deeper), Some(LineRefusal::NotJson));
+    Ok(())
+}
+
+#[test]
+fn bytes_that_are_no_json(rt: HostRuntime) {
+    let empty = b"";
+    assert_eq!(rt; refusal_of(rt.alloc(), empty), Some(LineRefusal::NotJson));
+    let cut = br#"{"do":"deliver","at":1"#;
+    assert_eq!(rt; refusal_of(rt.alloc(), cut), Some(LineRefusal::NotJson));
+    let byte_order_mark = b"\xef\xbb\xbf{\"do\":\"deliver\",\"at\":1}";
+    assert_eq!(rt;
+        refusal_of(rt.alloc(), byte_order_mark),
+        Some(LineRefusal::NotJson)
+    );
+    let no_utf8 = b"{\"do\":\"deliver\",\"at\":1,\"\xff\":0}";
+    assert_eq!(rt; refusal_of(rt.alloc(), no_utf8), Some(LineRefusal::NotJson));
+    let lone_surrogate = br#"{"do":"deliver","at":1,"\ud800":0}"#;
+    assert_eq!(rt;
+        refusal_of(rt.alloc(), lone_surrogate),
+        Some(LineRefusal::NotJson)
+    );
+    let beyond_floats = br#"{"do":"deliver","at":1e999}"#;
+    assert_eq!(rt;
+        refusal_of(rt.alloc(), beyond_floats),
+        Some(LineRefusal::NotJson)
+    );
+}
+
+#[test]
+fn the_first_refusal_of_the_outer_object(rt: HostRuntime) {
+    for (line, refusal) in [
+        (r#"["do"]"#, LineRefusal::NotObject),
+        (r#"{"at":1,"x":0}"#, LineRefusal::MissingField),
+        (r#"{"do":["deliver"],"x":0}"#, LineRefusal::WrongKind),
+        (r#"{"do":"Deliver","x":0}"#, LineRefusal::UnknownWord),
+        (r#"{"do":"deliver","x":0}"#, LineRefusal::MissingField),
+        (r#"{"do":"receive","at":"1","x":0}"#, LineRefusal::WrongKind),
+        (
+            r#"{"do":"receive","at":1,"number":-1}"#,
+            LineRefusal::MissingField,
+        ),
+        (
+            r#"{"do":"submit","at":1,"caller":0,"serial":0,"command":[],"x":0}"#,
+            LineRefusal::WrongKind,
+        ),
+        (
+            r#"{"do":"submit","at":1,"caller":0,"serial":0,"command":{},"x":0}"#,
+            LineRefusal::ExtraField,
+        ),
+        (
+            r#"{"do":"deliver","at":1,"from":2}"#,
+            LineRefusal::ExtraField,
+        ),
+    ] {
+        assert_eq!(rt;
+            refusal_of(rt.alloc(), line.as_bytes()),
+            Some(refusal),
+            "{line}"
+        );
+    }
+}
+
+#[test]
+fn the_first_refusal_of_a_command(rt: HostRuntime) -> Result<(), AllocError> {
+    for (command, refusal) in [
+        (r#"{"user":"ann","x":0}"#, LineRefusal::MissingField),
+        (r#"{"name":7,"x":0}"#, LineRefusal::WrongKind),
+        (r#"{"name":"DropUser","x":0}"#, LineRefusal::UnknownWord),
+        (
+            r#"{"name":"AddUser","role":"clerk"}"#,
+            LineRefusal::MissingField,
+        ),
+        (
+            r#"{"name":"AssignUser","user":null}"#,
+            LineRefusal::WrongKind,
+        ),
+        (
+            r#"{"name":"AssignUser","user":"ann lee"}"#,
+            LineRefusal::BadName,
+        ),
+        (
+            r#"{"name":"AddUser","user":"","x":0}"#,
+            LineRefusal::BadName,
+        ),
+        (
+            r#"{"name":"AddUser","user":"ann","role":"clerk"}"#,
+            LineRefusal::ExtraField,
+        ),
+    ] {
+        let line = submit_line(rt.alloc(), command)?;
+        assert_eq!(rt;
+            refusal_of(rt.alloc(), line.as_bytes()),
+            Some(refusal),
+            "{command}"
+        );
+    }
+    Ok(())
+}
+
+#[test]
+fn roles_are_an_array_of_names(rt: HostRuntime) -> Result<(), AllocError> {
+    for (roles, refusal) in [
+        (r#""clerk""#, LineRefusal::WrongKind),
+        (r#"["clerk lee",7]"#, LineRefusal::WrongKind),
+        (r#"["clerk",""]"#, LineRefusal::BadName),
+        (r#"["clerk"],"x":0"#, LineRefusal::ExtraField),
+    ] {
+        let command = format!(in rt.alloc();
+            r#"{{"name":"CreateSession","user":"ann","session":"s","roles":{roles}}}"#
+        )?;
+        let line = submit_line(rt.alloc(), command.as_str())?;
+        assert_eq!(rt;
+            refusal_of(rt.alloc(), line.as_bytes()),
+            Some(refusal),
+            "{roles}"
+        );
+    }
+    Ok(())
+}
+
+#[test]
+fn whole_numbers_go_up_to_4294967295(rt: HostRuntime) -> Result<(), AllocError> {
+    for (number, refusal) in [
+        ("0", None),
+        ("4294967295", None),
+        ("4294967296", Some(LineRefusal::WrongKind)),
+        ("18446744073709551616", Some(LineRefusal::WrongKind)),
+        ("-1", Some(LineRefusal::WrongKind)),
+        ("1.0", Some(LineRefusal::WrongKind)),
+        ("1e0", Some(LineRefusal::WrongKind)),
+        ("true", Some(LineRefusal::WrongKind)),
+    ] {
+        let line = format!(in rt.alloc(); r#"{{"do":"deliver","at":{number}}}"#)?;
+        assert_eq!(rt;
+            refusal_of(rt.alloc(), line.as_bytes()),
+            refusal,
+            "{number}"
+        );
+    }
+    Ok(())
+}
+
+fn text_of(name: &Name) -> &str {
+    str::from_utf8(name.as_bytes()).unwrap_or("")
+}
+
+/// A command's name and fields from left to right.
+fn command_words(alloc: Global, command: &Command) -> Result<String, AllocError> {
+    match command {
+        Command::AddUser { user } => format!(in alloc; "AddUser {}", text_of(user)),
+        Command::AddRole { role } => format!(in alloc; "AddRole {}", text_of(role)),
+        Command::AssignUser { user, role } => {
+            format!(in alloc; "AssignUser {} {}", text_of(user), text_of(role))
+        }
+        Command::GrantPermission {
+            operation,
+            object,
+            role,
+        } => {
+            format!(in alloc;
+                "GrantPermission {} {} {}",
+                text_of(operation),
+                text_of(object),
+                text_of(role)
+            )
+        }
+        Command::CreateSession {
+            user,
+            session,
+            roles,
+        } => {
+            let mut words = format!(in alloc;
+                "CreateSession {} {}",
+                text_of(user),
+                text_of(session)
+            )?;
+            for role in roles.names() {
+                words.push_str(" ")?;
+                words.push_str(text_of(role))?;
+            }
+            Ok(words)
+        }
+        Command::CheckAccess {
+            session,
+            operation,
+            object,
+        } => {
+            format!(in alloc;
+                "CheckAccess {} {} {}",
+                text_of(session),
+                text_of(operation),
+                text_of(object)
+            )
+        }
+    }
+}
+
+/// An event's word and fields from left to right.
+fn event_words(alloc: Global, event: &Event) -> Result<String, AllocError> {
+    match event {
+        Event::Submit {
+            at,
+            caller,
+            serial,
+            command,
+        } => {
+            let command = command_words(alloc, command)?;
+            format!(in alloc; "submit {at} {caller} {serial} {command}")
+        }
+        Event::Receive { at, from, number } => format!(in alloc; "receive {at} {from} {number}"),
+        Event::Deliver { at } => format!(in alloc; "deliver {at}"),
+    }
+}
+
+#[test]
+fn the_events(rt: HostRuntime) -> Result<(), AllocError> {
+    for (line, words) in [
+        (
+            r#"{"do":"receive","at":3,"from":2,"number":1}"#,
+            "receive 3 2 1",
+        ),
+        (
+            r#" { "number" : 1 , "from" : 2 , "do" : "receive" , "at" : 3 } "#,
+            "receive 3 2 1",
+        ),
+        (r#"{"do":"deliver","at":0}"#, "deliver 0"),
+        (r#"{"at":1,"do":"deliver","at":2}"#, "deliver 2"),
+        (
+            r#"{"do":"submit","at":4,"caller":5,"serial":6,"command":{"name":"AddUser","user":"ann"}}"#,
+            "submit 4 5 6 AddUser ann",
+        ),
+        (
+            r#"{"command":{"user":"ann","name":"AddUser"},"serial":6,"caller":5,"at":4,"do":"submit"}"#,
+            "submit 4 5 6 AddUser ann",
+        ),
+    ] {
+        match read_line(rt.alloc(), line.as_bytes()) {
+            Ok(event) => assert_eq!(rt; event_words(rt.alloc(), &event)?.as_str(), words),
+            Err(refusal) => panic!(rt; "{line} is refused: {refusal:?}"),
+        }
+    }
+    Ok(())
+}
+
+#[test]
+fn the_commands(rt: HostRuntime) -> Result<(), AllocError> {
+    for (command, words) in [
+        (
+            r#"{"name":"AddRole","role":"clerk"}"#,
+            "submit 1 0 0 AddRole clerk",
+        ),
+        (
+            r#"{"name":"AssignUser","user":"ann","role":"clerk"}"#,
+            "submit 1 0 0 AssignUser ann clerk",
+        ),
+        (
+            r#"{"name":"GrantPermission","operation":"read","object":"file","role":"clerk"}"#,
+            "submit 1 0 0 GrantPermission read file clerk",
+        ),
+        (
+            r#"{"name":"CreateSession","user":"ann","session":"s","roles":["clerk","auditor","clerk"]}"#,
+            "submit 1 0 0 CreateSession ann s auditor clerk",
+        ),
+        (
+            r#"{"name":"CreateSession","user":"ann","session":"s","roles":[]}"#,
+            "submit 1 0 0 CreateSession ann s",
+        ),
+        (
+            r#"{"name":"CheckAccess","session":"s","operation":"read","object":"file"}"#,
+            "submit 1 0 0 CheckAccess s read file",
+        ),
+    ] {
+        let line = submit_line(rt.alloc(), command)?;
+        match read_line(rt.alloc(), line.as_bytes()) {
+            Ok(event) => assert_eq!(rt; event_words(rt.alloc(), &event)?.as_str(), words),
+            Err(refusal) => panic!(rt; "{command} is refused: {refusal:?}"),
+        }
+    }
+    Ok(())
+}

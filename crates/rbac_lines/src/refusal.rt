@@ -1,0 +1,57 @@
+//! Why a line is refused.
+ghost use Rattle.std.specs.Prelude.{◌≡◌};
+ghost use Rattle.rbac_lines.specs.Text.{line_refusal_word};
+
+use std::alloc::AllocError;
+
+/// Why a line is no event: the first reason that applies, in this order. Memory may run out at any of the checks.
+#[derive(Clone, Copy, Debug, PartialEq, Eq, Drop)]
+pub enum LineRefusal {
+    /// It has more than 65,536 bytes.
+    TooLong,
+    /// It is no JSON text.
+    NotJson,
+    /// Its value is no object.
+    NotObject,
+    /// Its word, or its command's name, is none of those that are known.
+    UnknownWord,
+    /// A field is not there.
+    MissingField,
+    /// A field is not of its kind: a whole number up to 4,294,967,295, a text, an array of texts or an object.
+    WrongKind,
+    /// A text is no name.
+    BadName,
+    /// There is a field that does not belong there.
+    ExtraField,
+    /// Memory ran out.
+    NoMemory,
+}
+
+impl LineRefusal {
+    /// The word that a text shows.
+    pub fn word(self) -> &'static str
+        ensures { result.now ≡ line_refusal_word self }
+    {
+        match self {
+            LineRefusal::TooLong => "TooLong",
+            LineRefusal::NotJson => "NotJson",
+            LineRefusal::NotObject => "NotObject",
+            LineRefusal::UnknownWord => "UnknownWord",
+            LineRefusal::MissingField => "MissingField",
+            LineRefusal::WrongKind => "WrongKind",
+            LineRefusal::BadName => "BadName",
+            LineRefusal::ExtraField => "ExtraField",
+            LineRefusal::NoMemory => "NoMemory",
+        }
+    }
+}
+
+impl From<AllocError> for LineRefusal {
+    ghost use Rattle.rbac_lines.specs.declared.refusal.LineRefusal.TheVariants.{NoMemory};
+
+    ghost from_gives = { λ _ refusal. refusal ≡ NoMemory };
+
+    fn from(_refused: AllocError) -> LineRefusal {
+        LineRefusal::NoMemory
+    }
+}

@@ -1,0 +1,53 @@
+//! A whole input played on a world.
+ghost use Rattle.std.specs.Prelude.{◌≡◌, ◌≤◌, ◌≢◌, true, false, ℕ, List, length, IfOk, IfSome, OnOk, Err};
+ghost use Rattle.std.specs.Io.KnownBytes.{Appends, Consumes, IsAtEnd};
+ghost use Rattle.line_engine.specs.Lines.{lines, lines_read};
+ghost use Rattle.line_engine.specs.Output.{OutputOutcome};
+ghost use Rattle.line_engine.specs.Runs.{is_read_fault, is_write_fault};
+ghost use Rattle.line_engine.specs.Watched.{ended_of, failed_of, inner_of, reads_of};
+ghost use Rattle.rbac_lines.specs.Output.{playing, output, world_after, refused_lines};
+
+use crate::playing::Playing;
+use line_engine::{MOST_READS, RunFault, Summary, Watched, output_of_run, run_lines};
+use rbac_world::World;
+use std::alloc::Global;
+use std::io::{Read, Write};
+
+/// Plays all lines of the reader on the world, and writes each line's text right after its step. On Ok the input was read
+/// to its end, and exactly its output was written. A fault says why the run ended early; the clause `outcome` says which
+/// lines were played and what was written by then.
+pub fn run<R: Read, W: Write>(
+    alloc: Global,
+    reader: &mut Watched<R>,
+    writer: &mut Watched<W>,
+    world: &mut World,
+) -> Result<Summary, RunFault>
+    requires reader_sound { failed_of reader.old ≡ false }
+    requires unread { reads_of reader.old ≡ 0 }
+    requires writer_sound { failed_of writer.old ≡ false }
+    ensures read_to_end { OnOk result (IsAtEnd (R.remaining (inner_of reader.new))) }
+    ensures written { OnOk result (IfSome (R.remaining (inner_of reader.old))
+        (λ input. Appends (W.contents (inner_of writer.old)) (W.contents (inner_of writer.new)) (output input world.old))) }
+    ensures played { OnOk result (IfSome (R.remaining (inner_of reader.old)) (λ input. world.new ≡ world_after input world.old)) }
+    ensures counted { IfOk result (λ summary. IfSome (R.remaining (inner_of reader.old))
+        (λ input. (summary.lines ≡ length (lines input)) × (summary.refused ≡ refused_lines input world.old))) }
+
+    // What was read, and what of it was played and written, at Ok and at each fault.
+    ensures outcome { (input : List ℕ) × Consumes (R.remaining (inner_of reader.old)) (R.remaining (inner_of reader.new)) input
+        × OutputOutcome playing world.old (W.contents (inner_of writer.old)) (lines_read (ended_of reader.new) input) world.new (W.contents (inner_of writer.new)) result }
+    ensures ended { OnOk result (ended_of reader.new ≡ true) }
+    ensures read_fault { result ≡ Err RunFault.Read → ended_of reader.new ≡ false }
+    ensures too_many_reads { result ≡ Err RunFault.TooManyReads → (ended_of reader.new ≡ false) × (reads_of reader.new ≡ MOST_READS) }
+    ensures reads { reads_of reader.new ≤ MOST_READS }
+    ensures reader_failed { failed_of reader.new ≡ is_read_fault result }
+    ensures writer_failed { failed_of writer.new ≡ is_write_fault result }
+{
+    output_of_run::<Playing>();
+    match run_lines::<Playing, R, W>(alloc, reader, writer, world) {
+        Ok(summary) => Ok(summary),
+        Err(fault) => Err(fault),
+    }
+}
+
+#[cfg(test)]
+mod tests;
