@@ -16,7 +16,7 @@ pub struct Golden {
 
 impl Golden {
     /// Reads a golden.
-    pub fn read(alloc: Global, text: &str) -> Result<Golden> {
+    pub(crate) fn read(alloc: Global, text: &str) -> Result<Golden> {
         ensure!(text.starts_with("# "), "a golden begins with its sentence");
         let mut golden = Golden {
             input: Vec::new(alloc),
@@ -42,9 +42,7 @@ fn push_line(bytes: &mut Vec<u8>, line: &str) -> Result<()> {
     match line.split_once('(') {
         None => bytes.extend_from_slice(line.as_bytes())?,
         Some((before, after)) => {
-            let (repeat, after) = after
-                .split_once(')')
-                .context("a repeat that does not end")?;
+            let (repeat, after) = after.split_once(')').context("a repeat that does not end")?;
             let (text, count) = repeat.split_once(" x ").context("a repeat with no count")?;
             bytes.extend_from_slice(before.as_bytes())?;
             for _ in 0..count.parse::<u32>()? {

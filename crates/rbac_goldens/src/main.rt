@@ -19,7 +19,12 @@ fn output_of(alloc: Global, input: &[u8]) -> Result<Vec<u8>> {
     let Founding { group, vocabulary } = sample_founding(alloc)?;
     let mut world = World::found(alloc, group, vocabulary)?;
     let mut output = Vec::new(alloc);
-    let ended = run(alloc, &mut watch(input), &mut watch(&mut output), &mut world);
+    let ended = run(
+        alloc,
+        &mut watch(input),
+        &mut watch(&mut output),
+        &mut world,
+    );
     ensure!(ended.is_ok(), "the run ended early");
     Ok(output)
 }
