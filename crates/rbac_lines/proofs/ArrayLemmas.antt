@@ -1,25 +1,66 @@
 -- Reading an array of names, one element after another.
-use Rattle.std.proofs.Common.{◌≡◌, ◌&&◌, ◌+◌, ◌<◌, ◌≤◌, ℕ, List, [], ◌∷◌, map, drop, get_or, length, fold, Bool, true, false, Option, None, Some, Ok, Err, is_some, option_map, option_and_then, unwrap_or, if◌then◌else◌, refl, sym, ap, ◌∙◌}
+use Rattle.std.proofs.Common.{◌≡◌, ◌&&◌, ◌+◌, ◌<◌, ◌≤◌, ℕ, List, [], ◌∷◌, map, drop, get_or, length, fold, Bool, true, false, ◌||◌, Option, None, Some, Ok, Err, is_some, option_map, option_and_then, unwrap_or, if◌then◌else◌, refl, sym, ap, ◌∙◌}
 use Rattle.std.specs.List.{list_all}
 use Rattle.std.proofs.lemmas.List.{at_drop_more, at_drop_all}
 use Rattle.serde_json.specs.declared.value.Value.{Value}
 use Rattle.serde_json.specs.Find.{as_str}
 use Rattle.serde_json.specs.View.{view, items_view}
-use Rattle.sorted_keys.specs.Keys.{with_key}
+use Rattle.std.specs.List.Sorted.{IsStrictlySortedBy}
+use Rattle.std.specs.Ordering.{eq_by_cmp}
+use Rattle.sorted_keys.specs.Keys.{has, with_key, set_of}
+use Rattle.sorted_keys.proofs.Order.{sorted_none}
+use Rattle.sorted_keys.proofs.KeyPlace.{sorted_with_key}
+use Rattle.sorted_keys.proofs.Members.{has-with_key, same_keys}
+use Rattle.sorted_keys.proofs.Gathered.{has-set_of, sorted_set_of}
 use Rattle.rbac_words.specs.Name.{Name, is_name, name_cmp}
+use Rattle.rbac_words.proofs.NameLemmas.{names_total, names_exact}
 use Rattle.rbac_lines.specs.Fields.{Reading, ◌>>=◌, name_of, names_of, texts_of}
 use Rattle.rbac_lines.specs.declared.refusal.LineRefusal.TheVariants.{WrongKind, BadName}
+
+-- ---- Names that are added in turn
+
+-- a set with these names added one after another
+abbrev pub added : List Name → List Name → List Name
+added set names = fold (λ s name. with_key name_cmp name s) set names
+
+sorted_added : (set names : List Name) → IsStrictlySortedBy name_cmp set → IsStrictlySortedBy name_cmp (added set names)
+sorted_added set [] sorted = sorted
+sorted_added set (name ∷ names) sorted = sorted_added (with_key name_cmp name set) names (sorted_with_key names_total name set sorted)
+
+or_first : (a b c : Bool) → (b || (a || c)) ≡ ((a || b) || c)
+or_first true true c = refl
+or_first true false c = refl
+or_first false b c = refl
+
+or_none : (b : Bool) → (b || false) ≡ b
+or_none true = refl
+or_none false = refl
+
+has-added : (set names : List Name) (q : Name) → has name_cmp q (added set names) ≡ (has name_cmp q names || has name_cmp q set)
+has-added set [] q = refl
+has-added set (name ∷ names) q =
+    has-added (with_key name_cmp name set) names q
+    ∙ ap (λ b. has name_cmp q names || b) (has-with_key names_total name set q)
+    ∙ or_first (eq_by_cmp name_cmp q name) (has name_cmp q names) (has name_cmp q set)
+
+-- names added to the empty set are the set of the names
+pub added_all : (names : List Name) → added [] names ≡ set_of name_cmp names
+added_all names =
+    same_keys names_exact names_total (added [] names) (set_of name_cmp names) (sorted_added [] names (sorted_none name_cmp)) (sorted_set_of names_total names)
+    (λ q. has-added [] names q ∙ or_none (has name_cmp q names) ∙ sym (has-set_of names_total names q))
+
+-- ---- The elements of an array
 
 -- the text of an element
 abbrev pub text_of : Value → List ℕ
 text_of value = unwrap_or (as_str (view value)) []
 
--- the names that are left to add to a set
+-- a set and the texts that are left to add to it as names
 abbrev pub names_from : List Name → List (List ℕ) → Reading (List Name)
-names_from set texts = if list_all is_name texts then Ok (fold (λ names name. with_key name_cmp name names) set texts) else Err BadName
+names_from set texts = if list_all is_name texts then Ok (added set texts) else Err BadName
 
 first_added : (set : List Name) (text : List ℕ) (texts : List (List ℕ)) (b : Bool)
-    → (if b && list_all is_name texts then Ok (fold (λ names name. with_key name_cmp name names) (with_key name_cmp text set) texts) else Err BadName) ≡ ((if b then Ok text else Err BadName) >>= λ name. names_from (with_key name_cmp name set) texts)
+    → (if b && list_all is_name texts then Ok (added (with_key name_cmp text set) texts) else Err BadName) ≡ ((if b then Ok text else Err BadName) >>= λ name. names_from (with_key name_cmp name set) texts)
 first_added set text texts true = refl
 first_added set text texts false = refl
 
@@ -58,4 +99,5 @@ names_of_others array others = rw (texts_of_array array, ← others)
 
 -- an array of texts is read from its first element on
 pub names_of_texts : (array : List Value) → true ≡ list_all (λ value. is_some (as_str (view value))) array → names_of (items_view array) ≡ names_from [] (map text_of array)
-names_of_texts array texts = rw (texts_of_array array, ← texts)
+names_of_texts array texts =
+    rw (texts_of_array array, ← texts) (ap (λ set. if list_all is_name (map text_of array) then Ok set else Err BadName) (sym (added_all (map text_of array))))

@@ -1,12 +1,12 @@
 -- What is read of a JSON object's fields. Each word answers the value, or the first refusal: MissingField where the key is
 -- not there, WrongKind where its value is of another kind, and for a name BadName where the text is no name.
 -- The keys of an object stand in no order. Where a key was given twice, the object has the last value.
-use Rattle.std.specs.Prelude.{ℕ, ◌≡◌, ◌≢◌, ◌^◌, List, [], ◌∷◌, fold, nat_lt, if◌then◌else◌, Option, Some, None, ok_or, option_map, option_and_then, Result, Ok, Err, ⊤, Bool}
+use Rattle.std.specs.Prelude.{ℕ, ◌≡◌, ◌≢◌, ◌^◌, List, [], ◌∷◌, nat_lt, if◌then◌else◌, Option, Some, None, ok_or, option_map, option_and_then, Result, Ok, Err, ⊤, Bool}
 use Rattle.std.specs.Str.{bytes_eq}
 use Rattle.std.specs.List.{list_any, list_all}
 use Rattle.serde_json.specs.Data.{Data, Items, no_items, item, Members, no_members, member}
 use Rattle.serde_json.specs.Find.{get_member, as_str, as_number, as_u64, as_array, as_object}
-use Rattle.sorted_keys.specs.Keys.{with_key}
+use Rattle.sorted_keys.specs.Keys.{set_of}
 use Rattle.rbac_words.specs.Name.{Name, is_name, name_cmp}
 use Rattle.rbac_lines.specs.declared.refusal.LineRefusal.{LineRefusal}
 use Rattle.rbac_lines.specs.declared.refusal.LineRefusal.TheVariants.{UnknownWord, MissingField, WrongKind, BadName, ExtraField, NoMemory}
@@ -88,15 +88,12 @@ abbrev pub texts_of : Items → Option (List (List ℕ))
 texts_of no_items = Some []
 texts_of (item value rest) = option_and_then (λ text. option_map (λ texts. text ∷ texts) (texts_of rest)) (as_str value)
 
--- the set of these names: each one added in turn, so that a name given twice counts once
-abbrev pub set_of : List Name → List Name
-set_of names = fold (λ set name. with_key name_cmp name set) [] names
-
--- the set of the names in an array. An element that is no text is refused before any text that is no name
+-- the set of the names in an array, where a name given twice counts once. An element that is no text is refused before
+-- any text that is no name
 abbrev pub names_of : Items → Reading (List Name)
 names_of array = do
   texts ← ok_or (texts_of array) WrongKind
-  if list_all is_name texts then Ok (set_of texts) else Err BadName
+  if list_all is_name texts then Ok (set_of name_cmp texts) else Err BadName
 
 -- the set of the names at a key
 abbrev pub names_in : List ℕ → Members → Reading (List Name)
