@@ -1,5 +1,5 @@
 //! A policy: what commands answer, and what they change.
-ghost use Rattle.std.specs.Prelude.{◌≡◌, IfOk, IfErr, OnOk, OnErr, Some, None};
+ghost use Rattle.std.specs.Prelude.{◌≡◌, ◌↔◌, IsTrue, IfOk, IfErr, OnOk, OnErr, Some, None};
 ghost use Rattle.std.specs.FinMap.Entries.{find};
 ghost use Rattle.rbac_words.specs.Name.{name_cmp};
 ghost use Rattle.rbac_words.specs.State.{founding_state};
@@ -65,11 +65,7 @@ impl Policy {
                     Answer::Refused
                 }
             }
-            Command::AddUser { .. }
-            | Command::AddRole { .. }
-            | Command::AssignUser { .. }
-            | Command::GrantPermission { .. }
-            | Command::CreateSession { .. } => Answer::Done,
+            _ => Answer::Done,
         }
     }
 
@@ -110,6 +106,13 @@ impl Policy {
         ensures { IsSound self.now }
     {
         let _tables = &self.tables;
+    }
+
+    /// Whether both policies have the same sets and the same vocabulary.
+    pub fn same(&self, other: &Policy) -> bool
+        ensures { IsTrue result ↔ (self.now ≡ other.now) }
+    {
+        self.tables.same(&other.tables) && self.vocabulary.same(&other.vocabulary)
     }
 
     /// An equal policy.

@@ -1,35 +1,21 @@
 //! The sets that commands change.
-ghost use Rattle.std.specs.Prelude.{◌≡◌, IfOk, OnOk};
+ghost use Rattle.std.specs.Prelude.{◌≡◌, ◌↔◌, IsTrue, IfOk, OnOk};
+ghost use Rattle.rbac_words.specs.Authorization.{purge};
 ghost use Rattle.rbac_words.specs.Effect.{change};
 ghost use Rattle.rbac_words.specs.Founding.{Vocabulary as VocabularyValue};
 ghost use Rattle.rbac_words.specs.State.{founding_state};
 
-use crate::session::Session;
+use crate::ending::{OwnedBy, OwnedWithActive, Unentitled, WithActive};
+use rbac_rolesets::RoleSets;
+use rbac_sessions::Sessions;
 use rbac_words::{Command, Name};
-use sorted_keys::{SortedMap, SortedSet};
 use std::alloc::{AllocError, Global};
 
-/// Users, roles, the pairs of both (UA), the granted permissions (PA) and the sessions.
+/// Users and roles with their pairs and grants, and the sessions.
 #[derive(Drop)]
 pub struct Tables {
-    pub users: SortedSet<Name>,
-    pub roles: SortedSet<Name>,
-    pub assigned: SortedSet<(Name, Name)>,
-    pub granted: SortedSet<((Name, Name), Name)>,
-    pub sessions: SortedMap<Name, Session>,
-}
-
-// A grant of its own.
-fn copied_grant(
-    alloc: Global,
-    operation: &Name,
-    object: &Name,
-    role: &Name,
-) -> Result<((Name, Name), Name), AllocError>
-    ensures { IfOk result (λ grant. grant ≡ ((operation.now, object.now), role.now)) }
-{
-    let permission = (operation.copy(alloc)?, object.copy(alloc)?);
-    Ok((permission, role.copy(alloc)?))
+    pub sets: RoleSets,
+    pub sessions: Sessions,
 }
 
 impl Tables {
@@ -40,11 +26,8 @@ impl Tables {
         ensures { (v : VocabularyValue) → state_of result v ≡ founding_state v }
     {
         Tables {
-            users: SortedSet::new(alloc),
-            roles: SortedSet::new(alloc),
-            assigned: SortedSet::new(alloc),
-            granted: SortedSet::new(alloc),
-            sessions: SortedMap::new(alloc),
+            sets: RoleSets::empty(alloc),
+            sessions: Sessions::empty(alloc),
         }
     }
 
@@ -53,12 +36,46 @@ impl Tables {
         ensures { IfOk result (λ copy. (v : VocabularyValue) → state_of copy v ≡ state_of self.now v) }
     {
         Ok(Tables {
-            users: self.users.copy(alloc)?,
-            roles: self.roles.copy(alloc)?,
-            assigned: self.assigned.copy(alloc)?,
-            granted: self.granted.copy(alloc)?,
+            sets: self.sets.copy(alloc)?,
             sessions: self.sessions.copy(alloc)?,
         })
+    }
+
+    /// Whether both have the same sets.
+    pub fn same(&self, other: &Tables) -> bool
+        ensures { IsTrue result ↔ (self.now ≡ other.now) }
+    {
+        self.sets.same(&other.sets) && self.sessions.same(&other.sessions)
+    }
+
+    // Ends the sessions that are not entitled to an active role.
+    fn purge(&mut self)
+        ensures { (v : VocabularyValue) → state_of self.new v ≡ purge (state_of self.old v) }
+    {
+        self.sessions.delete_where(&Unentitled { sets: &self.sets });
+    }
+
+    fn delete_user(&mut self, user: &Name)
+        ensures { (v : VocabularyValue) → state_of self.new v ≡ change (Command.DeleteUser user.now) (state_of self.old v) }
+    {
+        self.sets.remove_user(user);
+        self.sessions.delete_where(&OwnedBy { user });
+    }
+
+    fn delete_role(&mut self, role: &Name)
+        ensures { (v : VocabularyValue) → state_of self.new v ≡ change (Command.DeleteRole role.now) (state_of self.old v) }
+    {
+        self.sets.remove_role(role);
+        self.sessions.delete_where(&WithActive { role });
+        self.purge();
+    }
+
+    fn deassign_user(&mut self, user: &Name, role: &Name)
+        ensures { (v : VocabularyValue) → state_of self.new v ≡ change (Command.DeassignUser user.now role.now) (state_of self.old v) }
+    {
+        self.sets.deassign(user, role);
+        self.sessions.delete_where(&OwnedWithActive { user, role });
+        self.purge();
     }
 
     /// Makes the change of a command. Where memory ends, some of it may be made.
@@ -66,30 +83,42 @@ impl Tables {
         ensures { OnOk result ((v : VocabularyValue) → state_of self.new v ≡ change command.now (state_of self.old v)) }
     {
         match command {
-            Command::AddUser { user } => self.users.insert(user.copy(alloc)?),
-            Command::AddRole { role } => self.roles.insert(role.copy(alloc)?),
-            Command::AssignUser { user, role } => self
-                .assigned
-                .insert((user.copy(alloc)?, role.copy(alloc)?)),
+            Command::AddUser { user } => self.sets.add_user(user.copy(alloc)?)?,
+            Command::DeleteUser { user } => self.delete_user(user),
+            Command::AddRole { role } => self.sets.add_role(role.copy(alloc)?)?,
+            Command::DeleteRole { role } => self.delete_role(role),
+            Command::AssignUser { user, role } => {
+                self.sets.assign(user.copy(alloc)?, role.copy(alloc)?)?
+            }
+            Command::DeassignUser { user, role } => self.deassign_user(user, role),
             Command::GrantPermission {
                 operation,
                 object,
                 role,
-            } => self
-                .granted
-                .insert(copied_grant(alloc, operation, object, role)?),
+            } => self.sets.grant(
+                operation.copy(alloc)?,
+                object.copy(alloc)?,
+                role.copy(alloc)?,
+            )?,
+            Command::RevokePermission {
+                operation,
+                object,
+                role,
+            } => self.sets.revoke(operation, object, role),
             Command::CreateSession {
                 user,
                 session,
                 roles,
-            } => {
-                let opened = Session {
-                    owner: user.copy(alloc)?,
-                    active: roles.copy(alloc)?,
-                };
-                self.sessions.insert(session.copy(alloc)?, opened)
+            } => self.sessions.create(session.copy(alloc)?, user.copy(alloc)?, roles.copy(alloc)?)?,
+            Command::DeleteSession { session, .. } => self.sessions.delete(session),
+            Command::AddActiveRole { session, role, .. } => {
+                self.sessions.activate(session, role.copy(alloc)?)?
             }
-            Command::CheckAccess { .. } => Ok(()),
+            Command::DropActiveRole { session, role, .. } => {
+                self.sessions.drop_role(session, role)
+            }
+            Command::CheckAccess { .. } => {}
         }
+        Ok(())
     }
 }

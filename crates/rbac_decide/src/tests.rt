@@ -4,6 +4,9 @@ use std::alloc::Global;
 use std::process::Abort;
 use std::test::Fail;
 
+mod deletions;
+mod sessions;
+
 fn name(rt: &impl Abort, alloc: Global, text: &str) -> Name {
     Name::read(alloc, text.as_bytes()).expect(rt, "a name")
 }
@@ -89,9 +92,19 @@ fn check(rt: &impl Abort, alloc: Global, session: &str, operation: &str, object:
 }
 
 // Applies a command, and compares its answer.
-fn expect(rt: &impl Abort, alloc: Global, policy: &mut Policy, command: &Command, wanted: Answer) {
-    let answer = policy.apply(alloc, command).expect(rt, "memory");
+fn expect(rt: &impl Abort, alloc: Global, policy: &mut Policy, command: Command, wanted: Answer) {
+    let answer = policy.apply(alloc, &command).expect(rt, "memory");
     assert_eq!(rt; answer, wanted);
+}
+
+// Applies a command that is done.
+fn done(rt: &impl Abort, alloc: Global, policy: &mut Policy, command: Command) {
+    expect(rt, alloc, policy, command, Answer::Done);
+}
+
+// Applies a command that is denied for this.
+fn denied(rt: &impl Abort, alloc: Global, policy: &mut Policy, command: Command, wanted: Denial) {
+    expect(rt, alloc, policy, command, Answer::Denied(wanted));
 }
 
 // Checks an access, and compares the answer.
@@ -111,33 +124,14 @@ fn expect_check(
 // A policy in which ann, a clerk, may read ledgers.
 fn with_a_clerk(rt: &impl Abort, alloc: Global) -> Policy {
     let mut policy = founded(rt, alloc);
-    expect(
+    done(rt, alloc, &mut policy, add_user(rt, alloc, "ann"));
+    done(rt, alloc, &mut policy, add_role(rt, alloc, "clerk"));
+    done(rt, alloc, &mut policy, assign(rt, alloc, "ann", "clerk"));
+    done(
         rt,
         alloc,
         &mut policy,
-        &add_user(rt, alloc, "ann"),
-        Answer::Done,
-    );
-    expect(
-        rt,
-        alloc,
-        &mut policy,
-        &add_role(rt, alloc, "clerk"),
-        Answer::Done,
-    );
-    expect(
-        rt,
-        alloc,
-        &mut policy,
-        &assign(rt, alloc, "ann", "clerk"),
-        Answer::Done,
-    );
-    expect(
-        rt,
-        alloc,
-        &mut policy,
-        &grant(rt, alloc, "read", "ledger", "clerk"),
-        Answer::Done,
+        grant(rt, alloc, "read", "ledger", "clerk"),
     );
     policy
 }
@@ -146,19 +140,19 @@ fn with_a_clerk(rt: &impl Abort, alloc: Global) -> Policy {
 fn denies_users_and_roles_that_exist(rt: HostRuntime) {
     let alloc = rt.alloc();
     let mut policy = with_a_clerk(&rt, alloc);
-    expect(
+    denied(
         &rt,
         alloc,
         &mut policy,
-        &add_user(&rt, alloc, "ann"),
-        Answer::Denied(Denial::UserExists),
+        add_user(&rt, alloc, "ann"),
+        Denial::UserExists,
     );
-    expect(
+    denied(
         &rt,
         alloc,
         &mut policy,
-        &add_role(&rt, alloc, "clerk"),
-        Answer::Denied(Denial::RoleExists),
+        add_role(&rt, alloc, "clerk"),
+        Denial::RoleExists,
     );
 }
 
@@ -166,26 +160,26 @@ fn denies_users_and_roles_that_exist(rt: HostRuntime) {
 fn denies_assignments(rt: HostRuntime) {
     let alloc = rt.alloc();
     let mut policy = with_a_clerk(&rt, alloc);
-    expect(
+    denied(
         &rt,
         alloc,
         &mut policy,
-        &assign(&rt, alloc, "bob", "boss"),
-        Answer::Denied(Denial::NoUser),
+        assign(&rt, alloc, "bob", "boss"),
+        Denial::NoUser,
     );
-    expect(
+    denied(
         &rt,
         alloc,
         &mut policy,
-        &assign(&rt, alloc, "ann", "boss"),
-        Answer::Denied(Denial::NoRole),
+        assign(&rt, alloc, "ann", "boss"),
+        Denial::NoRole,
     );
-    expect(
+    denied(
         &rt,
         alloc,
         &mut policy,
-        &assign(&rt, alloc, "ann", "clerk"),
-        Answer::Denied(Denial::Assigned),
+        assign(&rt, alloc, "ann", "clerk"),
+        Denial::Assigned,
     );
 }
 
@@ -193,26 +187,25 @@ fn denies_assignments(rt: HostRuntime) {
 fn denies_grants(rt: HostRuntime) {
     let alloc = rt.alloc();
     let mut policy = with_a_clerk(&rt, alloc);
-    expect(
+    denied(
         &rt,
         alloc,
         &mut policy,
-        &grant(&rt, alloc, "approve", "ledger", "boss"),
-        Answer::Denied(Denial::NoPermission),
+        grant(&rt, alloc, "approve", "ledger", "boss"),
+        Denial::NoPermission,
     );
-    expect(
+    denied(
         &rt,
         alloc,
         &mut policy,
-        &grant(&rt, alloc, "read", "ledger", "boss"),
-        Answer::Denied(Denial::NoRole),
+        grant(&rt, alloc, "read", "ledger", "boss"),
+        Denial::NoRole,
     );
-    expect(
+    done(
         &rt,
         alloc,
         &mut policy,
-        &grant(&rt, alloc, "read", "ledger", "clerk"),
-        Answer::Done,
+        grant(&rt, alloc, "read", "ledger", "clerk"),
     );
 }
 
@@ -220,40 +213,33 @@ fn denies_grants(rt: HostRuntime) {
 fn creates_sessions(rt: HostRuntime) {
     let alloc = rt.alloc();
     let mut policy = with_a_clerk(&rt, alloc);
-    expect(
+    done(&rt, alloc, &mut policy, add_role(&rt, alloc, "payer"));
+    denied(
         &rt,
         alloc,
         &mut policy,
-        &add_role(&rt, alloc, "payer"),
-        Answer::Done,
+        create(&rt, alloc, "bob", "s1", &[]),
+        Denial::NoUser,
     );
-    expect(
+    denied(
         &rt,
         alloc,
         &mut policy,
-        &create(&rt, alloc, "bob", "s1", &[]),
-        Answer::Denied(Denial::NoUser),
+        create(&rt, alloc, "ann", "s1", &["clerk", "payer"]),
+        Denial::NotAuthorized,
     );
-    expect(
+    done(
         &rt,
         alloc,
         &mut policy,
-        &create(&rt, alloc, "ann", "s1", &["clerk", "payer"]),
-        Answer::Denied(Denial::NotAuthorized),
+        create(&rt, alloc, "ann", "s1", &["clerk"]),
     );
-    expect(
+    denied(
         &rt,
         alloc,
         &mut policy,
-        &create(&rt, alloc, "ann", "s1", &["clerk"]),
-        Answer::Done,
-    );
-    expect(
-        &rt,
-        alloc,
-        &mut policy,
-        &create(&rt, alloc, "ann", "s1", &["moon"]),
-        Answer::Denied(Denial::SessionExists),
+        create(&rt, alloc, "ann", "s1", &["moon"]),
+        Denial::SessionExists,
     );
 }
 
@@ -261,39 +247,37 @@ fn creates_sessions(rt: HostRuntime) {
 fn checks_by_command(rt: HostRuntime) {
     let alloc = rt.alloc();
     let mut policy = with_a_clerk(&rt, alloc);
-    expect(
+    done(
         &rt,
         alloc,
         &mut policy,
-        &create(&rt, alloc, "ann", "s1", &["clerk"]),
-        Answer::Done,
+        create(&rt, alloc, "ann", "s1", &["clerk"]),
+    );
+    done(
+        &rt,
+        alloc,
+        &mut policy,
+        create(&rt, alloc, "ann", "s2", &[]),
     );
     expect(
         &rt,
         alloc,
         &mut policy,
-        &create(&rt, alloc, "ann", "s2", &[]),
-        Answer::Done,
-    );
-    expect(
-        &rt,
-        alloc,
-        &mut policy,
-        &check(&rt, alloc, "s1", "read", "ledger"),
+        check(&rt, alloc, "s1", "read", "ledger"),
         Answer::Granted,
     );
     expect(
         &rt,
         alloc,
         &mut policy,
-        &check(&rt, alloc, "s2", "read", "ledger"),
+        check(&rt, alloc, "s2", "read", "ledger"),
         Answer::Refused,
     );
     expect(
         &rt,
         alloc,
         &mut policy,
-        &check(&rt, alloc, "s1", "pay", "ledger"),
+        check(&rt, alloc, "s1", "pay", "ledger"),
         Answer::Refused,
     );
 }
@@ -302,33 +286,32 @@ fn checks_by_command(rt: HostRuntime) {
 fn denies_checks_by_command(rt: HostRuntime) {
     let alloc = rt.alloc();
     let mut policy = with_a_clerk(&rt, alloc);
-    expect(
+    done(
         &rt,
         alloc,
         &mut policy,
-        &create(&rt, alloc, "ann", "s1", &["clerk"]),
-        Answer::Done,
+        create(&rt, alloc, "ann", "s1", &["clerk"]),
     );
-    expect(
+    denied(
         &rt,
         alloc,
         &mut policy,
-        &check(&rt, alloc, "zz", "fly", "moon"),
-        Answer::Denied(Denial::NoSession),
+        check(&rt, alloc, "zz", "fly", "moon"),
+        Denial::NoSession,
     );
-    expect(
+    denied(
         &rt,
         alloc,
         &mut policy,
-        &check(&rt, alloc, "s1", "fly", "moon"),
-        Answer::Denied(Denial::NoOperation),
+        check(&rt, alloc, "s1", "fly", "moon"),
+        Denial::NoOperation,
     );
-    expect(
+    denied(
         &rt,
         alloc,
         &mut policy,
-        &check(&rt, alloc, "s1", "read", "moon"),
-        Answer::Denied(Denial::NoObject),
+        check(&rt, alloc, "s1", "read", "moon"),
+        Denial::NoObject,
     );
 }
 
@@ -363,12 +346,11 @@ fn expect_checks(rt: &impl Abort, alloc: Global, policy: &Policy) {
 fn checks_without_a_command(rt: HostRuntime) {
     let alloc = rt.alloc();
     let mut policy = with_a_clerk(&rt, alloc);
-    expect(
+    done(
         &rt,
         alloc,
         &mut policy,
-        &create(&rt, alloc, "ann", "s1", &["clerk"]),
-        Answer::Done,
+        create(&rt, alloc, "ann", "s1", &["clerk"]),
     );
     policy.invariants();
     expect_checks(&rt, alloc, &policy);
@@ -382,27 +364,21 @@ fn stops_at_the_limit_of_roles(rt: HostRuntime) -> Result<(), Fail> {
     let mut policy = founded(&rt, alloc);
     for number in 0..1024u32 {
         let role = format!(in alloc; "r{number}")?;
-        expect(
-            &rt,
-            alloc,
-            &mut policy,
-            &add_role(&rt, alloc, role.as_str()),
-            Answer::Done,
-        );
+        done(&rt, alloc, &mut policy, add_role(&rt, alloc, role.as_str()));
     }
-    expect(
+    denied(
         &rt,
         alloc,
         &mut policy,
-        &add_role(&rt, alloc, "role"),
-        Answer::Denied(Denial::Limit),
+        add_role(&rt, alloc, "role"),
+        Denial::Limit,
     );
-    expect(
+    denied(
         &rt,
         alloc,
         &mut policy,
-        &add_role(&rt, alloc, "r1"),
-        Answer::Denied(Denial::RoleExists),
+        add_role(&rt, alloc, "r1"),
+        Denial::RoleExists,
     );
     Ok(())
 }

@@ -14,7 +14,8 @@ use Rattle.sorted_keys.proofs.Members.{has-with_key, same_keys}
 use Rattle.sorted_keys.proofs.Gathered.{has-set_of, sorted_set_of}
 use Rattle.rbac_words.specs.Name.{Name, is_name, name_cmp}
 use Rattle.rbac_words.proofs.NameLemmas.{names_total, names_exact}
-use Rattle.rbac_lines.specs.Fields.{Reading, ◌>>=◌, name_of, names_of, texts_of}
+use Rattle.rbac_lines.specs.Steps.{◌>>=◌}
+use Rattle.rbac_lines.specs.Fields.{Reading, name_of, names_of, texts_of}
 use Rattle.rbac_lines.specs.declared.refusal.LineRefusal.TheVariants.{WrongKind, BadName}
 
 -- ---- Names that are added in turn
@@ -80,18 +81,19 @@ names_from_next set array i value text answer within here is read =
 pub names_from_end : (set : List Name) (array : List Value) (i : ℕ) → length array ≤ i → names_from set (map text_of (drop i array)) ≡ Ok set
 names_from_end set array i h = at_drop_all (λ values. names_from set (map text_of values)) array i h
 
-texts_more : (found : Option (List ℕ)) (all : Bool) (texts : List (List ℕ))
-    → option_and_then (λ text. option_map (λ later. text ∷ later) (if all then Some texts else None)) found ≡ (if is_some found && all then Some (unwrap_or found [] ∷ texts) else None)
-texts_more None all texts = refl
-texts_more (Some text) true texts = refl
-texts_more (Some text) false texts = refl
+-- one more element of an array of which each has to be of one kind
+pub of_kind_more : {T : Type 0} (found : Option T) (all : Bool) (others : List T) (instead : T)
+    → option_and_then (λ first. option_map (λ later. first ∷ later) (if all then Some others else None)) found ≡ (if is_some found && all then Some (unwrap_or found instead ∷ others) else None)
+of_kind_more None all others instead = refl
+of_kind_more (Some first) true others instead = refl
+of_kind_more (Some first) false others instead = refl
 
 -- an array has texts if each element is one
 pub texts_of_array : (array : List Value) → texts_of (items_view array) ≡ (if list_all (λ value. is_some (as_str (view value))) array then Some (map text_of array) else None)
 texts_of_array [] = refl
 texts_of_array (value ∷ array) =
     ap (λ rest. option_and_then (λ text. option_map (λ later. text ∷ later) rest) (as_str (view value))) (texts_of_array array)
-    ∙ texts_more (as_str (view value)) (list_all (λ v. is_some (as_str (view v))) array) (map text_of array)
+    ∙ of_kind_more (as_str (view value)) (list_all (λ v. is_some (as_str (view v))) array) (map text_of array) []
 
 -- an array with another element is refused
 pub names_of_others : (array : List Value) → false ≡ list_all (λ value. is_some (as_str (view value))) array → names_of (items_view array) ≡ Err WrongKind

@@ -1,20 +1,13 @@
 -- Reading a line.
-use Rattle.std.proofs.Common.{◌≡◌, ◌<◌, ◌≤◌, ℕ, ◌+◌, List, length, take, Bool, true, false, Some, None, Ok, Err, nat_lt, if◌then◌else◌, refl, sym, ap, ◌∙◌, arith, IsUtf8}
+use Rattle.std.proofs.Common.{◌≡◌, ◌<◌, ◌≤◌, ℕ, ◌+◌, List, length, take, Bool, true, false, Some, None, Ok, Err, nat_lt, refl, sym, ap, ◌∙◌, arith, IsUtf8}
 use Rattle.std.specs.Option.{ok_or}
-use Rattle.std.specs.Str.{is_utf8}
-use Rattle.std.proofs.lemmas.Str.{is_utf8-from_IsUtf8, IsUtf8-from_is_utf8}
 use Rattle.std.proofs.lemmas.Grind.{common_steps}
 use Rattle.std.proofs.lemmas.List.{take_all}
 use Rattle.serde_json.specs.Data.{Data}
 use Rattle.serde_json.specs.Read.{read}
 use Rattle.rbac_lines.specs.Event.{event, json_of, value_of, longest_line}
+use Rattle.rbac_lines.proofs.Utf8Lemmas.{is_longer, is_within, parsed, not_parsed}
 use Rattle.rbac_lines.specs.declared.refusal.LineRefusal.TheVariants.{TooLong, NotJson}
-
-is_longer : (n m : ℕ) → m < n → nat_lt m n ≡ true
-is_longer n m h = grind (arith, common_steps)
-
-is_within : (n m : ℕ) → n ≤ m → nat_lt m n ≡ false
-is_within n m h = grind (arith, common_steps)
 
 pub value_of_long : (line : List ℕ) → longest_line < length line → value_of line ≡ Err TooLong
 value_of_long line long = rw (is_longer (length line) longest_line long) refl
@@ -24,15 +17,11 @@ value_of_short line short = rw (is_within (length line) longest_line short) refl
 
 -- a line of JSON has its value
 pub value_of_json : (line : List ℕ) (d : Data) → length line ≤ longest_line → IsUtf8 line → read line ≡ Some d → value_of line ≡ Ok d
-value_of_json line d short utf8 is = rw (value_of_short line short, is_utf8-from_IsUtf8 line utf8, is) refl
-
-no_json : (line : List ℕ) (b : Bool) → is_utf8 line ≡ b → (IsUtf8 line → read line ≡ None) → ok_or (if b then read line else None) NotJson ≡ Err NotJson
-no_json line true utf8 none = rw (none (IsUtf8-from_is_utf8 line utf8)) refl
-no_json line false utf8 none = refl
+value_of_json line d short utf8 is = rw (value_of_short line short, parsed read line d utf8 is) refl
 
 -- a line of anything else is no JSON
 pub value_of_other : (line : List ℕ) → length line ≤ longest_line → (IsUtf8 line → read line ≡ None) → value_of line ≡ Err NotJson
-value_of_other line short none = rw (value_of_short line short) (no_json line (is_utf8 line) refl none)
+value_of_other line short none = rw (value_of_short line short, not_parsed read line none) refl
 
 event_long : (line : List ℕ) → longest_line < length line → event line ≡ Err TooLong
 unfolding event

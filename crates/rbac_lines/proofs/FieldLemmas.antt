@@ -6,7 +6,8 @@ use Rattle.std.specs.Option.{ok_or}
 use Rattle.std.specs.Str.{bytes_eq}
 use Rattle.serde_json.specs.declared.value.Value.{Value}
 use Rattle.serde_json.specs.View.{members_view}
-use Rattle.rbac_lines.specs.Fields.{seen, keys_of, is_one_of}
+use Rattle.rbac_lines.specs.Steps.{seen}
+use Rattle.rbac_lines.specs.Fields.{keys_of, is_one_of}
 use Rattle.rbac_lines.specs.declared.refusal.LineRefusal.{LineRefusal}
 
 -- the view of a value that has to be there

@@ -1,42 +1,77 @@
 -- What command an object stands for: its name, then the fields that belong to that from left to right, then no other key.
 use Rattle.std.specs.Prelude.{ℕ, List, [], ◌∷◌, codes, Ok}
 use Rattle.serde_json.specs.Data.{Members}
+use Rattle.rbac_words.specs.Name.{Name}
 use Rattle.rbac_words.specs.declared.command.Command.{Command}
-use Rattle.rbac_words.specs.declared.command.Command.TheVariants.{AddUser, AddRole, AssignUser, GrantPermission, CreateSession, CheckAccess}
-use Rattle.rbac_lines.specs.Fields.{Reading, ◌>>=◌, ◌>>◌, text_in, name_in, names_in, only_keys, by_word}
+use Rattle.rbac_words.specs.declared.command.Command.TheVariants.{AddUser, DeleteUser, AddRole, DeleteRole, AssignUser, DeassignUser, GrantPermission, RevokePermission, CreateSession, DeleteSession, AddActiveRole, DropActiveRole, CheckAccess}
+use Rattle.rbac_lines.specs.Steps.{◌>>=◌, ◌>>◌}
+use Rattle.rbac_lines.specs.Fields.{Reading, text_in, name_in, names_in, only_keys, by_word}
 
--- AddUser: user
+-- the name at this key, where there is no other key but the command's name
+abbrev pub one_name : List ℕ → Members → Reading Name
+one_name key fields = do
+  name ← name_in key fields
+  only_keys (codes "name" ∷ key ∷ []) fields
+  Ok name
+
+-- the names at these two keys, from left to right, and no other key
+abbrev pub two_names : List ℕ → List ℕ → Members → Reading (Name × Name)
+two_names first second fields = do
+  one ← name_in first fields
+  two ← name_in second fields
+  only_keys (codes "name" ∷ first ∷ second ∷ []) fields
+  Ok (one, two)
+
+-- the names at these three keys, from left to right, and no other key
+abbrev pub three_names : List ℕ → List ℕ → List ℕ → Members → Reading (Name × Name × Name)
+three_names first second third fields = do
+  one ← name_in first fields
+  two ← name_in second fields
+  three ← name_in third fields
+  only_keys (codes "name" ∷ first ∷ second ∷ third ∷ []) fields
+  Ok (one, two, three)
+
 abbrev pub add_user : Members → Reading Command
 add_user fields = do
-  user ← name_in (codes "user") fields
-  only_keys (codes "name" ∷ codes "user" ∷ []) fields
+  user ← one_name (codes "user") fields
   Ok (AddUser user)
 
--- AddRole: role
+abbrev pub delete_user : Members → Reading Command
+delete_user fields = do
+  user ← one_name (codes "user") fields
+  Ok (DeleteUser user)
+
 abbrev pub add_role : Members → Reading Command
 add_role fields = do
-  role ← name_in (codes "role") fields
-  only_keys (codes "name" ∷ codes "role" ∷ []) fields
+  role ← one_name (codes "role") fields
   Ok (AddRole role)
 
--- AssignUser: user, role
+abbrev pub delete_role : Members → Reading Command
+delete_role fields = do
+  role ← one_name (codes "role") fields
+  Ok (DeleteRole role)
+
 abbrev pub assign_user : Members → Reading Command
 assign_user fields = do
-  user ← name_in (codes "user") fields
-  role ← name_in (codes "role") fields
-  only_keys (codes "name" ∷ codes "user" ∷ codes "role" ∷ []) fields
-  Ok (AssignUser user role)
+  names ← two_names (codes "user") (codes "role") fields
+  Ok (AssignUser names.0 names.1)
 
--- GrantPermission: operation, object, role
+abbrev pub deassign_user : Members → Reading Command
+deassign_user fields = do
+  names ← two_names (codes "user") (codes "role") fields
+  Ok (DeassignUser names.0 names.1)
+
 abbrev pub grant_permission : Members → Reading Command
 grant_permission fields = do
-  operation ← name_in (codes "operation") fields
-  object ← name_in (codes "object") fields
-  role ← name_in (codes "role") fields
-  only_keys (codes "name" ∷ codes "operation" ∷ codes "object" ∷ codes "role" ∷ []) fields
-  Ok (GrantPermission operation object role)
+  names ← three_names (codes "operation") (codes "object") (codes "role") fields
+  Ok (GrantPermission names.0 names.1 names.2)
 
--- CreateSession: user, session, and the array roles
+abbrev pub revoke_permission : Members → Reading Command
+revoke_permission fields = do
+  names ← three_names (codes "operation") (codes "object") (codes "role") fields
+  Ok (RevokePermission names.0 names.1 names.2)
+
+-- a user, a session, and the array roles
 abbrev pub create_session : Members → Reading Command
 create_session fields = do
   user ← name_in (codes "user") fields
@@ -45,23 +80,41 @@ create_session fields = do
   only_keys (codes "name" ∷ codes "user" ∷ codes "session" ∷ codes "roles" ∷ []) fields
   Ok (CreateSession user session roles)
 
--- CheckAccess: session, operation, object
+abbrev pub delete_session : Members → Reading Command
+delete_session fields = do
+  names ← two_names (codes "user") (codes "session") fields
+  Ok (DeleteSession names.0 names.1)
+
+abbrev pub add_active_role : Members → Reading Command
+add_active_role fields = do
+  names ← three_names (codes "user") (codes "session") (codes "role") fields
+  Ok (AddActiveRole names.0 names.1 names.2)
+
+abbrev pub drop_active_role : Members → Reading Command
+drop_active_role fields = do
+  names ← three_names (codes "user") (codes "session") (codes "role") fields
+  Ok (DropActiveRole names.0 names.1 names.2)
+
 abbrev pub check_access : Members → Reading Command
 check_access fields = do
-  session ← name_in (codes "session") fields
-  operation ← name_in (codes "operation") fields
-  object ← name_in (codes "object") fields
-  only_keys (codes "name" ∷ codes "session" ∷ codes "operation" ∷ codes "object" ∷ []) fields
-  Ok (CheckAccess session operation object)
+  names ← three_names (codes "session") (codes "operation") (codes "object") fields
+  Ok (CheckAccess names.0 names.1 names.2)
 
 -- the commands by their names
 abbrev pub commands_by_name : List (List ℕ × (Members → Reading Command))
 commands_by_name =
     (codes "AddUser", add_user)
+    ∷ (codes "DeleteUser", delete_user)
     ∷ (codes "AddRole", add_role)
+    ∷ (codes "DeleteRole", delete_role)
     ∷ (codes "AssignUser", assign_user)
+    ∷ (codes "DeassignUser", deassign_user)
     ∷ (codes "GrantPermission", grant_permission)
+    ∷ (codes "RevokePermission", revoke_permission)
     ∷ (codes "CreateSession", create_session)
+    ∷ (codes "DeleteSession", delete_session)
+    ∷ (codes "AddActiveRole", add_active_role)
+    ∷ (codes "DropActiveRole", drop_active_role)
     ∷ (codes "CheckAccess", check_access)
     ∷ []
 

@@ -9,7 +9,8 @@ use Rattle.serde_json.specs.Find.{as_object}
 use Rattle.rbac_words.specs.declared.event.Event.{Event}
 use Rattle.rbac_words.specs.declared.event.Event.TheVariants.{Submit, Receive, Deliver}
 use Rattle.rbac_lines.specs.declared.refusal.LineRefusal.TheVariants.{TooLong, NotJson, NotObject}
-use Rattle.rbac_lines.specs.Fields.{Reading, ◌>>=◌, ◌>>◌, whole_in, text_in, object_in, only_keys, by_word}
+use Rattle.rbac_lines.specs.Steps.{◌>>=◌, ◌>>◌}
+use Rattle.rbac_lines.specs.Fields.{Reading, whole_in, text_in, object_in, only_keys, by_word}
 use Rattle.rbac_lines.specs.Command.{command_of}
 
 -- submit: at, caller, serial, and the object command

@@ -8,6 +8,7 @@ use Rattle.serde_json.specs.Data.{Data, Items, no_items, item, Members, no_membe
 use Rattle.serde_json.specs.Find.{get_member, as_str, as_number, as_u64, as_array, as_object}
 use Rattle.sorted_keys.specs.Keys.{set_of}
 use Rattle.rbac_words.specs.Name.{Name, is_name, name_cmp}
+use Rattle.rbac_lines.specs.Steps.{◌>>=◌, ReadsBut}
 use Rattle.rbac_lines.specs.declared.refusal.LineRefusal.{LineRefusal}
 use Rattle.rbac_lines.specs.declared.refusal.LineRefusal.TheVariants.{UnknownWord, MissingField, WrongKind, BadName, ExtraField, NoMemory}
 
@@ -17,27 +18,9 @@ use Rattle.rbac_lines.specs.declared.refusal.LineRefusal.TheVariants.{UnknownWor
 abbrev pub Reading : Type 0 → Type 0
 Reading T = Result T LineRefusal
 
-infixl 10 ◌>>=◌
--- what the first step reads goes to the next; a refusal ends the reading
-abbrev pub ◌>>=◌ : {T U : Type 0} → Reading T → (T → Reading U) → Reading U
-(Ok value) >>= next = next value
-(Err refusal) >>= next = Err refusal
-
-infixl 10 ◌>>◌
--- the next step, unless the first one refuses
-abbrev pub ◌>>◌ : {T U : Type 0} → Reading T → Reading U → Reading U
-(Ok value) >> next = next
-(Err refusal) >> next = Err refusal
-
--- a reading of which a contract sees a value's view
-abbrev pub seen : {V T : Type 0} → (V → T) → Reading V → Reading T
-seen view (Ok value) = Ok (view value)
-seen view (Err refusal) = Err refusal
-
 -- what may be answered where this is to be read: just that, or that memory ran out
 abbrev pub Reads : {T : Type 0} → Reading T → Reading T → Type 0
-Reads expected (Ok value) = expected ≡ Ok value
-Reads expected (Err refusal) = refusal ≢ NoMemory → expected ≡ Err refusal
+Reads expected answer = ReadsBut NoMemory expected answer
 
 -- ---- One field
 

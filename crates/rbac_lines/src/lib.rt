@@ -8,7 +8,7 @@ pub mod refusal;
 mod running;
 pub mod text;
 
-pub use founding::{Founding, sample_founding};
+pub use founding::{Founding, FoundingRefusal, read_founding, sample_founding};
 pub use line_engine::{RunFault, Summary, Watched, watch};
 pub use rbac_world as world;
 pub use reading::read_line;

@@ -11,7 +11,7 @@ use Rattle.rbac_words.specs.World.{stamp}
 use Rattle.rbac_words.specs.declared.answer.Answer.{Answer}
 use Rattle.rbac_words.specs.declared.answer.Denial.{Denial}
 use Rattle.rbac_words.specs.declared.command.Command.{Command}
-use Rattle.rbac_words.specs.declared.command.Command.TheVariants.{AddUser, AddRole, AssignUser, GrantPermission, CreateSession, CheckAccess}
+use Rattle.rbac_words.specs.declared.command.Command.TheVariants.{AddUser, DeleteUser, AddRole, DeleteRole, AssignUser, DeassignUser, GrantPermission, RevokePermission, CreateSession, DeleteSession, AddActiveRole, DropActiveRole, CheckAccess}
 use Rattle.rbac_words.specs.declared.message.Message.{Message}
 use Rattle.rbac_words.specs.declared.message.Message.TheVariants.{Call, Ack}
 use Rattle.rbac_words.specs.declared.message.Submission.{Submission}
@@ -36,10 +36,17 @@ count_of_calls caller (Call stamp other serial command ∷ ms) = sum_by-cons (λ
 
 vocabulary-change : (c : Command) (s : State) → vocabulary_of (change c s) ≡ vocabulary_of s
 vocabulary-change (AddUser user) s = refl
+vocabulary-change (DeleteUser user) s = refl
 vocabulary-change (AddRole role) s = refl
+vocabulary-change (DeleteRole role) s = refl
 vocabulary-change (AssignUser user role) s = refl
+vocabulary-change (DeassignUser user role) s = refl
 vocabulary-change (GrantPermission operation object role) s = refl
+vocabulary-change (RevokePermission operation object role) s = refl
 vocabulary-change (CreateSession user session roles) s = refl
+vocabulary-change (DeleteSession user session) s = refl
+vocabulary-change (AddActiveRole user session role) s = refl
+vocabulary-change (DropActiveRole user session role) s = refl
 vocabulary-change (CheckAccess session operation object) s = refl
 
 -- no command changes the vocabulary

@@ -5,6 +5,7 @@ pub mod MessageLemmas
 pub mod NameLemmas
 pub mod PurgeLemmas
 pub mod ReplayLemmas
+pub mod SoundParts
 pub mod SoundLemmas
 pub mod StampLemmas
 pub mod VocabularyLemmas

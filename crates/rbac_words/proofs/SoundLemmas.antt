@@ -1,123 +1,156 @@
 -- Each command keeps a policy sound.
-use Rattle.std.proofs.Common.{ℕ, suc, List, [], ◌∷◌, length, Bool, true, false, not, cond, ◌||◌, ◌&&◌, ◌≡◌, ◌≤◌, ◌+◌, IsTrue, Option, Some, None, is_some, refl, sym, ap, ◌∙◌, subst, ⊎_elim, arith}
-use Rattle.std.proofs.lemmas.Bool.{or_cases, or_right, false≢true, leb-false, not-false}
-use Rattle.std.specs.declared.cmp.Ordering.{Ordering}
-use Rattle.std.specs.declared.cmp.Ordering.TheVariants.{Less, Equal, Greater}
-use Rattle.std.specs.List.{list_all}
-use Rattle.std.specs.Ordering.{eq_by_cmp, is_eq}
-use Rattle.std.specs.Cmp.{IsTotalOrder}
-use Rattle.std.specs.FinMap.Entries.{find, put, by_order, find-put}
-use Rattle.sorted_keys.specs.Keys.{has, with_key}
+use Rattle.std.proofs.Common.{ℕ, List, [], ◌∷◌, length, Bool, true, false, not, ◌&&◌, ◌||◌, ◌≡◌, ◌≤◌, ◌+◌, IsTrue, Option, Some, None, refl, sym, ap, ◌∙◌, subst, ⊎_elim, arith}
+use Rattle.std.proofs.lemmas.Bool.{or_cases, false≢true, leb-false, not-false}
+use Rattle.std.proofs.lemmas.List.Kept.{IsStrictlySortedBy-filter}
+use Rattle.std.specs.List.{list_all, filter, AllByRecursion as Each}
+use Rattle.std.specs.List.Sorted.{IsStrictlySortedBy}
+use Rattle.std.specs.Ordering.{eq_by_cmp}
+use Rattle.std.specs.FinMap.Entries.{find, put}
+use Rattle.sorted_keys.specs.Keys.{has, with_key, without, without_key, by_key, updated}
+use Rattle.sorted_keys.proofs.KeyPlace.{sorted_with_key}
+use Rattle.sorted_keys.proofs.EntryPlace.{sorted_put, sorted_updated}
 use Rattle.sorted_keys.proofs.Members.{has-with_key}
-use Rattle.rbac_words.specs.Name.{Name, Permission, name_cmp, pair_cmp, grant_cmp}
+use Rattle.sorted_keys.proofs.Order.{sorted_none}
+use Rattle.rbac_words.specs.Name.{Name, Permission, Grant, name_cmp, pair_cmp, grant_cmp}
+use Rattle.rbac_words.specs.Limits.{most_users, most_roles, most_sessions}
 use Rattle.rbac_words.specs.Founding.{Vocabulary, IsVocabulary}
 use Rattle.rbac_words.specs.State.{State, Session, founding_state}
+use Rattle.rbac_words.specs.Relations.{begins_with, ends_with, without_user, without_role}
 use Rattle.rbac_words.specs.Inheritance.{IsChain, Inherits}
-use Rattle.rbac_words.specs.Authorization.{IsAuthorized, is_authorized}
-use Rattle.rbac_words.specs.Rows.{Precondition, leftmost, preconditions, first_denial, is_session}
-use Rattle.rbac_words.specs.Effect.{change, effect, effect_unless}
-use Rattle.rbac_words.specs.Sound.{HasReferences, IsWithinLimits, IsSessionSound, IsSound}
+use Rattle.rbac_words.specs.Authorization.{IsAuthorized, is_authorized, is_entitled, purge}
+use Rattle.rbac_words.specs.Rows.{preconditions, first_denial, found_and}
+use Rattle.rbac_words.specs.Effect.{change, effect, effect_unless, end_sessions, ended_where, with_active, without_active}
+use Rattle.rbac_words.specs.Sound.{IsInOrder, HasReferences, IsWithinLimits, IsSessionSound, IsSound}
 use Rattle.rbac_words.specs.declared.command.Command.{Command}
-use Rattle.rbac_words.specs.declared.command.Command.TheVariants.{AddUser, AddRole, AssignUser, GrantPermission, CreateSession, CheckAccess}
+use Rattle.rbac_words.specs.declared.command.Command.TheVariants.{AddUser, DeleteUser, AddRole, DeleteRole, AssignUser, DeassignUser, GrantPermission, RevokePermission, CreateSession, DeleteSession, AddActiveRole, DropActiveRole, CheckAccess}
 use Rattle.rbac_words.specs.declared.answer.Denial.{Denial}
 use Rattle.rbac_words.proofs.NameLemmas.{names_total, names_exact, pairs_total, pairs_exact, grants_total, grants_exact, one_key, all_member}
+use Rattle.rbac_words.proofs.StampLemmas.{Each-weaker}
 use Rattle.rbac_words.proofs.AuthorizationLemmas.{is_authorized_iff}
+use Rattle.rbac_words.proofs.SoundParts.{none_fails, length-with_key-new, length-put-new, fewer, still, was_kept, is_kept, each_put, each_updated, length-updated, each_kept, within, session_stays, purged}
 
--- ---- What holds where no precondition fails
-
-abbrev NoneFails : List Precondition → Type 0
-NoneFails [] = Unit {0}
-NoneFails (p ∷ ps) = (p.fails ≡ false) × NoneFails ps
-
-none_fails : (ps : List Precondition) → leftmost ps ≡ None → NoneFails ps
-none_fails [] e = tt
-none_fails (p ∷ ps) e = go (none_fails ps) p.fails e
-  where
-    go : (leftmost ps ≡ None → NoneFails ps) → (b : Bool) → cond b (Some p.denial) (leftmost ps) ≡ None → (b ≡ false) × NoneFails ps
-    go rest true e = cc
-    go rest false e = (refl, rest e)
-
--- ---- One more key or entry
-
-module _ {K : Type 0} (R : K → K → Ordering) where
-  length-with_key-new : (k : K) (xs : List K) → has R k xs ≡ false → length (with_key R k xs) ≡ length xs + 1
-  length-with_key-new k [] e = refl
-  length-with_key-new k (x ∷ xs) e = go (R k x) e (length-with_key-new k xs)
-    where
-      go : (r : Ordering) → (is_eq r || has R k xs) ≡ false → (has R k xs ≡ false → length (with_key R k xs) ≡ length xs + 1)
-          → length (by_order r (k ∷ x ∷ xs) (x ∷ xs) (x ∷ with_key R k xs)) ≡ length (x ∷ xs) + 1
-      go Less e rest = omega arith
-      go Equal e rest = absurd (false≢true (sym e))
-      go Greater e rest = let more = rest e in omega arith
-
-  length-put-new : {X : Type 0} (k : K) (v : X) (es : List (K × X)) → is_some (find R k es) ≡ false → length (put R k v es) ≡ length es + 1
-  length-put-new k v [] e = refl
-  length-put-new {X} k v (x ∷ xs) e = go (R k x.0) e (length-put-new k v xs)
-    where
-      go : (r : Ordering) → is_some (cond (is_eq r) (Some x.1) (find R k xs)) ≡ false → (is_some (find R k xs) ≡ false → length (put R k v xs) ≡ length xs + 1)
-          → length (by_order r ((k, v) ∷ x ∷ xs) ((x.0, v) ∷ xs) (x ∷ put R k v xs)) ≡ length (x ∷ xs) + 1
-      go Less e rest = omega arith
-      go Equal e rest = absurd (false≢true (sym e))
-      go Greater e rest = let more = rest e in omega arith
-
--- what is there stays where a key is added
-still : {K : Type 0} {R : K → K → Ordering} → IsTotalOrder R → (k : K) (xs : List K) (q : K) → IsTrue (has R q xs) → IsTrue (has R q (with_key R k xs))
-still o k xs q h = has-with_key o k xs q ∙ or_right _ _ h
-
--- ---- Inheritance and authorization grow with the roles and the assignments
-
-chain_grows : (role : Name) (roles : List Name) (declared : List (Name × Name)) (r : Name) (rest : List Name) (q : Name) → IsChain roles declared r rest q → IsChain (with_key name_cmp role roles) declared r rest q
-chain_grows role roles declared r [] q c = (still names_total role roles r c.0, c.1)
-chain_grows role roles declared r (p ∷ rest) q c = (still names_total role roles r c.0, c.1, chain_grows role roles declared p rest q c.2)
-
--- the sessions of a state where users, roles and assignments are as before or more
-sessions_kept : (s t : State) → ((user : Name) → IsTrue (has name_cmp user s.users) → IsTrue (has name_cmp user t.users))
-    → ((user role : Name) → IsAuthorized s user role → IsAuthorized t user role)
-    → (session : Session) → IsSessionSound s session → IsSessionSound t session
-sessions_kept s t users authorized session h = record { owned = users session.owner h.owned; authorized = λ role m. authorized session.owner role (h.authorized role m) }
+-- ---- Users and roles
 
 sound_add_user : (user : Name) (s : State) → first_denial (AddUser user) s ≡ None → IsSound s → IsSound (change (AddUser user) s)
 sound_add_user user s none h =
     let holds = none_fails (preconditions (AddUser user) s) none in
     record {
+      in_order = record {
+        users = sorted_with_key names_total user s.users h.in_order.users;
+        roles = h.in_order.roles;
+        assigned = h.in_order.assigned;
+        granted = h.in_order.granted;
+        sessions = h.in_order.sessions;
+      };
       references = record {
         assigned = λ u r m. (still names_total user s.users u (h.references.assigned u r m).0, (h.references.assigned u r m).1);
         granted = h.references.granted;
       };
-      limits = record {
-        users = (let more = length-with_key-new name_cmp user s.users holds.0 in omega (arith, leb-false 4096 (length s.users) holds.1.0));
-        roles = h.limits.roles;
-        sessions = h.limits.sessions;
-        operations = h.limits.operations;
-        objects = h.limits.objects;
-        permissions = h.limits.permissions;
-      };
-      sessions = λ name session e. sessions_kept s (change (AddUser user) s) (still names_total user s.users) (λ u r a. a) session (h.sessions name session e);
+      limits = within h.limits (with_key name_cmp user s.users) s.roles s.assigned s.granted s.sessions
+          (let more = length-with_key-new name_cmp user s.users holds.0 in omega (arith, leb-false 4096 (length s.users) holds.1.0)) h.limits.roles h.limits.sessions;
+      sessions = Each-weaker (λ e. IsSessionSound s e.1) (λ e. IsSessionSound (change (AddUser user) s) e.1) s.sessions
+          (λ e. session_stays s (change (AddUser user) s) e.1 (still names_total user s.users e.1.owner) (λ r a. a)) h.sessions;
     }
+
+-- a user that is not the one that goes
+sound_delete_user : (user : Name) (s : State) → IsSound s → IsSound (change (DeleteUser user) s)
+sound_delete_user user s h =
+    let t : State = change (DeleteUser user) s in
+    record {
+      in_order = record {
+        users = IsStrictlySortedBy-filter _ _ _ h.in_order.users;
+        roles = h.in_order.roles;
+        assigned = IsStrictlySortedBy-filter _ _ _ h.in_order.assigned;
+        granted = h.in_order.granted;
+        sessions = IsStrictlySortedBy-filter _ _ _ h.in_order.sessions;
+      };
+      references = record {
+        assigned = λ u r m.
+            let kept = was_kept pairs_total pairs_exact (λ (p : Name × Name). not (begins_with user p)) s.assigned (u, r) m in
+            let were = h.references.assigned u r kept.1 in
+            (is_kept names_total names_exact (λ x. not (eq_by_cmp name_cmp user x)) s.users u kept.0 were.0, were.1);
+        granted = h.references.granted;
+      };
+      limits = within h.limits (without name_cmp user s.users) s.roles (without_user user s.assigned) s.granted (ended_where (λ x. eq_by_cmp name_cmp user x.owner) s.sessions)
+          (fewer _ s.users most_users h.limits.users) h.limits.roles (fewer _ s.sessions most_sessions h.limits.sessions);
+      sessions = each_kept (λ (e : Name × Session). not (eq_by_cmp name_cmp user e.1.owner)) (λ e. IsSessionSound s e.1) (λ e. IsSessionSound t e.1)
+          (λ e sound other. session_stays s t e.1
+          (is_kept names_total names_exact (λ x. not (eq_by_cmp name_cmp user x)) s.users e.1.owner other)
+          (λ r a. (a.0, is_kept pairs_total pairs_exact (λ (p : Name × Name). not (begins_with user p)) s.assigned (e.1.owner, a.0) other a.1, a.2)) sound)
+          s.sessions h.sessions;
+    }
+
+-- a chain stays where roles are added
+chain_grows : (role : Name) (roles : List Name) (declared : List (Name × Name)) (r : Name) (rest : List Name) (q : Name) → IsChain roles declared r rest q → IsChain (with_key name_cmp role roles) declared r rest q
+chain_grows role roles declared r [] q c = (still names_total role roles r c.0, c.1)
+chain_grows role roles declared r (p ∷ rest) q c = (still names_total role roles r c.0, c.1, chain_grows role roles declared p rest q c.2)
 
 sound_add_role : (role : Name) (s : State) → first_denial (AddRole role) s ≡ None → IsSound s → IsSound (change (AddRole role) s)
 sound_add_role role s none h =
     let holds = none_fails (preconditions (AddRole role) s) none in
     record {
+      in_order = record {
+        users = h.in_order.users;
+        roles = sorted_with_key names_total role s.roles h.in_order.roles;
+        assigned = h.in_order.assigned;
+        granted = h.in_order.granted;
+        sessions = h.in_order.sessions;
+      };
       references = record {
         assigned = λ u r m. ((h.references.assigned u r m).0, still names_total role s.roles r (h.references.assigned u r m).1);
         granted = λ p r m. ((h.references.granted p r m).0, still names_total role s.roles r (h.references.granted p r m).1);
       };
-      limits = record {
-        users = h.limits.users;
-        roles = (let more = length-with_key-new name_cmp role s.roles holds.0 in omega (arith, leb-false 1024 (length s.roles) holds.1.0));
-        sessions = h.limits.sessions;
-        operations = h.limits.operations;
-        objects = h.limits.objects;
-        permissions = h.limits.permissions;
-      };
-      sessions = λ name session e. sessions_kept s (change (AddRole role) s) (λ u m. m) (λ u r a. (a.0, a.1, (a.2.0, chain_grows role s.roles [] a.0 a.2.0 r a.2.1))) session (h.sessions name session e);
+      limits = within h.limits s.users (with_key name_cmp role s.roles) s.assigned s.granted s.sessions
+          h.limits.users (let more = length-with_key-new name_cmp role s.roles holds.0 in omega (arith, leb-false 1024 (length s.roles) holds.1.0)) h.limits.sessions;
+      sessions = Each-weaker (λ e. IsSessionSound s e.1) (λ e. IsSessionSound (change (AddRole role) s) e.1) s.sessions
+          (λ e. session_stays s (change (AddRole role) s) e.1 (λ m. m) (λ r a. (a.0, a.1, (a.2.0, chain_grows role s.roles [] a.0 a.2.0 r a.2.1)))) h.sessions;
     }
+
+-- owners of the sessions that are left
+owners : (ends : Session → Bool) (s : State) → Each (λ e. IsSessionSound s e.1) s.sessions → Each (λ (e : Name × Session). IsTrue (has name_cmp e.1.owner s.users)) (ended_where ends s.sessions)
+owners ends s all = each_kept (λ (e : Name × Session). not (ends e.1)) (λ e. IsSessionSound s e.1) (λ e. IsTrue (has name_cmp e.1.owner s.users)) (λ e sound _. sound.owned) s.sessions all
+
+sound_delete_role : (role : Name) (s : State) → IsSound s → IsSound (change (DeleteRole role) s)
+sound_delete_role role s h =
+    let ends : Session → Bool = λ x. has name_cmp role x.active in
+    let t : State = end_sessions ends (record s { roles = without name_cmp role s.roles; assigned = without_role role s.assigned; granted = without_role role s.granted }) in
+    record {
+      in_order = record {
+        users = h.in_order.users;
+        roles = IsStrictlySortedBy-filter _ _ _ h.in_order.roles;
+        assigned = IsStrictlySortedBy-filter _ _ _ h.in_order.assigned;
+        granted = IsStrictlySortedBy-filter _ _ _ h.in_order.granted;
+        sessions = IsStrictlySortedBy-filter _ _ _ (IsStrictlySortedBy-filter _ _ _ h.in_order.sessions);
+      };
+      references = record {
+        assigned = λ u r m.
+            let kept = was_kept pairs_total pairs_exact (λ (p : Name × Name). not (ends_with role p)) s.assigned (u, r) m in
+            let were = h.references.assigned u r kept.1 in
+            (were.0, is_kept names_total names_exact (λ x. not (eq_by_cmp name_cmp role x)) s.roles r kept.0 were.1);
+        granted = λ p r m.
+            let kept = was_kept grants_total grants_exact (λ (g : Grant). not (ends_with role g)) s.granted (p, r) m in
+            let were = h.references.granted p r kept.1 in
+            (were.0, is_kept names_total names_exact (λ x. not (eq_by_cmp name_cmp role x)) s.roles r kept.0 were.1);
+      };
+      limits = within h.limits s.users (without name_cmp role s.roles) (without_role role s.assigned) (without_role role s.granted) (purge t).sessions
+          h.limits.users (fewer _ s.roles most_roles h.limits.roles) (fewer _ t.sessions most_sessions (fewer _ s.sessions most_sessions h.limits.sessions));
+      sessions = purged t (owners ends s h.sessions);
+    }
+
+-- ---- Assignments and grants
 
 sound_assign_user : (user role : Name) (s : State) → first_denial (AssignUser user role) s ≡ None → IsSound s → IsSound (change (AssignUser user role) s)
 sound_assign_user user role s none h =
     let holds = none_fails (preconditions (AssignUser user role) s) none in
+    let t : State = change (AssignUser user role) s in
     record {
+      in_order = record {
+        users = h.in_order.users;
+        roles = h.in_order.roles;
+        assigned = sorted_with_key pairs_total (user, role) s.assigned h.in_order.assigned;
+        granted = h.in_order.granted;
+        sessions = h.in_order.sessions;
+      };
       references = record {
         assigned = λ u r m. ⊎_elim
             (λ e. let same = one_key pairs_exact (u, r) (user, role) e in
@@ -126,21 +159,44 @@ sound_assign_user user role s none h =
             (or_cases _ _ (sym (has-with_key pairs_total (user, role) s.assigned (u, r)) ∙ m));
         granted = h.references.granted;
       };
-      limits = record {
-        users = h.limits.users;
-        roles = h.limits.roles;
-        sessions = h.limits.sessions;
-        operations = h.limits.operations;
-        objects = h.limits.objects;
-        permissions = h.limits.permissions;
+      limits = within h.limits s.users s.roles t.assigned s.granted s.sessions h.limits.users h.limits.roles h.limits.sessions;
+      sessions = Each-weaker (λ e. IsSessionSound s e.1) (λ e. IsSessionSound t e.1) s.sessions
+          (λ e. session_stays s t e.1 (λ m. m) (λ r a. (a.0, still pairs_total (user, role) s.assigned (e.1.owner, a.0) a.1, a.2))) h.sessions;
+    }
+
+sound_deassign_user : (user role : Name) (s : State) → IsSound s → IsSound (change (DeassignUser user role) s)
+sound_deassign_user user role s h =
+    let ends : Session → Bool = λ x. eq_by_cmp name_cmp user x.owner && has name_cmp role x.active in
+    let t : State = end_sessions ends (record s { assigned = without pair_cmp (user, role) s.assigned }) in
+    record {
+      in_order = record {
+        users = h.in_order.users;
+        roles = h.in_order.roles;
+        assigned = IsStrictlySortedBy-filter _ _ _ h.in_order.assigned;
+        granted = h.in_order.granted;
+        sessions = IsStrictlySortedBy-filter _ _ _ (IsStrictlySortedBy-filter _ _ _ h.in_order.sessions);
       };
-      sessions = λ name session e. sessions_kept s (change (AssignUser user role) s) (λ u m. m) (λ u r a. (a.0, still pairs_total (user, role) s.assigned (u, a.0) a.1, a.2)) session (h.sessions name session e);
+      references = record {
+        assigned = λ u r m. h.references.assigned u r (was_kept pairs_total pairs_exact (λ p. not (eq_by_cmp pair_cmp (user, role) p)) s.assigned (u, r) m).1;
+        granted = h.references.granted;
+      };
+      limits = within h.limits s.users s.roles t.assigned s.granted (purge t).sessions
+          h.limits.users h.limits.roles (fewer _ t.sessions most_sessions (fewer _ s.sessions most_sessions h.limits.sessions));
+      sessions = purged t (owners ends s h.sessions);
     }
 
 sound_grant_permission : (operation object role : Name) (s : State) → first_denial (GrantPermission operation object role) s ≡ None → IsSound s → IsSound (change (GrantPermission operation object role) s)
 sound_grant_permission operation object role s none h =
     let holds = none_fails (preconditions (GrantPermission operation object role) s) none in
+    let t : State = change (GrantPermission operation object role) s in
     record {
+      in_order = record {
+        users = h.in_order.users;
+        roles = h.in_order.roles;
+        assigned = h.in_order.assigned;
+        granted = sorted_with_key grants_total ((operation, object), role) s.granted h.in_order.granted;
+        sessions = h.in_order.sessions;
+      };
       references = record {
         assigned = h.references.assigned;
         granted = λ p r m. ⊎_elim
@@ -149,53 +205,117 @@ sound_grant_permission operation object role s none h =
             (h.references.granted p r)
             (or_cases _ _ (sym (has-with_key grants_total ((operation, object), role) s.granted (p, r)) ∙ m));
       };
-      limits = record {
-        users = h.limits.users;
-        roles = h.limits.roles;
-        sessions = h.limits.sessions;
-        operations = h.limits.operations;
-        objects = h.limits.objects;
-        permissions = h.limits.permissions;
-      };
-      sessions = λ name session e. sessions_kept s (change (GrantPermission operation object role) s) (λ u m. m) (λ u r a. a) session (h.sessions name session e);
+      limits = within h.limits s.users s.roles s.assigned t.granted s.sessions h.limits.users h.limits.roles h.limits.sessions;
+      sessions = Each-weaker (λ e. IsSessionSound s e.1) (λ e. IsSessionSound t e.1) s.sessions (λ e. session_stays s t e.1 (λ m. m) (λ r a. a)) h.sessions;
     }
 
--- what is found after a session was put is that session or one from before
-found_either : (b : Bool) (x y : Session) (o : Option Session) → cond b (Some x) o ≡ Some y → (P : Session → Type 0) → P x → ((z : Session) → o ≡ Some z → P z) → P y
-found_either true x y o e P here before = subst P (let f : x ≡ y = cc in f) here
-found_either false x y o e P here before = before y e
+sound_revoke_permission : (operation object role : Name) (s : State) → IsSound s → IsSound (change (RevokePermission operation object role) s)
+sound_revoke_permission operation object role s h =
+    let t : State = change (RevokePermission operation object role) s in
+    record {
+      in_order = record {
+        users = h.in_order.users;
+        roles = h.in_order.roles;
+        assigned = h.in_order.assigned;
+        granted = IsStrictlySortedBy-filter _ _ _ h.in_order.granted;
+        sessions = h.in_order.sessions;
+      };
+      references = record {
+        assigned = h.references.assigned;
+        granted = λ p r m. h.references.granted p r (was_kept grants_total grants_exact (λ g. not (eq_by_cmp grant_cmp ((operation, object), role) g)) s.granted (p, r) m).1;
+      };
+      limits = within h.limits s.users s.roles s.assigned t.granted s.sessions h.limits.users h.limits.roles h.limits.sessions;
+      sessions = Each-weaker (λ e. IsSessionSound s e.1) (λ e. IsSessionSound t e.1) s.sessions (λ e. session_stays s t e.1 (λ m. m) (λ r a. a)) h.sessions;
+    }
+
+-- ---- Sessions
+
+-- a state with other sessions, each of which is sound in the old state
+with_sessions : (s : State) (sessions : List (Name × Session)) → IsSound s → IsStrictlySortedBy (by_key name_cmp) sessions → length sessions ≤ most_sessions
+    → Each (λ e. IsSessionSound s e.1) sessions → IsSound (record s { sessions = sessions })
+with_sessions s sessions h sorted few all =
+    let t : State = record s { sessions = sessions } in
+    record {
+      in_order = record {
+        users = h.in_order.users;
+        roles = h.in_order.roles;
+        assigned = h.in_order.assigned;
+        granted = h.in_order.granted;
+        sessions = sorted;
+      };
+      references = record { assigned = h.references.assigned; granted = h.references.granted };
+      limits = within h.limits s.users s.roles s.assigned s.granted sessions h.limits.users h.limits.roles few;
+      sessions = Each-weaker (λ e. IsSessionSound s e.1) (λ e. IsSessionSound t e.1) sessions (λ e. session_stays s t e.1 (λ m. m) (λ r a. a)) all;
+    }
 
 sound_create_session : (user name : Name) (roles : List Name) (s : State) → first_denial (CreateSession user name roles) s ≡ None → IsSound s → IsSound (change (CreateSession user name roles) s)
 sound_create_session user name roles s none h =
     let holds = none_fails (preconditions (CreateSession user name roles) s) none in
-    let t : State = change (CreateSession user name roles) s in
-    record {
-      references = record { assigned = h.references.assigned; granted = h.references.granted };
-      limits = record {
-        users = h.limits.users;
-        roles = h.limits.roles;
-        sessions = (let more = length-put-new name_cmp name (let x : Session = record { owner = user; active = roles } in x) s.sessions holds.1.0 in omega (arith, leb-false 8192 (length s.sessions) holds.1.1.1.0));
-        operations = h.limits.operations;
-        objects = h.limits.objects;
-        permissions = h.limits.permissions;
-      };
-      sessions = λ other session e.
-          found_either (eq_by_cmp name_cmp other name) (record { owner = user; active = roles }) session (find name_cmp other s.sessions)
-          (sym (find-put name_cmp names_total other name (record { owner = user; active = roles }) s.sessions) ∙ e)
-          (λ x. IsSessionSound t x)
-          (record {
-            owned = not-false _ holds.0;
-            authorized = λ role m. (is_authorized_iff s user role).0 (all_member names_total names_exact (is_authorized s user) roles role (not-false _ holds.1.1.0) m);
-          })
-          (λ z f. let kept = h.sessions other z f in record { owned = kept.owned; authorized = kept.authorized });
-    }
+    let opened : Session = record { owner = user; active = roles } in
+    with_sessions s (put name_cmp name opened s.sessions) h
+    (sorted_put names_total name opened s.sessions h.in_order.sessions)
+    (let more = length-put-new name_cmp name opened s.sessions holds.1.0 in omega (arith, leb-false 8192 (length s.sessions) holds.1.1.1.0))
+    (each_put name_cmp (IsSessionSound s) name opened s.sessions
+    (record {
+      owned = not-false _ holds.0;
+      authorized = λ role m. (is_authorized_iff s user role).0 (all_member names_total names_exact (is_authorized s user) roles role (not-false _ holds.1.1.0) m);
+    })
+    h.sessions)
+
+sound_delete_session : (name : Name) (s : State) → IsSound s → IsSound (record s { sessions = without_key name_cmp name s.sessions })
+sound_delete_session name s h =
+    with_sessions s (without_key name_cmp name s.sessions) h
+    (IsStrictlySortedBy-filter _ _ _ h.in_order.sessions)
+    (fewer _ s.sessions most_sessions h.limits.sessions)
+    (each_kept _ (λ e. IsSessionSound s e.1) (λ e. IsSessionSound s e.1) (λ e sound _. sound) s.sessions h.sessions)
+
+-- a session is changed, and stays sound
+sound_update : (name : Name) (f : Session → Session) (s : State) → ((x : Session) → find name_cmp name s.sessions ≡ Some x → IsSessionSound s x → IsSessionSound s (f x)) → IsSound s
+    → IsSound (record s { sessions = updated name_cmp name f s.sessions })
+sound_update name f s keeps h =
+    with_sessions s (updated name_cmp name f s.sessions) h
+    (sorted_updated names_total name f s.sessions h.in_order.sessions)
+    (subst (λ n. n ≤ most_sessions) (sym (length-updated names_total name f s.sessions h.in_order.sessions)) h.limits.sessions)
+    (each_updated name_cmp (IsSessionSound s) name f s.sessions keeps h.sessions)
+
+sound_add_active_role : (user name role : Name) (s : State) → first_denial (AddActiveRole user name role) s ≡ None → IsSound s → IsSound (change (AddActiveRole user name role) s)
+sound_add_active_role user name role s none h =
+    let holds = none_fails (preconditions (AddActiveRole user name role) s) none in
+    sound_update name (with_active role) s
+    (λ x found sound. record {
+      owned = sound.owned;
+      authorized = λ r m. ⊎_elim
+          (λ e. let owner = one_key names_exact user x.owner (sym (ap (found_and (λ y. eq_by_cmp name_cmp user y.owner)) found) ∙ not-false _ holds.1.1.1.0) in
+          subst (λ o. IsAuthorized s o r) owner (subst (IsAuthorized s user) (sym (one_key names_exact r role e)) ((is_authorized_iff s user role).0 (not-false _ holds.1.1.1.1.0))))
+          (sound.authorized r)
+          (or_cases _ _ (sym (has-with_key names_total role x.active r) ∙ m));
+    })
+    h
+
+sound_drop_active_role : (name role : Name) (s : State) → IsSound s → IsSound (record s { sessions = updated name_cmp name (without_active role) s.sessions })
+sound_drop_active_role name role s h =
+    sound_update name (without_active role) s
+    (λ x found sound. record {
+      owned = sound.owned;
+      authorized = λ r m. sound.authorized r (was_kept names_total names_exact (λ y. not (eq_by_cmp name_cmp role y)) x.active r m).1;
+    })
+    h
+
+-- ---- Each command
 
 sound_change : (c : Command) (s : State) → first_denial c s ≡ None → IsSound s → IsSound (change c s)
 sound_change (AddUser user) s none h = sound_add_user user s none h
+sound_change (DeleteUser user) s none h = sound_delete_user user s h
 sound_change (AddRole role) s none h = sound_add_role role s none h
+sound_change (DeleteRole role) s none h = sound_delete_role role s h
 sound_change (AssignUser user role) s none h = sound_assign_user user role s none h
+sound_change (DeassignUser user role) s none h = sound_deassign_user user role s h
 sound_change (GrantPermission operation object role) s none h = sound_grant_permission operation object role s none h
+sound_change (RevokePermission operation object role) s none h = sound_revoke_permission operation object role s h
 sound_change (CreateSession user session roles) s none h = sound_create_session user session roles s none h
+sound_change (DeleteSession user session) s none h = sound_delete_session session s h
+sound_change (AddActiveRole user session role) s none h = sound_add_active_role user session role s none h
+sound_change (DropActiveRole user session role) s none h = sound_drop_active_role session role s h
 sound_change (CheckAccess session operation object) s none h = h
 
 pub sound_effect : (c : Command) (s : State) → IsSound s → IsSound (effect c s)
@@ -208,6 +328,13 @@ sound_effect c s h = go (first_denial c s) refl
 -- the founding state of a vocabulary is sound
 pub sound_founding : (v : Vocabulary) → IsVocabulary v → IsSound (founding_state v)
 sound_founding v h = record {
+  in_order = record {
+    users = sorted_none name_cmp;
+    roles = sorted_none name_cmp;
+    assigned = sorted_none pair_cmp;
+    granted = sorted_none grant_cmp;
+    sessions = sorted_none (by_key name_cmp);
+  };
   references = record { assigned = λ user role m. absurd (false≢true m); granted = λ permission role m. absurd (false≢true m) };
   limits = record {
     users = omega arith;
@@ -217,5 +344,5 @@ sound_founding v h = record {
     objects = h.few_objects;
     permissions = h.few_permissions;
   };
-  sessions = λ name session e. let f : None ≡ Some session = e in absurd (let g : ⊥ = cc in g);
+  sessions = tt;
 }

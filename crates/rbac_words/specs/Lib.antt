@@ -8,6 +8,7 @@ pub mod Inheritance
 pub mod Limits
 pub mod Message
 pub mod Name
+pub mod Relations
 pub mod Replay
 pub mod Right
 pub mod Rows

@@ -1,16 +1,17 @@
 -- The preconditions of each command, in order, and the first that fails.
-use Rattle.std.specs.Prelude.{ℕ, List, [], ◌∷◌, Bool, not, if◌then◌else◌, nat_le, length, Option, Some, None, is_some}
+use Rattle.std.specs.Prelude.{ℕ, List, [], ◌∷◌, Bool, false, not, if◌then◌else◌, nat_le, length, Option, Some, None, is_some}
 use Rattle.std.specs.List.{list_all}
 use Rattle.std.specs.FinMap.Entries.{find}
+use Rattle.std.specs.Ordering.{eq_by_cmp}
 use Rattle.sorted_keys.specs.Keys.{has}
-use Rattle.rbac_words.specs.Name.{Name, name_cmp, pair_cmp}
+use Rattle.rbac_words.specs.Name.{Name, name_cmp, pair_cmp, grant_cmp}
 use Rattle.rbac_words.specs.Limits.{most_users, most_roles, most_sessions}
 use Rattle.rbac_words.specs.State.{State, Session}
 use Rattle.rbac_words.specs.Authorization.{is_authorized}
 use Rattle.rbac_words.specs.declared.command.Command.{Command}
-use Rattle.rbac_words.specs.declared.command.Command.TheVariants.{AddUser, AddRole, AssignUser, GrantPermission, CreateSession, CheckAccess}
+use Rattle.rbac_words.specs.declared.command.Command.TheVariants.{AddUser, DeleteUser, AddRole, DeleteRole, AssignUser, DeassignUser, GrantPermission, RevokePermission, CreateSession, DeleteSession, AddActiveRole, DropActiveRole, CheckAccess}
 use Rattle.rbac_words.specs.declared.answer.Denial.{Denial}
-use Rattle.rbac_words.specs.declared.answer.Denial.TheVariants.{UserExists, NoUser, RoleExists, NoRole, Assigned, NoPermission, SessionExists, NoSession, NotAuthorized, Limit, NoOperation, NoObject}
+use Rattle.rbac_words.specs.declared.answer.Denial.TheVariants.{UserExists, NoUser, RoleExists, NoRole, Assigned, NotAssigned, NoPermission, NotGranted, SessionExists, NoSession, NotOwner, NotAuthorized, RoleActive, RoleNotActive, Limit, NoOperation, NoObject}
 
 -- a precondition: the denial that names it, and whether it fails
 pub record Precondition : Type 0 where
@@ -30,6 +31,19 @@ leftmost (p ∷ ps) = if p.fails then Some p.denial else leftmost ps
 abbrev pub is_session : State → Name → Bool
 is_session s session = is_some (find name_cmp session s.sessions)
 
+-- whether there is the session, and this is so of it
+abbrev pub found_and : (Session → Bool) → Option Session → Bool
+found_and test None = false
+found_and test (Some session) = test session
+
+-- whether the session is the user's
+abbrev pub is_owner : State → Name → Name → Bool
+is_owner s session user = found_and (λ x. eq_by_cmp name_cmp user x.owner) (find name_cmp session s.sessions)
+
+-- whether the role is active in the session
+abbrev pub is_active : State → Name → Name → Bool
+is_active s session role = found_and (λ x. has name_cmp role x.active) (find name_cmp session s.sessions)
+
 -- the preconditions of a command, from left to right (ANSI INCITS 359-2004, 6.1.1 and 6.1.2; their names, their order
 -- and the limits are this project's own)
 abbrev pub preconditions : Command → State → List Precondition
@@ -37,24 +51,60 @@ preconditions (AddUser user) s =
     (UserExists when has name_cmp user s.users)
     ∷ (Limit when nat_le most_users (length s.users))
     ∷ []
+preconditions (DeleteUser user) s =
+    (NoUser when not (has name_cmp user s.users))
+    ∷ []
 preconditions (AddRole role) s =
     (RoleExists when has name_cmp role s.roles)
     ∷ (Limit when nat_le most_roles (length s.roles))
+    ∷ []
+preconditions (DeleteRole role) s =
+    (NoRole when not (has name_cmp role s.roles))
     ∷ []
 preconditions (AssignUser user role) s =
     (NoUser when not (has name_cmp user s.users))
     ∷ (NoRole when not (has name_cmp role s.roles))
     ∷ (Assigned when has pair_cmp (user, role) s.assigned)
     ∷ []
+preconditions (DeassignUser user role) s =
+    (NoUser when not (has name_cmp user s.users))
+    ∷ (NoRole when not (has name_cmp role s.roles))
+    ∷ (NotAssigned when not (has pair_cmp (user, role) s.assigned))
+    ∷ []
 preconditions (GrantPermission operation object role) s =
     (NoPermission when not (has pair_cmp (operation, object) s.permissions))
     ∷ (NoRole when not (has name_cmp role s.roles))
+    ∷ []
+preconditions (RevokePermission operation object role) s =
+    (NoPermission when not (has pair_cmp (operation, object) s.permissions))
+    ∷ (NoRole when not (has name_cmp role s.roles))
+    ∷ (NotGranted when not (has grant_cmp ((operation, object), role) s.granted))
     ∷ []
 preconditions (CreateSession user session roles) s =
     (NoUser when not (has name_cmp user s.users))
     ∷ (SessionExists when is_session s session)
     ∷ (NotAuthorized when not (list_all (is_authorized s user) roles))
     ∷ (Limit when nat_le most_sessions (length s.sessions))
+    ∷ []
+preconditions (DeleteSession user session) s =
+    (NoUser when not (has name_cmp user s.users))
+    ∷ (NoSession when not (is_session s session))
+    ∷ (NotOwner when not (is_owner s session user))
+    ∷ []
+preconditions (AddActiveRole user session role) s =
+    (NoUser when not (has name_cmp user s.users))
+    ∷ (NoSession when not (is_session s session))
+    ∷ (NoRole when not (has name_cmp role s.roles))
+    ∷ (NotOwner when not (is_owner s session user))
+    ∷ (NotAuthorized when not (is_authorized s user role))
+    ∷ (RoleActive when is_active s session role)
+    ∷ []
+preconditions (DropActiveRole user session role) s =
+    (NoUser when not (has name_cmp user s.users))
+    ∷ (NoSession when not (is_session s session))
+    ∷ (NoRole when not (has name_cmp role s.roles))
+    ∷ (NotOwner when not (is_owner s session user))
+    ∷ (RoleNotActive when not (is_active s session role))
     ∷ []
 preconditions (CheckAccess session operation object) s =
     (NoSession when not (is_session s session))

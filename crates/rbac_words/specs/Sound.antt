@@ -1,11 +1,20 @@
 -- What holds of each policy, whatever commands it was given.
-use Rattle.std.specs.Prelude.{ℕ, ◌≡◌, ◌≤◌, List, length, IsTrue, Some}
-use Rattle.std.specs.FinMap.Entries.{find}
-use Rattle.sorted_keys.specs.Keys.{has}
+use Rattle.std.specs.Prelude.{ℕ, ◌≡◌, ◌≤◌, List, length, IsTrue}
+use Rattle.std.specs.List.{AllByRecursion as Each}
+use Rattle.std.specs.List.Sorted.{IsStrictlySortedBy}
+use Rattle.sorted_keys.specs.Keys.{has, by_key}
 use Rattle.rbac_words.specs.Name.{Name, Permission, name_cmp, pair_cmp, grant_cmp}
 use Rattle.rbac_words.specs.Limits.{most_users, most_roles, most_sessions, most_operations, most_objects, most_permissions}
 use Rattle.rbac_words.specs.State.{State, Session}
 use Rattle.rbac_words.specs.Authorization.{IsAuthorized}
+
+-- each set is a sorted list without repeats
+pub record IsInOrder (s : State) : Type 0 where
+  pub users : IsStrictlySortedBy name_cmp s.users
+  pub roles : IsStrictlySortedBy name_cmp s.roles
+  pub assigned : IsStrictlySortedBy pair_cmp s.assigned
+  pub granted : IsStrictlySortedBy grant_cmp s.granted
+  pub sessions : IsStrictlySortedBy (by_key name_cmp) s.sessions
 
 -- assignments and grants are between what exists
 pub record HasReferences (s : State) : Type 0 where
@@ -27,6 +36,7 @@ pub record IsSessionSound (s : State) (session : Session) : Type 0 where
   pub authorized : (role : Name) → IsTrue (has name_cmp role session.active) → IsAuthorized s session.owner role
 
 pub record IsSound (s : State) : Type 0 where
+  pub in_order : IsInOrder s
   pub references : HasReferences s
   pub limits : IsWithinLimits s
-  pub sessions : (name : Name) (session : Session) → find name_cmp name s.sessions ≡ Some session → IsSessionSound s session
+  pub sessions : Each (λ e. IsSessionSound s e.1) s.sessions

@@ -11,10 +11,20 @@ pub enum Command {
     AddUser {
         user: Name,
     },
+    DeleteUser {
+        user: Name,
+    },
     AddRole {
         role: Name,
     },
+    DeleteRole {
+        role: Name,
+    },
     AssignUser {
+        user: Name,
+        role: Name,
+    },
+    DeassignUser {
         user: Name,
         role: Name,
     },
@@ -23,10 +33,29 @@ pub enum Command {
         object: Name,
         role: Name,
     },
+    RevokePermission {
+        operation: Name,
+        object: Name,
+        role: Name,
+    },
     CreateSession {
         user: Name,
         session: Name,
         roles: NameSet,
+    },
+    DeleteSession {
+        user: Name,
+        session: Name,
+    },
+    AddActiveRole {
+        user: Name,
+        session: Name,
+        role: Name,
+    },
+    DropActiveRole {
+        user: Name,
+        session: Name,
+        role: Name,
     },
     CheckAccess {
         session: Name,
@@ -44,10 +73,20 @@ impl Command {
             Command::AddUser { user } => Ok(Command::AddUser {
                 user: user.copy(alloc)?,
             }),
+            Command::DeleteUser { user } => Ok(Command::DeleteUser {
+                user: user.copy(alloc)?,
+            }),
             Command::AddRole { role } => Ok(Command::AddRole {
                 role: role.copy(alloc)?,
             }),
+            Command::DeleteRole { role } => Ok(Command::DeleteRole {
+                role: role.copy(alloc)?,
+            }),
             Command::AssignUser { user, role } => Ok(Command::AssignUser {
+                user: user.copy(alloc)?,
+                role: role.copy(alloc)?,
+            }),
+            Command::DeassignUser { user, role } => Ok(Command::DeassignUser {
                 user: user.copy(alloc)?,
                 role: role.copy(alloc)?,
             }),
@@ -60,6 +99,15 @@ impl Command {
                 object: object.copy(alloc)?,
                 role: role.copy(alloc)?,
             }),
+            Command::RevokePermission {
+                operation,
+                object,
+                role,
+            } => Ok(Command::RevokePermission {
+                operation: operation.copy(alloc)?,
+                object: object.copy(alloc)?,
+                role: role.copy(alloc)?,
+            }),
             Command::CreateSession {
                 user,
                 session,
@@ -68,6 +116,28 @@ impl Command {
                 user: user.copy(alloc)?,
                 session: session.copy(alloc)?,
                 roles: roles.copy(alloc)?,
+            }),
+            Command::DeleteSession { user, session } => Ok(Command::DeleteSession {
+                user: user.copy(alloc)?,
+                session: session.copy(alloc)?,
+            }),
+            Command::AddActiveRole {
+                user,
+                session,
+                role,
+            } => Ok(Command::AddActiveRole {
+                user: user.copy(alloc)?,
+                session: session.copy(alloc)?,
+                role: role.copy(alloc)?,
+            }),
+            Command::DropActiveRole {
+                user,
+                session,
+                role,
+            } => Ok(Command::DropActiveRole {
+                user: user.copy(alloc)?,
+                session: session.copy(alloc)?,
+                role: role.copy(alloc)?,
             }),
             Command::CheckAccess {
                 session,

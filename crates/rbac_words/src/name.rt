@@ -3,7 +3,7 @@ ghost use Rattle.std.specs.Prelude.{◌≡◌, ◌↔◌, IsTrue, IfOk, false};
 ghost use Rattle.std.specs.List.{list_all};
 ghost use Rattle.rbac_words.specs.Name.{is_name_byte as is_byte_of_a_name, is_name as is_a_name};
 
-use sorted_keys::{Duplicate, Exact};
+use sorted_keys::{Duplicate, Exact, Same};
 use std::alloc::{AllocError, Global};
 use std::cmp::Ordering;
 use std::marker::Model;
@@ -150,5 +150,11 @@ impl Exact for Name {
 impl Duplicate for Name {
     fn duplicate(&self, alloc: Global) -> Result<Name, AllocError> {
         self.copy(alloc)
+    }
+}
+
+impl Same for Name {
+    fn same(&self, other: &Name) -> bool {
+        self == other
     }
 }

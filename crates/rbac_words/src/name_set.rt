@@ -5,7 +5,7 @@ ghost use Rattle.sorted_keys.specs.Keys.{has, with_key, without};
 ghost use Rattle.rbac_words.specs.Name.{name_cmp};
 
 use crate::name::Name;
-use sorted_keys::{Duplicate, SortedSet};
+use sorted_keys::{Duplicate, Same, SortedSet};
 use std::alloc::{AllocError, Global};
 use std::marker::Model;
 
@@ -91,5 +91,11 @@ impl NameSet {
 impl Duplicate for NameSet {
     fn duplicate(&self, alloc: Global) -> Result<NameSet, AllocError> {
         self.copy(alloc)
+    }
+}
+
+impl Same for NameSet {
+    fn same(&self, other: &NameSet) -> bool {
+        self.names.same(&other.names)
     }
 }

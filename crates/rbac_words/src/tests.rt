@@ -3,9 +3,14 @@ use crate::{
     Answer, Command, Denial, Group, GroupRefusal, Message, Name, NameRefusal, NameSet, Record,
     Stamp, Vocabulary, VocabularyRefusal,
 };
+use sorted_keys::Same;
 use std::alloc::Global;
 use std::process::Abort;
 use std::test::Fail;
+
+mod commands;
+
+use commands::{grant, is_same};
 
 fn name(rt: &impl Abort, alloc: Global, text: &str) -> Name {
     Name::read(alloc, text.as_bytes()).expect(rt, "a name")
@@ -99,101 +104,6 @@ fn a_set_of_names(rt: HostRuntime) -> Result<(), Fail> {
     set.remove(&name(&rt, alloc, "boss"));
     assert_names(&rt, set.names(), &["Boss", "clerk"]);
     assert_names(&rt, copy.names(), &["Boss", "auditor", "clerk"]);
-    Ok(())
-}
-
-// The kind of a command and its names.
-fn fields(command: &Command) -> [&[u8]; 4] {
-    match command {
-        Command::AddUser { user } => [b"AddUser", user.as_bytes(), b"", b""],
-        Command::AddRole { role } => [b"AddRole", role.as_bytes(), b"", b""],
-        Command::AssignUser { user, role } => [
-            b"AssignUser",
-            user.as_bytes(),
-            role.as_bytes(),
-            b"",
-        ],
-        Command::GrantPermission {
-            operation,
-            object,
-            role,
-        } => {
-            [
-                b"GrantPermission",
-                operation.as_bytes(),
-                object.as_bytes(),
-                role.as_bytes(),
-            ]
-        }
-        Command::CreateSession { user, session, .. } => {
-            [b"CreateSession", user.as_bytes(), session.as_bytes(), b""]
-        }
-        Command::CheckAccess {
-            session,
-            operation,
-            object,
-        } => {
-            [
-                b"CheckAccess",
-                session.as_bytes(),
-                operation.as_bytes(),
-                object.as_bytes(),
-            ]
-        }
-    }
-}
-
-fn roles(command: &Command) -> &[Name] {
-    match command {
-        Command::CreateSession { roles, .. } => roles.names(),
-        _ => &[],
-    }
-}
-
-fn is_same(command: &Command, other: &Command) -> bool {
-    fields(command) == fields(other) && roles(command) == roles(other)
-}
-
-fn grant(rt: &impl Abort, alloc: Global) -> Command {
-    Command::GrantPermission {
-        operation: name(rt, alloc, "read"),
-        object: name(rt, alloc, "ledger"),
-        role: name(rt, alloc, "clerk"),
-    }
-}
-
-#[test]
-fn a_copy_is_the_same_command(rt: HostRuntime) -> Result<(), Fail> {
-    let alloc = rt.alloc();
-    let ann = || name(&rt, alloc, "ann");
-    let clerk = || name(&rt, alloc, "clerk");
-    for command in [
-        Command::AddUser { user: ann() },
-        Command::AddRole { role: clerk() },
-        Command::AssignUser {
-            user: ann(),
-            role: clerk(),
-        },
-        grant(&rt, alloc),
-        Command::CreateSession {
-            user: ann(),
-            session: name(&rt, alloc, "s1"),
-            roles: set(&rt, alloc, &["payer", "clerk"]),
-        },
-        Command::CheckAccess {
-            session: name(&rt, alloc, "s1"),
-            operation: name(&rt, alloc, "pay"),
-            object: name(&rt, alloc, "invoice"),
-        },
-    ] {
-        assert!(rt; is_same(&command.copy(alloc)?, &command));
-    }
-    assert!(rt;
-        !is_same(
-            &Command::AddUser { user: ann() },
-            &Command::AddUser { user: clerk() }
-        )
-    );
     Ok(())
 }
 
@@ -484,4 +394,32 @@ fn stamps_are_ordered_by_clock_and_member(rt: HostRuntime) {
             assert_eq!(rt; stamp.is_before(other), i < j);
         }
     }
+}
+
+#[test]
+fn equal_names_are_the_same(rt: HostRuntime) -> Result<(), Fail> {
+    let alloc = rt.alloc();
+    let clerk = name(&rt, alloc, "clerk");
+    assert!(rt; clerk.same(&clerk.copy(alloc)?));
+    assert!(rt; !clerk.same(&name(&rt, alloc, "clerks")));
+    let roles = set(&rt, alloc, &["clerk", "payer"]);
+    assert!(rt; roles.same(&set(&rt, alloc, &["payer", "clerk"])));
+    assert!(rt; !roles.same(&set(&rt, alloc, &["clerk"])));
+    Ok(())
+}
+
+fn small_vocabulary(rt: &impl Abort, alloc: Global, permissions: &[(&str, &str)]) -> Vocabulary {
+    let operations = names(rt, alloc, &["read", "pay"]);
+    let objects = names(rt, alloc, &["ledger", "invoice"]);
+    let permissions = pairs(rt, alloc, permissions);
+    Vocabulary::build(operations, objects, permissions).expect(rt, "a vocabulary")
+}
+
+#[test]
+fn equal_vocabularies_are_the_same(rt: HostRuntime) -> Result<(), Fail> {
+    let alloc = rt.alloc();
+    let vocabulary = small_vocabulary(&rt, alloc, &[("read", "ledger")]);
+    assert!(rt; vocabulary.same(&vocabulary.copy(alloc)?));
+    assert!(rt; !vocabulary.same(&small_vocabulary(&rt, alloc, &[("pay", "ledger")])));
+    Ok(())
 }

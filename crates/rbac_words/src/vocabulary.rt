@@ -1,5 +1,5 @@
 //! The vocabulary of a policy: its operations, its objects and its permissions.
-ghost use Rattle.std.specs.Prelude.{◌≡◌, None, Some, IfOk, IfErr, OnOk, OnErr, false, true};
+ghost use Rattle.std.specs.Prelude.{◌≡◌, ◌↔◌, IsTrue, None, Some, IfOk, IfErr, OnOk, OnErr, false, true};
 ghost use Rattle.std.specs.List.{list_all};
 ghost use Rattle.sorted_keys.specs.Keys.{has, set_of, repeats};
 ghost use Rattle.rbac_words.specs.Build.{vocabulary_refusal};
@@ -141,5 +141,14 @@ impl Vocabulary {
             objects: self.objects.copy(alloc)?,
             permissions: self.permissions.copy(alloc)?,
         })
+    }
+
+    /// Whether both speak of the same operations, objects and permissions.
+    pub fn same(&self, other: &Vocabulary) -> bool
+        ensures { IsTrue result ↔ (self.now ≡ other.now) }
+    {
+        self.operations.same(&other.operations)
+            && self.objects.same(&other.objects)
+            && self.permissions.same(&other.permissions)
     }
 }

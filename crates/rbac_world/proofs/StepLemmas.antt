@@ -1,5 +1,5 @@
 -- What the step of a world of one member is.
-use Rattle.std.proofs.Common.{ℕ, Bool, true, false, cond, ◌≡◌, ◌+◌, ◌==◌, ◌&&◌, ◌⊎◌, inl, inr, List, [], ◌∷◌, ◌++◌, length, map, Option, Some, None, Result, Ok, Err, refl, sym, ap, subst, ◌∙◌, arith, true≢false}
+use Rattle.std.proofs.Common.{ℕ, Bool, true, false, cond, ◌≡◌, ◌≢◌, ◌+◌, ◌==◌, ◌&&◌, ◌⊎◌, inl, inr, List, [], ◌∷◌, ◌++◌, length, map, Option, Some, None, is_some, Result, Ok, Err, refl, sym, ap, subst, ◌∙◌, arith, true≢false}
 use Rattle.std.proofs.lemmas.Bool.Decides.{nat_tests}
 use Rattle.rbac_words.specs.World.{World, Node, node, is_member, stamp, submit_refusal, submit_at, deliver_at, with_node, place_of, due, least, record_of, refusal, outcome, after, answer_unless, world_unless, step, step_outcome}
 use Rattle.rbac_words.specs.declared.command.Command.{Command}
@@ -17,7 +17,7 @@ use Rattle.rbac_member.specs.declared.refusal.SubmitRefusal.TheVariants.{ClockFu
 use Rattle.rbac_member.specs.Calls.{refusal_of, place_of_delivery}
 use Rattle.rbac_member.specs.Member.{Member, node_of, submitted, delivery, delivered, deliver_least}
 use Rattle.rbac_world.specs.Inside.{world_of, IsAlone}
-use Rattle.rbac_world.specs.Steps.{submit_refused, IsStep}
+use Rattle.rbac_world.specs.Steps.{submit_refused, grows, IsStep}
 use Rattle.rbac_world.proofs.AloneLemmas.{own_number, due_held, record_due}
 
 -- an event that is not refused
@@ -27,6 +27,7 @@ taken w new e o none gives leaves = record {
   stepped = leaves ∙ sym (ap (λ (r : Option Refusal). world_unless r (after w e) w) none);
   first_refusal = tt;
   memory_last = λ f. cc;
+  memory_needed = λ f. cc;
   unchanged = tt;
 }
 
@@ -37,12 +38,20 @@ not_taken w e r some other = record {
   stepped = tt;
   first_refusal = λ _. ap (λ (s : Option Refusal). answer_unless s (outcome w e)) some;
   memory_last = λ f. absurd (other (let g : r ≡ refused.NoMemory = cc in g));
+  memory_needed = λ f. absurd (other (let g : r ≡ refused.NoMemory = cc in g));
   unchanged = refl;
 }
 
 -- an event for which memory ran out
-starved : (w : World) (e : Event) → refusal w e ≡ None → IsStep w e (Err refused.NoMemory) w
-starved w e none = record { outcome = tt; stepped = tt; first_refusal = λ other. absurd (other refl); memory_last = λ _. none; unchanged = refl }
+starved : (w : World) (e : Event) → refusal w e ≡ None → grows w e ≡ true → IsStep w e (Err refused.NoMemory) w
+starved w e none longer = record {
+  outcome = tt;
+  stepped = tt;
+  first_refusal = λ other. absurd (other refl);
+  memory_last = λ _. none;
+  memory_needed = λ _. longer;
+  unchanged = refl;
+}
 
 -- ---- Submit
 
@@ -65,7 +74,7 @@ submit_not_taken v at caller serial c r one is =
     go ClockFull e = not_taken (world_of v) (Submit 1 caller serial c) refused.ClockFull e (λ f. cc)
     go SentFull e = not_taken (world_of v) (Submit 1 caller serial c) refused.SentFull e (λ f. cc)
     go (BadSerial next) e = not_taken (world_of v) (Submit 1 caller serial c) (refused.BadSerial next) e (λ f. cc)
-    go NoMemory e = starved (world_of v) (Submit 1 caller serial c) e
+    go NoMemory e = starved (world_of v) (Submit 1 caller serial c) e refl
 
 -- ---- Receive
 
@@ -88,8 +97,14 @@ receive_self w at from n e f same = not_taken w (Receive at from n) refused.From
 pub deliver_unknown : (w : World) (at : ℕ) → is_member w at ≡ false → IsStep w (Deliver at) (Err refused.UnknownMember) w
 deliver_unknown w at e = not_taken w (Deliver at) refused.UnknownMember (rw e refl) (λ f. cc)
 
-pub deliver_starved : (v : Member) (at : ℕ) → at ≡ 1 → IsStep (world_of v) (Deliver at) (Err refused.NoMemory) (world_of v)
-deliver_starved v at e = subst (λ k. IsStep (world_of v) (Deliver k) (Err refused.NoMemory) (world_of v)) (sym e) (starved (world_of v) (Deliver 1) refl)
+has_least : (xs : List Submission) → xs ≢ [] → is_some (least xs) ≡ true
+has_least [] some = absurd (some refl)
+has_least (x ∷ xs) some = refl
+
+pub deliver_starved : (v : Member) (at : ℕ) → IsAlone v → at ≡ 1 → v.held ≢ [] → IsStep (world_of v) (Deliver at) (Err refused.NoMemory) (world_of v)
+deliver_starved v at a e held =
+    subst (λ k. IsStep (world_of v) (Deliver k) (Err refused.NoMemory) (world_of v)) (sym e)
+    (starved (world_of v) (Deliver 1) refl (ap is_some (due_held v a) ∙ has_least v.held held))
 
 place_is : (v : Member) (xs : List Submission) → place_of (node_of v) (least xs) ≡ place_of_delivery v xs
 place_is v [] = refl

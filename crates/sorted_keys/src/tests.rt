@@ -1,8 +1,11 @@
 //! Each call once, with ample memory.
 ghost use Rattle.std.specs.Prelude.{nat_lt};
 
-use crate::{Duplicate, EntryTest, KeyTest, PairProbe, RepeatedKey, SortedMap, SortedSet};
+use crate::{
+    Duplicate, EntryTest, KeyTest, PairProbe, RepeatedKey, Same, SortedMap, SortedSet, ValueChange,
+};
 use std::alloc::{AllocError, Global};
+use std::convert::Infallible;
 use std::test::Fail;
 
 // The keys below a limit.
@@ -26,6 +29,35 @@ impl EntryTest<u64, u64> for AboveKey {
 
     fn test(&self, key: &u64, value: &u64) -> bool {
         *key < *value
+    }
+}
+
+// Another value in place of what was there.
+#[derive(Drop)]
+struct Becomes(u64);
+
+impl ValueChange<u64> for Becomes {
+    type Fault = Infallible;
+
+    ghost changed = { λ becomes _. becomes.0 };
+
+    fn change(self, value: &mut u64) -> Result<(), Infallible> {
+        *value = self.0;
+        Ok(())
+    }
+}
+
+// A change for which there is never memory.
+#[derive(Drop)]
+struct NeverMade;
+
+impl ValueChange<u64> for NeverMade {
+    type Fault = AllocError;
+
+    ghost changed = { λ _ value. value };
+
+    fn change(self, _value: &mut u64) -> Result<(), AllocError> {
+        Err(AllocError)
     }
 }
 
@@ -169,5 +201,42 @@ fn a_map_with_room_takes_values(rt: HostRuntime) -> Result<(), Fail> {
 #[test]
 fn a_pair_is_copied(rt: HostRuntime) -> Result<(), Fail> {
     assert_eq!(rt; (1u64, 2usize).duplicate(rt.alloc())?, (1, 2));
+    Ok(())
+}
+
+#[test]
+fn a_value_is_changed_in_its_place(rt: HostRuntime) -> Result<(), Fail> {
+    let mut map = SortedMap::new(rt.alloc());
+    map.insert(5u64, 50u64)?;
+    map.insert(3, 30)?;
+    assert!(rt; map.update(&5, Becomes(7)).is_ok());
+    assert!(rt; map.update(&4, Becomes(8)).is_ok());
+    assert_eq!(rt; map.entries(), [(3, 30), (5, 7)].as_slice());
+    assert!(rt; map.update(&3, NeverMade).is_err());
+    assert!(rt; map.update(&4, NeverMade).is_ok());
+    assert_eq!(rt; map.entries(), [(3, 30), (5, 7)].as_slice());
+    Ok(())
+}
+
+#[test]
+fn maps_of_the_same_entries_are_the_same(rt: HostRuntime) -> Result<(), Fail> {
+    let mut map = SortedMap::new(rt.alloc());
+    map.insert(1u64, (2u64, 3usize))?;
+    let mut copy = map.copy(rt.alloc())?;
+    assert!(rt; copy.same(&map));
+    copy.insert(1, (2, 4))?;
+    assert!(rt; !copy.same(&map));
+    map.insert(1, (2, 4))?;
+    assert!(rt; copy.same(&map));
+    map.insert(2, (2, 4))?;
+    assert!(rt; !copy.same(&map));
+    Ok(())
+}
+
+#[test]
+fn pairs_are_the_same_by_both_halves(rt: HostRuntime) -> Result<(), Fail> {
+    assert!(rt; (1u64, 2usize).same(&(1, 2)));
+    assert!(rt; !(1u64, 2usize).same(&(1, 3)));
+    assert!(rt; !(1u64, 2usize).same(&(2, 2)));
     Ok(())
 }

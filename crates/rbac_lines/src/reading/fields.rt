@@ -6,7 +6,8 @@ ghost use Rattle.std.specs.List.{list_all, list_any};
 ghost use Rattle.std.specs.Str.{bytes_eq};
 ghost use Rattle.serde_json.specs.Find.{as_str};
 ghost use Rattle.serde_json.specs.View.{view, items_view, members_view};
-ghost use Rattle.rbac_lines.specs.Fields.{seen, Reads, value_in, whole_in, text_in, object_in, name_of, name_in, names_of, names_in, only_keys};
+ghost use Rattle.rbac_lines.specs.Steps.{seen};
+ghost use Rattle.rbac_lines.specs.Fields.{Reads, value_in, whole_in, text_in, object_in, name_of, name_in, names_of, names_in, only_keys};
 
 use crate::refusal::LineRefusal;
 use rbac_words::{Name, NameRefusal, NameSet};
@@ -106,7 +107,8 @@ pub(crate) fn names_in(alloc: Global, object: &Object, key: &str) -> Result<Name
     names_of(alloc, array)
 }
 
-fn is_one_of(keys: &[&str], key: &str) -> bool
+/// Whether a key is one of these.
+pub(crate) fn is_one_of(keys: &[&str], key: &str) -> bool
     ensures { result ≡ list_any (λ known. bytes_eq key.now known.now) keys.now }
 {
     keys.iter().any(|known| key == *known)

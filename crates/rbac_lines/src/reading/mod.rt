@@ -5,7 +5,7 @@ ghost use Rattle.rbac_lines.specs.Fields.{Reads};
 ghost use Rattle.rbac_lines.specs.Event.{event, event_of, value_of, submit, receive, deliver};
 
 mod commands;
-mod fields;
+pub(crate) mod fields;
 
 use crate::reading::commands::command_of;
 use crate::reading::fields::{Object, object_in, only_keys, text_in, whole_in};

@@ -2,7 +2,7 @@
 
 use crate::reading::read_line;
 use crate::refusal::LineRefusal;
-use rbac_words::{Command, Event, Name};
+use rbac_words::{Command, Event, Name, NameSet};
 use std::alloc::{AllocError, Global};
 
 fn refusal_of(alloc: Global, line: &[u8]) -> Option<LineRefusal> {
@@ -199,54 +199,75 @@ fn text_of(name: &Name) -> &str {
     str::from_utf8(name.as_bytes()).unwrap_or("")
 }
 
+/// A command's name and its roles, where it has a set of them.
+fn create_session_words(
+    alloc: Global,
+    user: &Name,
+    session: &Name,
+    roles: &NameSet,
+) -> Result<String, AllocError> {
+    let mut words = format!(in alloc; "CreateSession {} {}", text_of(user), text_of(session))?;
+    for role in roles.names() {
+        words.push_str(" ")?;
+        words.push_str(text_of(role))?;
+    }
+    Ok(words)
+}
+
+/// A command's name, and the names in its fields from left to right.
+fn words_of(alloc: Global, command: &str, names: &[&Name]) -> Result<String, AllocError> {
+    let mut words = format!(in alloc; "{command}")?;
+    for name in names {
+        words.push_str(" ")?;
+        words.push_str(text_of(name))?;
+    }
+    Ok(words)
+}
+
 /// A command's name and fields from left to right.
 fn command_words(alloc: Global, command: &Command) -> Result<String, AllocError> {
     match command {
-        Command::AddUser { user } => format!(in alloc; "AddUser {}", text_of(user)),
-        Command::AddRole { role } => format!(in alloc; "AddRole {}", text_of(role)),
-        Command::AssignUser { user, role } => {
-            format!(in alloc; "AssignUser {} {}", text_of(user), text_of(role))
-        }
+        Command::AddUser { user } => words_of(alloc, "AddUser", &[user]),
+        Command::DeleteUser { user } => words_of(alloc, "DeleteUser", &[user]),
+        Command::AddRole { role } => words_of(alloc, "AddRole", &[role]),
+        Command::DeleteRole { role } => words_of(alloc, "DeleteRole", &[role]),
+        Command::AssignUser { user, role } => words_of(alloc, "AssignUser", &[user, role]),
+        Command::DeassignUser { user, role } => words_of(alloc, "DeassignUser", &[user, role]),
         Command::GrantPermission {
             operation,
             object,
             role,
-        } => {
-            format!(in alloc;
-                "GrantPermission {} {} {}",
-                text_of(operation),
-                text_of(object),
-                text_of(role)
-            )
-        }
+        } => words_of(alloc, "GrantPermission", &[operation, object, role]),
+        Command::RevokePermission {
+            operation,
+            object,
+            role,
+        } => words_of(alloc, "RevokePermission", &[operation, object, role]),
         Command::CreateSession {
             user,
             session,
             roles,
-        } => {
-            let mut words = format!(in alloc;
-                "CreateSession {} {}",
-                text_of(user),
-                text_of(session)
-            )?;
-            for role in roles.names() {
-                words.push_str(" ")?;
-                words.push_str(text_of(role))?;
-            }
-            Ok(words)
-        }
+        } => create_session_words(alloc, user, session, roles),
+        Command::DeleteSession { user, session } => words_of(
+            alloc,
+            "DeleteSession",
+            &[user, session],
+        ),
+        Command::AddActiveRole {
+            user,
+            session,
+            role,
+        } => words_of(alloc, "AddActiveRole", &[user, session, role]),
+        Command::DropActiveRole {
+            user,
+            session,
+            role,
+        } => words_of(alloc, "DropActiveRole", &[user, session, role]),
         Command::CheckAccess {
             session,
             operation,
             object,
-        } => {
-            format!(in alloc;
-                "CheckAccess {} {} {}",
-                text_of(session),
-                text_of(operation),
-                text_of(object)
-            )
-        }
+        } => words_of(alloc, "CheckAccess", &[session, operation, object]),
     }
 }
 
@@ -311,6 +332,34 @@ fn the_commands(rt: HostRuntime) -> Result<(), AllocError> {
         (
             r#"{"name":"GrantPermission","operation":"read","object":"file","role":"clerk"}"#,
             "submit 1 0 0 GrantPermission read file clerk",
+        ),
+        (
+            r#"{"name":"DeleteUser","user":"ann"}"#,
+            "submit 1 0 0 DeleteUser ann",
+        ),
+        (
+            r#"{"name":"DeleteRole","role":"clerk"}"#,
+            "submit 1 0 0 DeleteRole clerk",
+        ),
+        (
+            r#"{"name":"DeassignUser","user":"ann","role":"clerk"}"#,
+            "submit 1 0 0 DeassignUser ann clerk",
+        ),
+        (
+            r#"{"name":"RevokePermission","operation":"read","object":"file","role":"clerk"}"#,
+            "submit 1 0 0 RevokePermission read file clerk",
+        ),
+        (
+            r#"{"name":"DeleteSession","user":"ann","session":"s"}"#,
+            "submit 1 0 0 DeleteSession ann s",
+        ),
+        (
+            r#"{"name":"AddActiveRole","user":"ann","session":"s","role":"clerk"}"#,
+            "submit 1 0 0 AddActiveRole ann s clerk",
+        ),
+        (
+            r#"{"name":"DropActiveRole","user":"ann","session":"s","role":"clerk"}"#,
+            "submit 1 0 0 DropActiveRole ann s clerk",
         ),
         (
             r#"{"name":"CreateSession","user":"ann","session":"s","roles":["clerk","auditor","clerk"]}"#,

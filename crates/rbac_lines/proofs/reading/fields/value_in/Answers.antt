@@ -2,7 +2,7 @@ use Rattle.std.proofs.Common.{ap, ◌∙◌, option_map}
 use Rattle.std.specs.Option.{ok_or}
 use Rattle.serde_json.specs.View.{view}
 use Rattle.serde_json.proofs.Views.{view_of_ref, view-lookup}
-use Rattle.rbac_lines.specs.Fields.{seen}
+use Rattle.rbac_lines.specs.Steps.{seen}
 use Rattle.rbac_lines.specs.declared.refusal.LineRefusal.TheVariants.{MissingField}
 use Rattle.rbac_lines.proofs.FieldLemmas.{seen-ok_or}
 use Rattle.rbac_lines.proofs.reading.fields.value_in.Goals as goal

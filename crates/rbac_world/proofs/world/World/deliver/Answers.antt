@@ -19,5 +19,5 @@ returns c =
       | in-Ok w ↦ subst (λ (r : Result Outcome Refusal). IsStep (world_of v) (Deliver c.args.at) r (world_of c.deliver.new.self)) (sym w.outcome-is)
           (deliver_taken v c.deliver.new.self c.args.at w.in-Ok.place c.self.invariant one w.in-Ok.ensures.place w.in-Ok.ensures.delivered)
       | in-Err w ↦ subst (λ (r : Result Outcome Refusal). IsStep (world_of v) (Deliver c.args.at) r (world_of c.deliver.new.self)) (sym w.outcome-is)
-          (subst (λ (m : Member). IsStep (world_of v) (Deliver c.args.at) (Err Refusal.NoMemory) (world_of m)) (sym w.in-Err.ensures.unchanged) (deliver_starved v c.args.at one))
+          (subst (λ (m : Member). IsStep (world_of v) (Deliver c.args.at) (Err Refusal.NoMemory) (world_of m)) (sym w.in-Err.ensures.unchanged) (deliver_starved v c.args.at c.self.invariant one w.in-Err.ensures.was_due))
     ])

@@ -1,8 +1,8 @@
 //! A session: its owner and its active roles.
-ghost use Rattle.std.specs.Prelude.{◌≡◌, IfOk};
+ghost use Rattle.std.specs.Prelude.{◌≡◌, ◌↔◌, IsTrue, IfOk};
 
 use rbac_words::{Name, NameSet};
-use sorted_keys::Duplicate;
+use sorted_keys::{Duplicate, Same};
 use std::alloc::{AllocError, Global};
 use std::marker::Model;
 
@@ -27,5 +27,11 @@ impl Duplicate for Session {
             owner: self.owner.copy(alloc)?,
             active: self.active.copy(alloc)?,
         })
+    }
+}
+
+impl Same for Session {
+    fn same(&self, other: &Session) -> bool {
+        self.owner.same(&other.owner) && self.active.same(&other.active)
     }
 }

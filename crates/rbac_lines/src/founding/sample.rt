@@ -1,17 +1,11 @@
-//! What a world is founded with.
+//! The founding of a world that is given none.
 ghost use Rattle.std.specs.Prelude.{◌≡◌, IfOk, IsTrue, ◌∷◌, [], ◌++◌};
 ghost use Rattle.rbac_words.specs.Name.{is_name};
 ghost use Rattle.rbac_lines.specs.Founding.{sample_group, sample_vocabulary};
 
+use crate::founding::Founding;
 use rbac_words::{Group, Name, NameRefusal, Vocabulary};
 use std::alloc::{AllocError, Global};
-
-/// The numbers of a group, and the vocabulary of its policy.
-#[derive(Drop)]
-pub struct Founding {
-    pub group: Group,
-    pub vocabulary: Vocabulary,
-}
 
 // A name that is known to be one.
 fn known_name(alloc: Global, text: &[u8]) -> Result<Name, AllocError>

@@ -1,0 +1,101 @@
+//! The whole program but for the standard streams.
+ghost use Rattle.std.specs.Prelude.{◌≡◌, ◌≤◌, IfSome, false, length};
+ghost use Rattle.std.specs.Io.KnownBytes.{Appends};
+ghost use Rattle.line_engine.specs.Watched.{failed_of, inner_of};
+ghost use Rattle.rbac_lines.specs.Output.{output};
+ghost use Rattle.rbac_monitor.specs.Sample.{sample_world};
+
+use crate::fault::Fault;
+use crate::play::play;
+use crate::words::read_words;
+use clap::Error;
+use clap::error::ErrorKind;
+use rbac_lines::{FoundingRefusal, Watched};
+use std::convert::AsStr;
+use std::fmt::Display;
+use std::io::{Read, Write};
+use std::rt::{Env, Files};
+use std::{env, io};
+
+/// The input was read to its end, or help was asked for.
+const DONE: u8 = 0;
+
+/// A fault of a file, of the founding or of the run.
+const FAULT: u8 = 1;
+
+/// The command line is refused.
+const REFUSED: u8 = 2;
+
+/// Does what the words say, of which the first is the program's name, and answers the status: 0 where the input was read
+/// to its end or help was asked for, 1 after a fault, 2 where the words are refused.
+pub fn command<T: Files + AllocGlobal, S: AsStr, R: Read + Drop, W: Write, E: Write>(
+    rt: &T,
+    words: &[S],
+    reader: R,
+    writer: &mut Watched<W>,
+    errors: &mut E,
+) -> u8
+    requires { failed_of writer.old ≡ false }
+    ensures status { result ≤ 2 }
+    ensures not_refused { length words.now ≤ 1 → result ≤ 1 }
+    ensures sample_played { length words.now ≤ 1 → result ≡ 0 →
+        IfSome (R.remaining reader) (λ input. Appends (W.contents (inner_of writer.old)) (W.contents (inner_of writer.new)) (output input sample_world)) }
+{
+    match read_words(rt.alloc(), words) {
+        Ok(asked) => match play(rt, asked, reader, writer) {
+            Ok(()) => DONE,
+            Err(fault) => tell(errors, fault),
+        },
+        Err(error) if error.kind() == ErrorKind::OutOfMemory => {
+            tell(errors, Fault::Founding(FoundingRefusal::NoMemory))
+        }
+        Err(error) if error.use_stderr() => {
+            put(errors, &error);
+            REFUSED
+        }
+        Err(help) => {
+            put(writer, &help);
+            DONE
+        }
+    }
+}
+
+fn words_of<T: Env + AllocGlobal>(rt: &T) -> io::Result<Vec<String>> {
+    let words = env::args(rt)?.collect(rt.alloc())?;
+    Ok(words)
+}
+
+/// Does what the words of the process say, as `command` does. Words that are not text are refused.
+pub fn program<T: Files + Env + AllocGlobal, R: Read + Drop, W: Write, E: Write>(
+    rt: &T,
+    reader: R,
+    writer: &mut Watched<W>,
+    errors: &mut E,
+) -> u8
+    requires { failed_of writer.old ≡ false }
+    ensures { result ≤ 2 }
+{
+    match words_of(rt) {
+        Ok(words) => command(rt, &words, reader, writer, errors),
+        Err(error) if error.kind() == io::ErrorKind::OutOfMemory => {
+            tell(errors, Fault::Founding(FoundingRefusal::NoMemory))
+        }
+        Err(_) => {
+            put(errors, &"error: a word of the command line is not text\n");
+            REFUSED
+        }
+    }
+}
+
+/// Writes a text. Where it cannot be written the status tells what happened.
+fn put<W: Write, D: Display>(stream: &mut W, text: &D) {
+    let _ = write!(stream, "{text}");
+}
+
+/// Tells a fault, and answers its status.
+fn tell<E: Write>(errors: &mut E, fault: Fault<'_>) -> u8
+    ensures { result ≡ FAULT }
+{
+    let _ = writeln!(errors, "{fault}");
+    FAULT
+}

@@ -1,0 +1,79 @@
+//! The command line.
+ghost use Rattle.std.specs.Prelude.{◌≡◌, ◌≤◌, codes, length, IsOkAnd};
+
+use clap::{Arg, ArgAction, ArgMatches, Command, Error};
+use std::alloc::{AllocError, Global};
+use std::convert::AsStr;
+
+/// What the words ask for: a schedule that is played on a founding.
+#[derive(Clone, Copy, Drop)]
+pub(crate) struct Play<'w> {
+    pub(crate) founding: &'w str,
+    pub(crate) schedule: &'w str,
+}
+
+/// The sample founding, and standard input.
+const SAMPLE_AND_INPUT: Play<'static> = Play {
+    founding: "-",
+    schedule: "-",
+};
+
+const ABOUT: &str =
+    "Plays commands of role-based access control, one JSON object a line, and answers each line";
+
+const AFTER_HELP: &str = "\
+Without words: the same as 'play - -'.
+
+Examples:
+  rbac_monitor < examples/first_day.jsonl
+  rbac_monitor play founding.toml schedule.jsonl
+
+Status:
+  0  the input was read to its end, or this help was asked for
+  1  a fault of a file, of the founding or of the run: one line on the error stream
+  2  the command line is refused";
+
+const FOUNDING: &str = "The file of the founding, or - for the sample founding";
+
+const SCHEDULE: &str = "The file of the lines, or - for standard input";
+
+fn path<'w>(alloc: Global, id: &'w str, help: &'w str) -> Arg<'w> {
+    Arg::new(alloc, id)
+        .required(true)
+        .action(ArgAction::Set)
+        .help(help)
+}
+
+fn command_line<'w>(alloc: Global) -> Result<Command<'w>, AllocError> {
+    let play = Command::new(alloc, "play")
+        .about("Plays the lines of SCHEDULE on the world of FOUNDING")
+        .arg(path(alloc, "FOUNDING", FOUNDING))?
+        .arg(path(alloc, "SCHEDULE", SCHEDULE))?;
+    Command::new(alloc, "rbac_monitor")
+        .bin_name("rbac_monitor")?
+        .version("1")
+        .about(ABOUT)
+        .after_help(AFTER_HELP)
+        .subcommand(play)
+}
+
+fn play_of<'w>(matches: &ArgMatches<'w>) -> Play<'w> {
+    match matches.subcommand() {
+        Some((_, paths)) => Play {
+            founding: paths.get_str("FOUNDING").unwrap_or("-"),
+            schedule: paths.get_str("SCHEDULE").unwrap_or("-"),
+        },
+        None => SAMPLE_AND_INPUT,
+    }
+}
+
+/// Reads the words, of which the first is the program's name. Without others standard input is played on the sample.
+pub(crate) fn read_words<'w, S: AsStr>(alloc: Global, words: &'w [S]) -> Result<Play<'w>, Error>
+    ensures no_words { length words.now ≤ 1 → IsOkAnd result (λ asked. (asked.founding.now ≡ codes "-") × (asked.schedule.now ≡ codes "-")) }
+{
+    if words.len() <= 1 {
+        return Ok(SAMPLE_AND_INPUT);
+    }
+    let matches = command_line(alloc)?.try_get_matches_from(words)?;
+    Ok(play_of(&matches))
+}

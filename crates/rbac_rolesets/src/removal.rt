@@ -1,0 +1,34 @@
+//! Which pairs stay where a user or a role is taken out.
+ghost use Rattle.std.specs.Prelude.{◌≡◌, not};
+ghost use Rattle.rbac_words.specs.Relations.{begins_with, ends_with};
+
+use rbac_words::Name;
+use sorted_keys::KeyTest;
+
+/// The pairs of other users.
+#[derive(Drop)]
+pub struct OtherUsers<'a> {
+    pub user: &'a Name,
+}
+
+impl<A> KeyTest<(Name, A)> for OtherUsers<'_> {
+    ghost passes = { λ others pair. not (begins_with others.user.now pair) };
+
+    fn test(&self, pair: &(Name, A)) -> bool {
+        self.user.cmp(&pair.0).is_ne()
+    }
+}
+
+/// The pairs of other roles.
+#[derive(Drop)]
+pub struct OtherRoles<'a> {
+    pub role: &'a Name,
+}
+
+impl<A> KeyTest<(A, Name)> for OtherRoles<'_> {
+    ghost passes = { λ others pair. not (ends_with others.role.now pair) };
+
+    fn test(&self, pair: &(A, Name)) -> bool {
+        self.role.cmp(&pair.1).is_ne()
+    }
+}

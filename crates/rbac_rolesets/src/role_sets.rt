@@ -1,0 +1,205 @@
+//! The users and roles, UA and PA.
+ghost use Rattle.std.specs.Prelude.{◌≡◌, ◌↔◌, length, IsTrue, IfOk, OnOk, OnErr};
+ghost use Rattle.sorted_keys.specs.Keys.{has, with_key, without};
+ghost use Rattle.rbac_words.specs.Name.{name_cmp, pair_cmp, grant_cmp};
+ghost use Rattle.rbac_words.specs.Relations.{users_of, roles_of, without_user, without_role};
+ghost use Rattle.rbac_rolesets.specs.Sets.{Sets, no_sets};
+
+use crate::gathering::{RolesOf, UsersOf, gather};
+use crate::removal::{OtherRoles, OtherUsers};
+use rbac_words::{Name, NameSet};
+use sorted_keys::{PairProbe, SortedSet};
+use std::alloc::{AllocError, Global};
+use std::marker::Model;
+
+/// Users, roles, the pairs of both (UA) and the granted permissions (PA).
+#[derive(Drop)]
+pub struct RoleSets {
+    users: SortedSet<Name>,
+    roles: SortedSet<Name>,
+    assigned: SortedSet<(Name, Name)>,
+    granted: SortedSet<((Name, Name), Name)>,
+}
+
+impl Model for RoleSets {
+    ghost use Rattle.rbac_rolesets.specs.Sets.{RoleSets as RoleSetsValue};
+
+    ghost Value = { RoleSetsValue };
+
+    ghost view = { λ s. record { content = record { users = s.users.content; roles = s.roles.content; assigned = s.assigned.content; granted = s.granted.content } } };
+}
+
+impl RoleSets {
+    /// No users and no roles.
+    pub fn empty(alloc: Global) -> RoleSets
+        ensures { result.content ≡ no_sets }
+    {
+        RoleSets {
+            users: SortedSet::new(alloc),
+            roles: SortedSet::new(alloc),
+            assigned: SortedSet::new(alloc),
+            granted: SortedSet::new(alloc),
+        }
+    }
+
+    /// How many users there are.
+    pub fn user_count(&self) -> usize
+        ensures { result ≡ length self.now.content.users }
+    {
+        self.users.len()
+    }
+
+    /// How many roles there are.
+    pub fn role_count(&self) -> usize
+        ensures { result ≡ length self.now.content.roles }
+    {
+        self.roles.len()
+    }
+
+    /// Whether it is one of the users.
+    pub fn has_user(&self, user: &Name) -> bool
+        ensures { result ≡ has name_cmp user.now self.now.content.users }
+    {
+        self.users.contains(user)
+    }
+
+    /// Whether it is one of the roles.
+    pub fn has_role(&self, role: &Name) -> bool
+        ensures { result ≡ has name_cmp role.now self.now.content.roles }
+    {
+        self.roles.contains(role)
+    }
+
+    /// Whether the role is assigned to the user.
+    pub fn assigned(&self, user: &Name, role: &Name) -> bool
+        ensures { result ≡ has pair_cmp (user.now, role.now) self.now.content.assigned }
+    {
+        self.assigned.contains(&PairProbe {
+            first: user,
+            second: role,
+        })
+    }
+
+    /// Whether the operation on the object is granted to the role.
+    pub fn granted(&self, operation: &Name, object: &Name, role: &Name) -> bool
+        ensures { result ≡ has grant_cmp ((operation.now, object.now), role.now) self.now.content.granted }
+    {
+        let permission = PairProbe {
+            first: operation,
+            second: object,
+        };
+        self.granted.contains(&PairProbe {
+            first: &permission,
+            second: role,
+        })
+    }
+
+    /// The users that the role is assigned to.
+    pub fn users_of(&self, alloc: Global, role: &Name) -> Result<NameSet, AllocError>
+        ensures { IfOk result (λ users. users ≡ users_of role.now self.now.content.assigned) }
+    {
+        gather(alloc, self.assigned.keys(), &UsersOf { role })
+    }
+
+    /// The roles that are assigned to the user.
+    pub fn roles_of(&self, alloc: Global, user: &Name) -> Result<NameSet, AllocError>
+        ensures { IfOk result (λ roles. roles ≡ roles_of user.now self.now.content.assigned) }
+    {
+        gather(alloc, self.assigned.keys(), &RolesOf { user })
+    }
+
+    /// Adds a user. Where it is there, nothing changes.
+    pub fn add_user(&mut self, user: Name) -> Result<(), AllocError>
+        ensures ok { let s = self.old.content in OnOk result (self.new.content ≡ record s { users = with_key name_cmp user s.users }) }
+        ensures err { OnErr result (self.new.content ≡ self.old.content) }
+    {
+        self.users.insert(user)
+    }
+
+    /// Takes a user out, and its pairs.
+    pub fn remove_user(&mut self, user: &Name)
+        ensures { let s = self.old.content in self.new.content ≡ record s { users = without name_cmp user.now s.users; assigned = without_user user.now s.assigned } }
+    {
+        self.users.remove(user);
+        self.assigned.retain(&OtherUsers { user });
+    }
+
+    /// Adds a role. Where it is there, nothing changes.
+    pub fn add_role(&mut self, role: Name) -> Result<(), AllocError>
+        ensures ok { let s = self.old.content in OnOk result (self.new.content ≡ record s { roles = with_key name_cmp role s.roles }) }
+        ensures err { OnErr result (self.new.content ≡ self.old.content) }
+    {
+        self.roles.insert(role)
+    }
+
+    /// Takes a role out, its pairs and its permissions.
+    pub fn remove_role(&mut self, role: &Name)
+        ensures { let s = self.old.content in self.new.content ≡ record s { roles = without name_cmp role.now s.roles; assigned = without_role role.now s.assigned; granted = without_role role.now s.granted } }
+    {
+        self.roles.remove(role);
+        self.assigned.retain(&OtherRoles { role });
+        self.granted.retain(&OtherRoles { role });
+    }
+
+    /// Assigns a role to a user. Where it is assigned, nothing changes.
+    pub fn assign(&mut self, user: Name, role: Name) -> Result<(), AllocError>
+        ensures ok { let s = self.old.content in OnOk result (self.new.content ≡ record s { assigned = with_key pair_cmp (user, role) s.assigned }) }
+        ensures err { OnErr result (self.new.content ≡ self.old.content) }
+    {
+        self.assigned.insert((user, role))
+    }
+
+    /// Takes a role from a user.
+    pub fn deassign(&mut self, user: &Name, role: &Name)
+        ensures { let s = self.old.content in self.new.content ≡ record s { assigned = without pair_cmp (user.now, role.now) s.assigned } }
+    {
+        self.assigned.remove(&PairProbe {
+            first: user,
+            second: role,
+        });
+    }
+
+    /// Grants an operation on an object to a role. Where it is granted, nothing changes.
+    pub fn grant(&mut self, operation: Name, object: Name, role: Name) -> Result<(), AllocError>
+        ensures ok { let s = self.old.content in OnOk result (self.new.content ≡ record s { granted = with_key grant_cmp ((operation, object), role) s.granted }) }
+        ensures err { OnErr result (self.new.content ≡ self.old.content) }
+    {
+        self.granted.insert(((operation, object), role))
+    }
+
+    /// Takes an operation on an object from a role.
+    pub fn revoke(&mut self, operation: &Name, object: &Name, role: &Name)
+        ensures { let s = self.old.content in self.new.content ≡ record s { granted = without grant_cmp ((operation.now, object.now), role.now) s.granted } }
+    {
+        let permission = PairProbe {
+            first: operation,
+            second: object,
+        };
+        self.granted.remove(&PairProbe {
+            first: &permission,
+            second: role,
+        });
+    }
+
+    /// Equal sets.
+    pub fn copy(&self, alloc: Global) -> Result<RoleSets, AllocError>
+        ensures { IfOk result (λ copy. copy.content ≡ self.now.content) }
+    {
+        Ok(RoleSets {
+            users: self.users.copy(alloc)?,
+            roles: self.roles.copy(alloc)?,
+            assigned: self.assigned.copy(alloc)?,
+            granted: self.granted.copy(alloc)?,
+        })
+    }
+
+    /// Whether both have the same users and roles, UA and PA.
+    pub fn same(&self, other: &RoleSets) -> bool
+        ensures { IsTrue result ↔ (self.now.content ≡ other.now.content) }
+    {
+        self.users.same(&other.users)
+            && self.roles.same(&other.roles)
+            && self.assigned.same(&other.assigned)
+            && self.granted.same(&other.granted)
+    }
+}

@@ -1,0 +1,173 @@
+//! Each public call with ample memory. What is expected was written by hand.
+use crate::RoleSets;
+use rbac_words::{Name, NameSet};
+use std::alloc::Global;
+use std::process::Abort;
+use std::test::Fail;
+
+fn name(rt: &impl Abort, alloc: Global, text: &str) -> Name {
+    Name::read(alloc, text.as_bytes()).expect(rt, "a name")
+}
+
+fn assign(rt: &impl Abort, alloc: Global, sets: &mut RoleSets, user: &str, role: &str) {
+    let (user, role) = (name(rt, alloc, user), name(rt, alloc, role));
+    sets.assign(user, role).expect(rt, "memory");
+}
+
+fn grant(
+    rt: &impl Abort,
+    alloc: Global,
+    sets: &mut RoleSets,
+    operation: &str,
+    object: &str,
+    role: &str,
+) {
+    let (operation, object) = (name(rt, alloc, operation), name(rt, alloc, object));
+    let role = name(rt, alloc, role);
+    sets.grant(operation, object, role).expect(rt, "memory");
+}
+
+fn fill(rt: &impl Abort, alloc: Global, sets: &mut RoleSets) {
+    for user in ["bob", "alice"] {
+        sets.add_user(name(rt, alloc, user)).expect(rt, "memory");
+    }
+    for role in ["payer", "clerk", "payer"] {
+        sets.add_role(name(rt, alloc, role)).expect(rt, "memory");
+    }
+    for (user, role) in [("bob", "payer"), ("alice", "clerk"), ("bob", "clerk")] {
+        assign(rt, alloc, sets, user, role);
+    }
+}
+
+// alice is a clerk, bob a clerk and a payer. Clerks read the ledger, and payers pay invoices.
+fn small_office(rt: &impl Abort, alloc: Global) -> RoleSets {
+    let mut sets = RoleSets::empty(alloc);
+    fill(rt, alloc, &mut sets);
+    grant(rt, alloc, &mut sets, "pay", "invoice", "payer");
+    grant(rt, alloc, &mut sets, "read", "ledger", "clerk");
+    sets
+}
+
+fn is_user(rt: &impl Abort, alloc: Global, sets: &RoleSets, user: &str) -> bool {
+    sets.has_user(&name(rt, alloc, user))
+}
+
+fn is_role(rt: &impl Abort, alloc: Global, sets: &RoleSets, role: &str) -> bool {
+    sets.has_role(&name(rt, alloc, role))
+}
+
+fn is_assigned(rt: &impl Abort, alloc: Global, sets: &RoleSets, user: &str, role: &str) -> bool {
+    sets.assigned(&name(rt, alloc, user), &name(rt, alloc, role))
+}
+
+// Whether reading the ledger is granted to the role.
+fn reads(rt: &impl Abort, alloc: Global, sets: &RoleSets, role: &str) -> bool {
+    let (read, ledger) = (name(rt, alloc, "read"), name(rt, alloc, "ledger"));
+    sets.granted(&read, &ledger, &name(rt, alloc, role))
+}
+
+fn assert_names(rt: &impl Abort, names: &NameSet, texts: &[&str]) {
+    assert_eq!(rt; names.len(), texts.len());
+    for (name, text) in names.names().iter().zip(texts) {
+        assert_eq!(rt; name.as_bytes(), text.as_bytes());
+    }
+}
+
+fn assert_users(rt: &impl Abort, alloc: Global, sets: &RoleSets, role: &str, texts: &[&str]) {
+    let users = sets.users_of(alloc, &name(rt, alloc, role));
+    assert_names(rt, &users.expect(rt, "memory"), texts);
+}
+
+fn assert_roles(rt: &impl Abort, alloc: Global, sets: &RoleSets, user: &str, texts: &[&str]) {
+    let roles = sets.roles_of(alloc, &name(rt, alloc, user));
+    assert_names(rt, &roles.expect(rt, "memory"), texts);
+}
+
+#[test]
+fn users_and_roles_are_there(rt: HostRuntime) -> Result<(), Fail> {
+    let alloc = rt.alloc();
+    let sets = small_office(&rt, alloc);
+    assert_eq!(rt; sets.user_count(), 2);
+    assert_eq!(rt; sets.role_count(), 2);
+    assert!(rt; is_user(&rt, alloc, &sets, "bob"));
+    assert!(rt; !is_user(&rt, alloc, &sets, "clerk"));
+    assert!(rt; is_role(&rt, alloc, &sets, "clerk"));
+    assert!(rt; !is_role(&rt, alloc, &sets, "bob"));
+    Ok(())
+}
+
+#[test]
+fn roles_are_assigned(rt: HostRuntime) -> Result<(), Fail> {
+    let alloc = rt.alloc();
+    let mut sets = small_office(&rt, alloc);
+    assert!(rt; is_assigned(&rt, alloc, &sets, "bob", "payer"));
+    assert!(rt; !is_assigned(&rt, alloc, &sets, "alice", "payer"));
+    assert!(rt; !is_assigned(&rt, alloc, &sets, "payer", "bob"));
+    sets.deassign(&name(&rt, alloc, "bob"), &name(&rt, alloc, "payer"));
+    assert!(rt; !is_assigned(&rt, alloc, &sets, "bob", "payer"));
+    assert!(rt; is_assigned(&rt, alloc, &sets, "bob", "clerk"));
+    Ok(())
+}
+
+#[test]
+fn permissions_are_granted(rt: HostRuntime) -> Result<(), Fail> {
+    let alloc = rt.alloc();
+    let mut sets = small_office(&rt, alloc);
+    assert!(rt; reads(&rt, alloc, &sets, "clerk"));
+    assert!(rt; !reads(&rt, alloc, &sets, "payer"));
+    let (read, ledger) = (name(&rt, alloc, "read"), name(&rt, alloc, "ledger"));
+    sets.revoke(&ledger, &read, &name(&rt, alloc, "clerk"));
+    assert!(rt; reads(&rt, alloc, &sets, "clerk"));
+    sets.revoke(&read, &ledger, &name(&rt, alloc, "clerk"));
+    assert!(rt; !reads(&rt, alloc, &sets, "clerk"));
+    Ok(())
+}
+
+#[test]
+fn users_and_roles_are_gathered(rt: HostRuntime) -> Result<(), Fail> {
+    let alloc = rt.alloc();
+    let sets = small_office(&rt, alloc);
+    assert_users(&rt, alloc, &sets, "clerk", &["alice", "bob"]);
+    assert_users(&rt, alloc, &sets, "payer", &["bob"]);
+    assert_users(&rt, alloc, &sets, "bob", &[]);
+    assert_roles(&rt, alloc, &sets, "bob", &["clerk", "payer"]);
+    assert_roles(&rt, alloc, &sets, "alice", &["clerk"]);
+    assert_roles(&rt, alloc, &sets, "clerk", &[]);
+    Ok(())
+}
+
+#[test]
+fn a_user_is_removed_with_its_roles(rt: HostRuntime) -> Result<(), Fail> {
+    let alloc = rt.alloc();
+    let mut sets = small_office(&rt, alloc);
+    sets.remove_user(&name(&rt, alloc, "bob"));
+    sets.remove_user(&name(&rt, alloc, "clerk"));
+    assert_eq!(rt; sets.user_count(), 1);
+    assert_roles(&rt, alloc, &sets, "bob", &[]);
+    assert_roles(&rt, alloc, &sets, "alice", &["clerk"]);
+    Ok(())
+}
+
+#[test]
+fn a_role_is_removed_with_its_users_and_permissions(rt: HostRuntime) -> Result<(), Fail> {
+    let alloc = rt.alloc();
+    let mut sets = small_office(&rt, alloc);
+    sets.remove_role(&name(&rt, alloc, "clerk"));
+    sets.remove_role(&name(&rt, alloc, "bob"));
+    assert_eq!(rt; sets.role_count(), 1);
+    assert!(rt; !reads(&rt, alloc, &sets, "clerk"));
+    assert_roles(&rt, alloc, &sets, "bob", &["payer"]);
+    assert_users(&rt, alloc, &sets, "clerk", &[]);
+    Ok(())
+}
+
+#[test]
+fn a_copy_is_the_same_until_it_is_changed(rt: HostRuntime) -> Result<(), Fail> {
+    let alloc = rt.alloc();
+    let sets = small_office(&rt, alloc);
+    let mut copy = sets.copy(alloc)?;
+    assert!(rt; copy.same(&sets));
+    copy.add_user(name(&rt, alloc, "carol"))?;
+    assert!(rt; !copy.same(&sets));
+    Ok(())
+}

@@ -1,0 +1,12 @@
+//! The sessions of a policy: each by its name, with its owner and its active roles.
+#![tactic(auto)]
+
+mod change;
+mod session;
+mod sessions;
+
+pub use session::Session;
+pub use sessions::{SessionTest, Sessions};
+
+#[cfg(test)]
+mod tests;

@@ -1,0 +1,163 @@
+//! The sessions by their names.
+ghost use Rattle.std.specs.Prelude.{◌≡◌, ◌↔◌, [], List, Bool, not, length, filter, is_some, IsTrue, IfOk, OnOk, OnErr};
+ghost use Rattle.std.specs.Option.{option_copied, option_map};
+ghost use Rattle.std.specs.FinMap.Entries.{find, put};
+ghost use Rattle.sorted_keys.specs.Keys.{with_key, without, without_key, updated};
+ghost use Rattle.rbac_words.specs.Name.{Name as NameValue, name_cmp};
+
+use crate::change::{Activation, Deactivation};
+use crate::session::Session;
+use rbac_words::{Name, NameSet};
+use sorted_keys::{EntryTest, SortedMap};
+use std::alloc::{AllocError, Global};
+use std::marker::Model;
+
+/// The sessions, each by its name.
+#[derive(Drop)]
+pub struct Sessions {
+    sessions: SortedMap<Name, Session>,
+}
+
+impl Model for Sessions {
+    ghost use Rattle.rbac_sessions.specs.Sessions.{Sessions as SessionsValue};
+
+    ghost Value = { SessionsValue };
+
+    ghost view = { λ s. record { content = s.sessions.content } };
+}
+
+/// A test of sessions.
+pub trait SessionTest {
+    /// Whether a session passes, by its name, its owner and its active roles.
+    ghost passes: { Self → NameValue → NameValue → List NameValue → Bool };
+
+    /// Whether the session passes.
+    fn test(&self, session: &Name, owner: &Name, roles: &NameSet) -> bool
+        ensures { result ≡ passes self.now session.now owner.now roles.now };
+}
+
+// The sessions that a test does not pass.
+#[derive(Drop)]
+struct FailsTest<'a, T> {
+    test: &'a T,
+}
+
+impl<T: SessionTest> EntryTest<Name, Session> for FailsTest<'_, T> {
+    ghost passes = { λ fails name session. not (T.passes fails.test.now name session.owner session.active) };
+
+    fn test(&self, name: &Name, session: &Session) -> bool {
+        !self.test.test(name, &session.owner, &session.active)
+    }
+}
+
+impl Sessions {
+    /// No sessions.
+    pub fn empty(alloc: Global) -> Sessions
+        ensures { result.content ≡ [] }
+    {
+        Sessions {
+            sessions: SortedMap::new(alloc),
+        }
+    }
+
+    /// How many sessions there are.
+    pub fn len(&self) -> usize
+        ensures { result ≡ length self.now.content }
+    {
+        self.sessions.len()
+    }
+
+    /// Whether there is a session of this name.
+    pub fn contains(&self, session: &Name) -> bool
+        ensures { result ≡ is_some (find name_cmp session.now self.now.content) }
+    {
+        self.sessions.contains(session)
+    }
+
+    /// The session of this name.
+    pub fn get(&self, session: &Name) -> Option<&Session>
+        ensures { option_copied result ≡ find name_cmp session.now self.now.content }
+    {
+        self.sessions.get(session)
+    }
+
+    /// The owner of the session.
+    pub fn owner(&self, session: &Name) -> Option<&Name>
+        ensures { option_copied result ≡ option_map (λ s. s.owner) (find name_cmp session.now self.now.content) }
+    {
+        match self.get(session) {
+            Some(session) => Some(&session.owner),
+            None => None,
+        }
+    }
+
+    /// The active roles of the session.
+    pub fn roles(&self, session: &Name) -> Option<&NameSet>
+        ensures { option_copied result ≡ option_map (λ s. s.active) (find name_cmp session.now self.now.content) }
+    {
+        match self.get(session) {
+            Some(session) => Some(&session.active),
+            None => None,
+        }
+    }
+
+    /// Opens a session of a user, in which these roles are active. One of the same name is replaced.
+    pub fn create(&mut self, session: Name, user: Name, roles: NameSet) -> Result<(), AllocError>
+        ensures ok { OnOk result (self.new.content ≡ put name_cmp session (record { owner = user; active = roles }) self.old.content) }
+        ensures err { OnErr result (self.new.content ≡ self.old.content) }
+    {
+        let opened = Session {
+            owner: user,
+            active: roles,
+        };
+        self.sessions.insert(session, opened)
+    }
+
+    /// Takes a session out. Where it is not there, nothing changes.
+    pub fn delete(&mut self, session: &Name)
+        ensures { self.new.content ≡ without_key name_cmp session.now self.old.content }
+    {
+        self.sessions.remove(session);
+    }
+
+    /// Makes a role active in a session. Where the session is not there, nothing changes.
+    pub fn activate(&mut self, session: &Name, role: Name) -> Result<(), AllocError>
+        ensures ok { OnOk result (self.new.content ≡ updated name_cmp session.now (λ s. record s { active = with_key name_cmp role s.active }) self.old.content) }
+        ensures err { OnErr result (self.new.content ≡ self.old.content) }
+    {
+        self.sessions.update(session, Activation { role })
+    }
+
+    /// Makes a role inactive in a session. Where the session is not there, nothing changes.
+    pub fn drop_role(&mut self, session: &Name, role: &Name)
+        ensures { self.new.content ≡ updated name_cmp session.now (λ s. record s { active = without name_cmp role.now s.active }) self.old.content }
+    {
+        match self.sessions.update(session, Deactivation { role }) {
+            Ok(()) => {}
+            Err(never) => match never {},
+        }
+    }
+
+    /// Takes out the sessions that pass a test.
+    pub fn delete_where<T: SessionTest>(&mut self, test: &T)
+        ensures { self.new.content ≡ filter (λ e. not (T.passes test.now e.0 e.1.owner e.1.active)) self.old.content }
+    {
+        self.sessions.retain(&FailsTest { test });
+    }
+
+    /// Equal sessions.
+    pub fn copy(&self, alloc: Global) -> Result<Sessions, AllocError>
+        ensures { IfOk result (λ copy. copy.content ≡ self.now.content) }
+    {
+        Ok(Sessions {
+            sessions: self.sessions.copy(alloc)?,
+        })
+    }
+
+    /// Whether both have the same sessions.
+    pub fn same(&self, other: &Sessions) -> bool
+        ensures { IsTrue result ↔ (self.now.content ≡ other.now.content) }
+    {
+        self.sessions.same(&other.sessions)
+    }
+}
