@@ -10,7 +10,7 @@ use crate::play::play;
 use crate::words::read_words;
 use clap::Error;
 use clap::error::ErrorKind;
-use rbac_lines::{FoundingRefusal, Watched};
+use rbac_lines::{FoundingRefusal, Watched, watch};
 use std::convert::AsStr;
 use std::fmt::Display;
 use std::io::{Read, Write};
@@ -27,8 +27,23 @@ const FAULT: u8 = 1;
 const REFUSED: u8 = 2;
 
 /// Does what the words say, of which the first is the program's name, and answers the status: 0 where the input was read
-/// to its end or help was asked for, 1 after a fault, 2 where the words are refused.
-pub fn command<T: Files + AllocGlobal, S: AsStr, R: Read + Drop, W: Write, E: Write>(
+/// to its end or help was asked for, 1 after a fault, 2 where the words are refused. Without other words the sample is
+/// played, as `watched_command` says.
+pub fn command<T: Files + AllocGlobal, S: AsStr, R: Read + Drop, W: Write + Drop, E: Write>(
+    rt: &T,
+    words: &[S],
+    reader: R,
+    writer: W,
+    errors: &mut E,
+) -> u8
+    ensures status { result ≤ 2 }
+    ensures not_refused { length words.now ≤ 1 → result ≤ 1 }
+{
+    watched_command(rt, words, reader, &mut watch(writer), errors)
+}
+
+// The same over a writer under watch, which tells what was written.
+fn watched_command<T: Files + AllocGlobal, S: AsStr, R: Read + Drop, W: Write, E: Write>(
     rt: &T,
     words: &[S],
     reader: R,
@@ -66,13 +81,12 @@ fn words_of<T: Env + AllocGlobal>(rt: &T) -> io::Result<Vec<String>> {
 }
 
 /// Does what the words of the process say, as `command` does. Words that are not text are refused.
-pub fn program<T: Files + Env + AllocGlobal, R: Read + Drop, W: Write, E: Write>(
+pub fn program<T: Files + Env + AllocGlobal, R: Read + Drop, W: Write + Drop, E: Write>(
     rt: &T,
     reader: R,
-    writer: &mut Watched<W>,
+    writer: W,
     errors: &mut E,
 ) -> u8
-    requires { failed_of writer.old ≡ false }
     ensures { result ≤ 2 }
 {
     match words_of(rt) {

@@ -8,11 +8,10 @@ mod play;
 mod words;
 
 use command::program;
-use rbac_lines::watch;
 use std::process::ExitCode;
 
 fn main(rt: HostRuntime) -> ExitCode {
-    ExitCode::from(program(&rt, rt.stdin(), &mut watch(rt.stdout()), &mut rt.stderr()))
+    ExitCode::from(program(&rt, rt.stdin(), rt.stdout(), &mut rt.stderr()))
 }
 
 #[cfg(test)]

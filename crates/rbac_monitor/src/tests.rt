@@ -1,7 +1,6 @@
 //! Each status, through `command`.
 
 use crate::command::command;
-use rbac_lines::watch;
 use std::io::{Error, ErrorKind, Read, Write};
 use std::test::Fail;
 use std::{fs, io};
@@ -29,7 +28,7 @@ struct Played {
 fn run_with(rt: &HostRuntime, words: &[&str]) -> Played {
     let mut output = Vec::new(rt.alloc());
     let mut errors = Vec::new(rt.alloc());
-    let status = command(rt, words, SCHEDULE, &mut watch(&mut output), &mut errors);
+    let status = command(rt, words, SCHEDULE, &mut output, &mut errors);
     Played {
         status,
         output,
@@ -87,6 +86,8 @@ fn plays_files(rt: HostRuntime) -> Result<(), Fail> {
     assert_eq!(rt; status, 0);
     assert!(rt; output.as_slice() == ANSWERS);
     assert!(rt; errors.is_empty());
+    fs::remove_file(&rt, "founding.toml")?;
+    fs::remove_file(&rt, "schedule.jsonl")?;
     Ok(())
 }
 
@@ -121,6 +122,7 @@ fn tells_a_fault_in_one_line(rt: HostRuntime) -> Result<(), Fail> {
         assert!(rt; output.is_empty());
         assert!(rt; errors.as_slice() == line.as_bytes());
     }
+    fs::remove_file(&rt, "version_2.toml")?;
     Ok(())
 }
 
@@ -162,13 +164,7 @@ fn run_between<R: Read + Drop, W: Write + Drop>(
     writer: W,
 ) -> (u8, Vec<u8>) {
     let mut errors = Vec::new(rt.alloc());
-    let status = command(
-        rt,
-        &["rbac_monitor"],
-        reader,
-        &mut watch(writer),
-        &mut errors,
-    );
+    let status = command(rt, &["rbac_monitor"], reader, writer, &mut errors);
     (status, errors)
 }
 
@@ -189,7 +185,7 @@ fn keeps_the_status_where_nothing_can_be_written(rt: HostRuntime) {
         (&["rbac_monitor", "fly"], 2),
         (&["rbac_monitor", "--help"], 0),
     ] {
-        let status = command(&rt, words, SCHEDULE, &mut watch(Broken), &mut Broken);
+        let status = command(&rt, words, SCHEDULE, Broken, &mut Broken);
         assert_eq!(rt; status, expected);
     }
 }
