@@ -1,15 +1,14 @@
 use crate::Policy;
-use rbac_words::{Answer, Command, Denial, Name, NameSet, Vocabulary};
+use rbac_words::{Denial, Name, Vocabulary};
 use std::alloc::Global;
 use std::process::Abort;
 use std::test::Fail;
 
 mod deletions;
+mod rows;
 mod sessions;
 
-fn name(rt: &impl Abort, alloc: Global, text: &str) -> Name {
-    Name::read(alloc, text.as_bytes()).expect(rt, "a name")
-}
+use rows::{name, play};
 
 fn names(rt: &impl Abort, alloc: Global, texts: &[&str]) -> Vec<Name> {
     let mut names = Vec::new(alloc);
@@ -17,14 +16,6 @@ fn names(rt: &impl Abort, alloc: Global, texts: &[&str]) -> Vec<Name> {
         names.push(name(rt, alloc, text)).expect(rt, "memory");
     }
     names
-}
-
-fn set(rt: &impl Abort, alloc: Global, texts: &[&str]) -> NameSet {
-    let mut set = NameSet::new(alloc);
-    for text in texts {
-        set.add(name(rt, alloc, text)).expect(rt, "memory");
-    }
-    set
 }
 
 // The policy of the sample vocabulary: read ledger, pay invoice and approve invoice.
@@ -48,63 +39,76 @@ fn founded(rt: &impl Abort, alloc: Global) -> Policy {
     Policy::found(alloc, vocabulary)
 }
 
-fn add_user(rt: &impl Abort, alloc: Global, user: &str) -> Command {
-    Command::AddUser {
-        user: name(rt, alloc, user),
-    }
+// A policy to which these rows were done.
+fn played(rt: &impl Abort, alloc: Global, rows: &[(&str, &str)]) -> Policy {
+    let mut policy = founded(rt, alloc);
+    play(rt, alloc, &mut policy, rows);
+    policy
 }
 
-fn add_role(rt: &impl Abort, alloc: Global, role: &str) -> Command {
-    Command::AddRole {
-        role: name(rt, alloc, role),
-    }
+// Ann, a clerk, may read ledgers.
+const A_CLERK: [(&str, &str); 4] = [
+    ("AddUser ann", "Done"),
+    ("AddRole clerk", "Done"),
+    ("AssignUser ann clerk", "Done"),
+    ("GrantPermission read ledger clerk", "Done"),
+];
+
+#[test]
+fn denies_what_exists_and_what_does_not(rt: HostRuntime) {
+    let mut policy = played(&rt, rt.alloc(), &A_CLERK);
+    play(
+        &rt,
+        rt.alloc(),
+        &mut policy,
+        &[
+            ("AddUser ann", "UserExists"),
+            ("AddRole clerk", "RoleExists"),
+            ("AssignUser bob boss", "NoUser"),
+            ("AssignUser ann boss", "NoRole"),
+            ("AssignUser ann clerk", "Assigned"),
+            ("GrantPermission approve ledger boss", "NoPermission"),
+            ("GrantPermission read ledger boss", "NoRole"),
+            ("GrantPermission read ledger clerk", "Done"),
+        ],
+    );
 }
 
-fn assign(rt: &impl Abort, alloc: Global, user: &str, role: &str) -> Command {
-    Command::AssignUser {
-        user: name(rt, alloc, user),
-        role: name(rt, alloc, role),
-    }
+#[test]
+fn creates_sessions(rt: HostRuntime) {
+    let mut policy = played(&rt, rt.alloc(), &A_CLERK);
+    play(
+        &rt,
+        rt.alloc(),
+        &mut policy,
+        &[
+            ("AddRole payer", "Done"),
+            ("CreateSession bob s1", "NoUser"),
+            ("CreateSession ann s1 clerk payer", "NotAuthorized"),
+            ("CreateSession ann s1 clerk", "Done"),
+            ("CreateSession ann s1 moon", "SessionExists"),
+        ],
+    );
 }
 
-fn grant(rt: &impl Abort, alloc: Global, operation: &str, object: &str, role: &str) -> Command {
-    Command::GrantPermission {
-        operation: name(rt, alloc, operation),
-        object: name(rt, alloc, object),
-        role: name(rt, alloc, role),
-    }
-}
-
-fn create(rt: &impl Abort, alloc: Global, user: &str, session: &str, roles: &[&str]) -> Command {
-    Command::CreateSession {
-        user: name(rt, alloc, user),
-        session: name(rt, alloc, session),
-        roles: set(rt, alloc, roles),
-    }
-}
-
-fn check(rt: &impl Abort, alloc: Global, session: &str, operation: &str, object: &str) -> Command {
-    Command::CheckAccess {
-        session: name(rt, alloc, session),
-        operation: name(rt, alloc, operation),
-        object: name(rt, alloc, object),
-    }
-}
-
-// Applies a command, and compares its answer.
-fn expect(rt: &impl Abort, alloc: Global, policy: &mut Policy, command: Command, wanted: Answer) {
-    let answer = policy.apply(alloc, &command).expect(rt, "memory");
-    assert_eq!(rt; answer, wanted);
-}
-
-// Applies a command that is done.
-fn done(rt: &impl Abort, alloc: Global, policy: &mut Policy, command: Command) {
-    expect(rt, alloc, policy, command, Answer::Done);
-}
-
-// Applies a command that is denied for this.
-fn denied(rt: &impl Abort, alloc: Global, policy: &mut Policy, command: Command, wanted: Denial) {
-    expect(rt, alloc, policy, command, Answer::Denied(wanted));
+#[test]
+fn checks_by_command(rt: HostRuntime) {
+    let mut policy = played(&rt, rt.alloc(), &A_CLERK);
+    play(
+        &rt,
+        rt.alloc(),
+        &mut policy,
+        &[
+            ("CreateSession ann s1 clerk", "Done"),
+            ("CreateSession ann s2", "Done"),
+            ("CheckAccess s1 read ledger", "Granted"),
+            ("CheckAccess s2 read ledger", "Refused"),
+            ("CheckAccess s1 pay ledger", "Refused"),
+            ("CheckAccess zz fly moon", "NoSession"),
+            ("CheckAccess s1 fly moon", "NoOperation"),
+            ("CheckAccess s1 read moon", "NoObject"),
+        ],
+    );
 }
 
 // Checks an access, and compares the answer.
@@ -121,264 +125,70 @@ fn expect_check(
     assert_eq!(rt; policy.check(&session, &operation, &object), wanted);
 }
 
-// A policy in which ann, a clerk, may read ledgers.
-fn with_a_clerk(rt: &impl Abort, alloc: Global) -> Policy {
-    let mut policy = founded(rt, alloc);
-    done(rt, alloc, &mut policy, add_user(rt, alloc, "ann"));
-    done(rt, alloc, &mut policy, add_role(rt, alloc, "clerk"));
-    done(rt, alloc, &mut policy, assign(rt, alloc, "ann", "clerk"));
-    done(
-        rt,
-        alloc,
-        &mut policy,
-        grant(rt, alloc, "read", "ledger", "clerk"),
-    );
-    policy
-}
-
-#[test]
-fn denies_users_and_roles_that_exist(rt: HostRuntime) {
-    let alloc = rt.alloc();
-    let mut policy = with_a_clerk(&rt, alloc);
-    denied(
-        &rt,
-        alloc,
-        &mut policy,
-        add_user(&rt, alloc, "ann"),
-        Denial::UserExists,
-    );
-    denied(
-        &rt,
-        alloc,
-        &mut policy,
-        add_role(&rt, alloc, "clerk"),
-        Denial::RoleExists,
-    );
-}
-
-#[test]
-fn denies_assignments(rt: HostRuntime) {
-    let alloc = rt.alloc();
-    let mut policy = with_a_clerk(&rt, alloc);
-    denied(
-        &rt,
-        alloc,
-        &mut policy,
-        assign(&rt, alloc, "bob", "boss"),
-        Denial::NoUser,
-    );
-    denied(
-        &rt,
-        alloc,
-        &mut policy,
-        assign(&rt, alloc, "ann", "boss"),
-        Denial::NoRole,
-    );
-    denied(
-        &rt,
-        alloc,
-        &mut policy,
-        assign(&rt, alloc, "ann", "clerk"),
-        Denial::Assigned,
-    );
-}
-
-#[test]
-fn denies_grants(rt: HostRuntime) {
-    let alloc = rt.alloc();
-    let mut policy = with_a_clerk(&rt, alloc);
-    denied(
-        &rt,
-        alloc,
-        &mut policy,
-        grant(&rt, alloc, "approve", "ledger", "boss"),
-        Denial::NoPermission,
-    );
-    denied(
-        &rt,
-        alloc,
-        &mut policy,
-        grant(&rt, alloc, "read", "ledger", "boss"),
-        Denial::NoRole,
-    );
-    done(
-        &rt,
-        alloc,
-        &mut policy,
-        grant(&rt, alloc, "read", "ledger", "clerk"),
-    );
-}
-
-#[test]
-fn creates_sessions(rt: HostRuntime) {
-    let alloc = rt.alloc();
-    let mut policy = with_a_clerk(&rt, alloc);
-    done(&rt, alloc, &mut policy, add_role(&rt, alloc, "payer"));
-    denied(
-        &rt,
-        alloc,
-        &mut policy,
-        create(&rt, alloc, "bob", "s1", &[]),
-        Denial::NoUser,
-    );
-    denied(
-        &rt,
-        alloc,
-        &mut policy,
-        create(&rt, alloc, "ann", "s1", &["clerk", "payer"]),
-        Denial::NotAuthorized,
-    );
-    done(
-        &rt,
-        alloc,
-        &mut policy,
-        create(&rt, alloc, "ann", "s1", &["clerk"]),
-    );
-    denied(
-        &rt,
-        alloc,
-        &mut policy,
-        create(&rt, alloc, "ann", "s1", &["moon"]),
-        Denial::SessionExists,
-    );
-}
-
-#[test]
-fn checks_by_command(rt: HostRuntime) {
-    let alloc = rt.alloc();
-    let mut policy = with_a_clerk(&rt, alloc);
-    done(
-        &rt,
-        alloc,
-        &mut policy,
-        create(&rt, alloc, "ann", "s1", &["clerk"]),
-    );
-    done(
-        &rt,
-        alloc,
-        &mut policy,
-        create(&rt, alloc, "ann", "s2", &[]),
-    );
-    expect(
-        &rt,
-        alloc,
-        &mut policy,
-        check(&rt, alloc, "s1", "read", "ledger"),
-        Answer::Granted,
-    );
-    expect(
-        &rt,
-        alloc,
-        &mut policy,
-        check(&rt, alloc, "s2", "read", "ledger"),
-        Answer::Refused,
-    );
-    expect(
-        &rt,
-        alloc,
-        &mut policy,
-        check(&rt, alloc, "s1", "pay", "ledger"),
-        Answer::Refused,
-    );
-}
-
-#[test]
-fn denies_checks_by_command(rt: HostRuntime) {
-    let alloc = rt.alloc();
-    let mut policy = with_a_clerk(&rt, alloc);
-    done(
-        &rt,
-        alloc,
-        &mut policy,
-        create(&rt, alloc, "ann", "s1", &["clerk"]),
-    );
-    denied(
-        &rt,
-        alloc,
-        &mut policy,
-        check(&rt, alloc, "zz", "fly", "moon"),
-        Denial::NoSession,
-    );
-    denied(
-        &rt,
-        alloc,
-        &mut policy,
-        check(&rt, alloc, "s1", "fly", "moon"),
-        Denial::NoOperation,
-    );
-    denied(
-        &rt,
-        alloc,
-        &mut policy,
-        check(&rt, alloc, "s1", "read", "moon"),
-        Denial::NoObject,
-    );
-}
-
 // Checks on a policy where ann's session s1 is a clerk's.
 fn expect_checks(rt: &impl Abort, alloc: Global, policy: &Policy) {
-    expect_check(rt, alloc, policy, ["s1", "read", "ledger"], Ok(true));
-    expect_check(rt, alloc, policy, ["s1", "pay", "ledger"], Ok(false));
-    expect_check(
-        rt,
-        alloc,
-        policy,
-        ["zz", "fly", "moon"],
-        Err(Denial::NoSession),
-    );
-    expect_check(
-        rt,
-        alloc,
-        policy,
-        ["s1", "fly", "moon"],
-        Err(Denial::NoOperation),
-    );
-    expect_check(
-        rt,
-        alloc,
-        policy,
-        ["s1", "read", "moon"],
-        Err(Denial::NoObject),
-    );
+    for (words, wanted) in [
+        (["s1", "read", "ledger"], Ok(true)),
+        (["s1", "pay", "ledger"], Ok(false)),
+        (["zz", "fly", "moon"], Err(Denial::NoSession)),
+        (["s1", "fly", "moon"], Err(Denial::NoOperation)),
+        (["s1", "read", "moon"], Err(Denial::NoObject)),
+    ] {
+        expect_check(rt, alloc, policy, words, wanted);
+    }
 }
 
 #[test]
 fn checks_without_a_command(rt: HostRuntime) {
-    let alloc = rt.alloc();
-    let mut policy = with_a_clerk(&rt, alloc);
-    done(
-        &rt,
-        alloc,
-        &mut policy,
-        create(&rt, alloc, "ann", "s1", &["clerk"]),
-    );
+    let mut policy = played(&rt, rt.alloc(), &A_CLERK);
+    let opened = [("CreateSession ann s1 clerk", "Done")];
+    play(&rt, rt.alloc(), &mut policy, &opened);
     policy.invariants();
-    expect_checks(&rt, alloc, &policy);
-    let copy = policy.copy(alloc).expect(&rt, "memory");
-    expect_checks(&rt, alloc, &copy);
+    expect_checks(&rt, rt.alloc(), &policy);
+    let copy = policy.copy(rt.alloc()).expect(&rt, "memory");
+    expect_checks(&rt, rt.alloc(), &copy);
+}
+
+// Whether two policies are told to be the same.
+fn expect_same(rt: &impl Abort, policy: &Policy, other: &Policy, wanted: bool) {
+    assert_eq!(rt; policy.same(other), wanted);
+}
+
+#[test]
+fn tells_equal_policies(rt: HostRuntime) {
+    let mut policy = played(&rt, rt.alloc(), &A_CLERK);
+    let copy = policy.copy(rt.alloc()).expect(&rt, "memory");
+    expect_same(&rt, &policy, &copy, true);
+    let opened = [("CreateSession ann s1 clerk", "Done")];
+    play(&rt, rt.alloc(), &mut policy, &opened);
+    expect_same(&rt, &policy, &copy, false);
+    let ended = [("DeleteSession ann s1", "Done")];
+    play(&rt, rt.alloc(), &mut policy, &ended);
+    expect_same(&rt, &policy, &copy, true);
+    let revoked = [("RevokePermission read ledger clerk", "Done")];
+    play(&rt, rt.alloc(), &mut policy, &revoked);
+    expect_same(&rt, &policy, &copy, false);
+}
+
+// Adds a role of this number.
+fn add_role(
+    rt: &impl Abort,
+    alloc: Global,
+    policy: &mut Policy,
+    number: u32,
+    wanted: &str,
+) -> Result<(), Fail> {
+    let text = format!(in alloc; "AddRole r{number}")?;
+    play(rt, alloc, policy, &[(text.as_str(), wanted)]);
+    Ok(())
 }
 
 #[test]
 fn stops_at_the_limit_of_roles(rt: HostRuntime) -> Result<(), Fail> {
-    let alloc = rt.alloc();
-    let mut policy = founded(&rt, alloc);
-    for number in 0..1024u32 {
-        let role = format!(in alloc; "r{number}")?;
-        done(&rt, alloc, &mut policy, add_role(&rt, alloc, role.as_str()));
+    let mut policy = founded(&rt, rt.alloc());
+    for number in 0..1024 {
+        add_role(&rt, rt.alloc(), &mut policy, number, "Done")?;
     }
-    denied(
-        &rt,
-        alloc,
-        &mut policy,
-        add_role(&rt, alloc, "role"),
-        Denial::Limit,
-    );
-    denied(
-        &rt,
-        alloc,
-        &mut policy,
-        add_role(&rt, alloc, "r1"),
-        Denial::RoleExists,
-    );
-    Ok(())
+    add_role(&rt, rt.alloc(), &mut policy, 1024, "Limit")?;
+    add_role(&rt, rt.alloc(), &mut policy, 1, "RoleExists")
 }

@@ -1,235 +1,72 @@
-//! The commands of a session, in the order of a user's session.
+//! The commands of a session, and the order in which they are denied.
 
-use super::{add_user, assign, check, create, denied, done, expect, name, with_a_clerk};
-use crate::Policy;
-use rbac_words::{Answer, Command, Denial};
-use std::alloc::Global;
-use std::process::Abort;
+use super::rows::play;
+use super::{A_CLERK, played};
 
-fn activate(rt: &impl Abort, alloc: Global, user: &str, session: &str, role: &str) -> Command {
-    Command::AddActiveRole {
-        user: name(rt, alloc, user),
-        session: name(rt, alloc, session),
-        role: name(rt, alloc, role),
-    }
-}
-
-fn deactivate(rt: &impl Abort, alloc: Global, user: &str, session: &str, role: &str) -> Command {
-    Command::DropActiveRole {
-        user: name(rt, alloc, user),
-        session: name(rt, alloc, session),
-        role: name(rt, alloc, role),
-    }
-}
-
-fn end(rt: &impl Abort, alloc: Global, user: &str, session: &str) -> Command {
-    Command::DeleteSession {
-        user: name(rt, alloc, user),
-        session: name(rt, alloc, session),
-    }
-}
-
-// A policy in which ann, a clerk, has the session s1 with no active role.
-fn with_a_session(rt: &impl Abort, alloc: Global) -> Policy {
-    let mut policy = with_a_clerk(rt, alloc);
-    done(rt, alloc, &mut policy, create(rt, alloc, "ann", "s1", &[]));
-    policy
-}
+// Ann, a clerk, has the session s1 with no active role, and bob, no clerk, has s2.
+const TWO_SESSIONS: [(&str, &str); 3] = [
+    ("AddUser bob", "Done"),
+    ("CreateSession ann s1", "Done"),
+    ("CreateSession bob s2", "Done"),
+];
 
 #[test]
 fn activates_a_role_once(rt: HostRuntime) {
-    let alloc = rt.alloc();
-    let mut policy = with_a_session(&rt, alloc);
-    expect(
+    let mut policy = played(&rt, rt.alloc(), &A_CLERK);
+    play(&rt, rt.alloc(), &mut policy, &TWO_SESSIONS);
+    play(
         &rt,
-        alloc,
+        rt.alloc(),
         &mut policy,
-        check(&rt, alloc, "s1", "read", "ledger"),
-        Answer::Refused,
-    );
-    done(
-        &rt,
-        alloc,
-        &mut policy,
-        activate(&rt, alloc, "ann", "s1", "clerk"),
-    );
-    expect(
-        &rt,
-        alloc,
-        &mut policy,
-        check(&rt, alloc, "s1", "read", "ledger"),
-        Answer::Granted,
-    );
-    denied(
-        &rt,
-        alloc,
-        &mut policy,
-        activate(&rt, alloc, "ann", "s1", "clerk"),
-        Denial::RoleActive,
+        &[
+            ("CheckAccess s1 read ledger", "Refused"),
+            ("AddActiveRole ann s1 clerk", "Done"),
+            ("CheckAccess s1 read ledger", "Granted"),
+            ("AddActiveRole ann s1 clerk", "RoleActive"),
+            ("DropActiveRole ann s1 clerk", "Done"),
+            ("CheckAccess s1 read ledger", "Refused"),
+            ("DropActiveRole ann s1 clerk", "RoleNotActive"),
+        ],
     );
 }
 
 #[test]
-fn denies_activations_in_order(rt: HostRuntime) {
-    let alloc = rt.alloc();
-    let mut policy = with_a_session(&rt, alloc);
-    denied(
+fn denies_changes_of_active_roles_in_order(rt: HostRuntime) {
+    let mut policy = played(&rt, rt.alloc(), &A_CLERK);
+    play(&rt, rt.alloc(), &mut policy, &TWO_SESSIONS);
+    play(
         &rt,
-        alloc,
+        rt.alloc(),
         &mut policy,
-        activate(&rt, alloc, "bob", "s2", "boss"),
-        Denial::NoUser,
-    );
-    done(&rt, alloc, &mut policy, add_user(&rt, alloc, "bob"));
-    denied(
-        &rt,
-        alloc,
-        &mut policy,
-        activate(&rt, alloc, "bob", "s2", "boss"),
-        Denial::NoSession,
-    );
-    denied(
-        &rt,
-        alloc,
-        &mut policy,
-        activate(&rt, alloc, "bob", "s1", "boss"),
-        Denial::NoRole,
-    );
-    denied(
-        &rt,
-        alloc,
-        &mut policy,
-        activate(&rt, alloc, "bob", "s1", "clerk"),
-        Denial::NotOwner,
-    );
-}
-
-#[test]
-fn activates_only_what_the_owner_is_authorized_for(rt: HostRuntime) {
-    let alloc = rt.alloc();
-    let mut policy = with_a_session(&rt, alloc);
-    done(&rt, alloc, &mut policy, add_user(&rt, alloc, "bob"));
-    done(
-        &rt,
-        alloc,
-        &mut policy,
-        create(&rt, alloc, "bob", "s2", &[]),
-    );
-    denied(
-        &rt,
-        alloc,
-        &mut policy,
-        activate(&rt, alloc, "bob", "s2", "clerk"),
-        Denial::NotAuthorized,
-    );
-    done(&rt, alloc, &mut policy, assign(&rt, alloc, "bob", "clerk"));
-    done(
-        &rt,
-        alloc,
-        &mut policy,
-        activate(&rt, alloc, "bob", "s2", "clerk"),
-    );
-}
-
-#[test]
-fn drops_an_active_role_once(rt: HostRuntime) {
-    let alloc = rt.alloc();
-    let mut policy = with_a_session(&rt, alloc);
-    denied(
-        &rt,
-        alloc,
-        &mut policy,
-        deactivate(&rt, alloc, "ann", "s1", "clerk"),
-        Denial::RoleNotActive,
-    );
-    done(
-        &rt,
-        alloc,
-        &mut policy,
-        activate(&rt, alloc, "ann", "s1", "clerk"),
-    );
-    done(
-        &rt,
-        alloc,
-        &mut policy,
-        deactivate(&rt, alloc, "ann", "s1", "clerk"),
-    );
-    expect(
-        &rt,
-        alloc,
-        &mut policy,
-        check(&rt, alloc, "s1", "read", "ledger"),
-        Answer::Refused,
-    );
-}
-
-#[test]
-fn denies_drops_in_order(rt: HostRuntime) {
-    let alloc = rt.alloc();
-    let mut policy = with_a_session(&rt, alloc);
-    denied(
-        &rt,
-        alloc,
-        &mut policy,
-        deactivate(&rt, alloc, "bob", "s2", "boss"),
-        Denial::NoUser,
-    );
-    done(&rt, alloc, &mut policy, add_user(&rt, alloc, "bob"));
-    denied(
-        &rt,
-        alloc,
-        &mut policy,
-        deactivate(&rt, alloc, "bob", "s2", "boss"),
-        Denial::NoSession,
-    );
-    denied(
-        &rt,
-        alloc,
-        &mut policy,
-        deactivate(&rt, alloc, "bob", "s1", "boss"),
-        Denial::NoRole,
-    );
-    denied(
-        &rt,
-        alloc,
-        &mut policy,
-        deactivate(&rt, alloc, "bob", "s1", "clerk"),
-        Denial::NotOwner,
+        &[
+            ("AddActiveRole eve s3 boss", "NoUser"),
+            ("AddActiveRole bob s3 boss", "NoSession"),
+            ("AddActiveRole bob s1 boss", "NoRole"),
+            ("AddActiveRole bob s1 clerk", "NotOwner"),
+            ("AddActiveRole bob s2 clerk", "NotAuthorized"),
+            ("DropActiveRole eve s3 boss", "NoUser"),
+            ("DropActiveRole bob s3 boss", "NoSession"),
+            ("DropActiveRole bob s1 boss", "NoRole"),
+            ("DropActiveRole bob s1 clerk", "NotOwner"),
+            ("DropActiveRole bob s2 clerk", "RoleNotActive"),
+        ],
     );
 }
 
 #[test]
 fn ends_a_session_of_its_owner(rt: HostRuntime) {
-    let alloc = rt.alloc();
-    let mut policy = with_a_session(&rt, alloc);
-    denied(
+    let mut policy = played(&rt, rt.alloc(), &A_CLERK);
+    play(&rt, rt.alloc(), &mut policy, &TWO_SESSIONS);
+    play(
         &rt,
-        alloc,
+        rt.alloc(),
         &mut policy,
-        end(&rt, alloc, "bob", "s2"),
-        Denial::NoUser,
-    );
-    done(&rt, alloc, &mut policy, add_user(&rt, alloc, "bob"));
-    denied(
-        &rt,
-        alloc,
-        &mut policy,
-        end(&rt, alloc, "bob", "s2"),
-        Denial::NoSession,
-    );
-    denied(
-        &rt,
-        alloc,
-        &mut policy,
-        end(&rt, alloc, "bob", "s1"),
-        Denial::NotOwner,
-    );
-    done(&rt, alloc, &mut policy, end(&rt, alloc, "ann", "s1"));
-    denied(
-        &rt,
-        alloc,
-        &mut policy,
-        end(&rt, alloc, "ann", "s1"),
-        Denial::NoSession,
+        &[
+            ("DeleteSession eve s3", "NoUser"),
+            ("DeleteSession bob s3", "NoSession"),
+            ("DeleteSession bob s1", "NotOwner"),
+            ("DeleteSession ann s1", "Done"),
+            ("DeleteSession ann s1", "NoSession"),
+        ],
     );
 }

@@ -1,0 +1,132 @@
+//! Commands and answers as a person writes them: `AssignUser ann clerk` and `Done`.
+
+use crate::Policy;
+use rbac_words::{Answer, Command, Name, NameSet};
+use std::alloc::Global;
+use std::process::Abort;
+
+pub fn name(rt: &impl Abort, alloc: Global, text: &str) -> Name {
+    Name::read(alloc, text.as_bytes()).expect(rt, "a name")
+}
+
+// The name at a place of a command's words.
+fn name_at(rt: &impl Abort, alloc: Global, words: &[&str], at: usize) -> Name {
+    name(rt, alloc, words.get(at).expect(rt, "a word"))
+}
+
+// The set of the names from a place on.
+fn names_from(rt: &impl Abort, alloc: Global, words: &[&str], at: usize) -> NameSet {
+    let mut names = NameSet::new(alloc);
+    for word in words.iter().skip(at) {
+        names.add(name(rt, alloc, word)).expect(rt, "memory");
+    }
+    names
+}
+
+// A command about a session, by its name and its words from the first field on.
+fn session_command(rt: &impl Abort, alloc: Global, kind: &str, words: &[&str]) -> Command {
+    let first = name_at(rt, alloc, words, 0);
+    let second = name_at(rt, alloc, words, 1);
+    match kind {
+        "CreateSession" => Command::CreateSession {
+            user: first,
+            session: second,
+            roles: names_from(rt, alloc, words, 2),
+        },
+        "DeleteSession" => Command::DeleteSession {
+            user: first,
+            session: second,
+        },
+        "AddActiveRole" => Command::AddActiveRole {
+            user: first,
+            session: second,
+            role: name_at(rt, alloc, words, 2),
+        },
+        "DropActiveRole" => Command::DropActiveRole {
+            user: first,
+            session: second,
+            role: name_at(rt, alloc, words, 2),
+        },
+        _ => Command::CheckAccess {
+            session: first,
+            operation: second,
+            object: name_at(rt, alloc, words, 2),
+        },
+    }
+}
+
+// A command about a permission.
+fn permission_command(rt: &impl Abort, alloc: Global, kind: &str, words: &[&str]) -> Command {
+    let operation = name_at(rt, alloc, words, 0);
+    let object = name_at(rt, alloc, words, 1);
+    let role = name_at(rt, alloc, words, 2);
+    if kind == "GrantPermission" {
+        Command::GrantPermission {
+            operation,
+            object,
+            role,
+        }
+    } else {
+        Command::RevokePermission {
+            operation,
+            object,
+            role,
+        }
+    }
+}
+
+// A command by its name and its words from the first field on.
+fn command(rt: &impl Abort, alloc: Global, kind: &str, words: &[&str]) -> Command {
+    match kind {
+        "AddUser" => Command::AddUser {
+            user: name_at(rt, alloc, words, 0),
+        },
+        "DeleteUser" => Command::DeleteUser {
+            user: name_at(rt, alloc, words, 0),
+        },
+        "AddRole" => Command::AddRole {
+            role: name_at(rt, alloc, words, 0),
+        },
+        "DeleteRole" => Command::DeleteRole {
+            role: name_at(rt, alloc, words, 0),
+        },
+        "AssignUser" => Command::AssignUser {
+            user: name_at(rt, alloc, words, 0),
+            role: name_at(rt, alloc, words, 1),
+        },
+        "DeassignUser" => Command::DeassignUser {
+            user: name_at(rt, alloc, words, 0),
+            role: name_at(rt, alloc, words, 1),
+        },
+        "GrantPermission" | "RevokePermission" => permission_command(rt, alloc, kind, words),
+        _ => session_command(rt, alloc, kind, words),
+    }
+}
+
+fn answer_word(answer: &Answer) -> &str {
+    match answer {
+        Answer::Done => "Done",
+        Answer::Granted => "Granted",
+        Answer::Refused => "Refused",
+        Answer::Denied(denial) => denial.word(),
+    }
+}
+
+// Applies the command of a row, and compares its answer.
+fn play_row(rt: &impl Abort, alloc: Global, policy: &mut Policy, text: &str, wanted: &str) {
+    let (kind, fields) = text.split_once(' ').expect(rt, "a command with a field");
+    let words: Vec<&str> = fields
+        .split_whitespace()
+        .collect(alloc)
+        .expect(rt, "memory");
+    let command = command(rt, alloc, kind, &words);
+    let answer = policy.apply(alloc, &command).expect(rt, "memory");
+    assert!(rt; answer_word(&answer) == wanted, "{text}");
+}
+
+/// Applies the commands of these rows one after the other, and compares their answers.
+pub fn play(rt: &impl Abort, alloc: Global, policy: &mut Policy, rows: &[(&str, &str)]) {
+    for (text, wanted) in rows {
+        play_row(rt, alloc, policy, text, wanted);
+    }
+}
