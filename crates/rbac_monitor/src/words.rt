@@ -26,7 +26,7 @@ Without words: the same as 'play - -'.
 
 Examples:
   rbac_monitor < examples/first_day.jsonl
-  rbac_monitor play founding.toml schedule.jsonl
+  rbac_monitor play examples/clinic.toml examples/clinic_day.jsonl
 
 Status:
   0  the input was read to its end, or this help was asked for
