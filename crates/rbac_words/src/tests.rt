@@ -1,7 +1,6 @@
 //! Each public call with ample memory. What is expected was written by hand.
 use crate::{
-    Answer, Command, Denial, Group, GroupRefusal, Message, Name, NameRefusal, NameSet, Record,
-    Stamp, Vocabulary, VocabularyRefusal,
+    Denial, Group, GroupRefusal, Name, NameRefusal, NameSet, Stamp, Vocabulary, VocabularyRefusal,
 };
 use sorted_keys::Same;
 use std::alloc::Global;
@@ -9,8 +8,7 @@ use std::process::Abort;
 use std::test::Fail;
 
 mod commands;
-
-use commands::{grant, is_same};
+mod messages;
 
 fn name(rt: &impl Abort, alloc: Global, text: &str) -> Name {
     Name::read(alloc, text.as_bytes()).expect(rt, "a name")
@@ -104,61 +102,6 @@ fn a_set_of_names(rt: HostRuntime) -> Result<(), Fail> {
     set.remove(&name(&rt, alloc, "boss"));
     assert_names(&rt, set.names(), &["Boss", "clerk"]);
     assert_names(&rt, copy.names(), &["Boss", "auditor", "clerk"]);
-    Ok(())
-}
-
-#[test]
-fn messages_are_copied(rt: HostRuntime) -> Result<(), Fail> {
-    let alloc = rt.alloc();
-    let stamp = Stamp {
-        clock: 7,
-        member: 2,
-    };
-    let ack = Message::Ack { stamp };
-    assert_eq!(rt; ack.stamp(), stamp);
-    assert!(rt; matches!(ack.copy(alloc)?, Message::Ack { stamp: copied } if copied == stamp));
-    let command = grant(&rt, alloc);
-    let call = Message::Call {
-        stamp,
-        caller: 3,
-        serial: 4,
-        command,
-    };
-    assert_eq!(rt; call.stamp(), stamp);
-    let Message::Call {
-        stamp: copied,
-        caller,
-        serial,
-        command,
-    } = call.copy(alloc)?
-    else {
-        panic!(rt; "a call is copied as a call");
-    };
-    assert_eq!(rt; (copied, caller, serial), (stamp, 3, 4));
-    assert!(rt; is_same(&command, &grant(&rt, alloc)));
-    Ok(())
-}
-
-#[test]
-fn records_are_copied(rt: HostRuntime) -> Result<(), Fail> {
-    let alloc = rt.alloc();
-    let stamp = Stamp {
-        clock: 7,
-        member: 2,
-    };
-    let command = grant(&rt, alloc);
-    let answer = Answer::Denied(Denial::NoRole);
-    let record = Record {
-        stamp,
-        caller: 3,
-        serial: 4,
-        command,
-        answer,
-    };
-    let copy = record.copy(alloc)?;
-    assert_eq!(rt; (copy.stamp, copy.caller, copy.serial), (stamp, 3, 4));
-    assert_eq!(rt; copy.answer, answer);
-    assert!(rt; is_same(&copy.command, &grant(&rt, alloc)));
     Ok(())
 }
 

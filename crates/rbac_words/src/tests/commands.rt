@@ -4,7 +4,6 @@ use super::{name, set};
 use crate::{Command, Name};
 use std::alloc::Global;
 use std::process::Abort;
-use std::test::Fail;
 
 fn one(first: &Name) -> [&[u8]; 3] {
     [first.as_bytes(), b"", b""]
@@ -76,86 +75,147 @@ pub fn grant(rt: &impl Abort, alloc: Global) -> Command {
     }
 }
 
-#[test]
-fn a_copy_is_the_same_command(rt: HostRuntime) -> Result<(), Fail> {
-    let alloc = rt.alloc();
-    let named = |text: &str| name(&rt, alloc, text);
-    for command in [
-        Command::AddUser { user: named("ann") },
-        Command::DeleteUser { user: named("ann") },
+// Whether the copy of a command is the same command.
+fn expect_copied(rt: &impl Abort, alloc: Global, command: Command) {
+    let copy = command.copy(alloc).expect(rt, "memory");
+    assert!(rt; is_same(&copy, &command));
+}
+
+fn copies_of_a_user(rt: &impl Abort, alloc: Global) {
+    let named = |text: &str| name(rt, alloc, text);
+    expect_copied(rt, alloc, Command::AddUser { user: named("ann") });
+    expect_copied(rt, alloc, Command::DeleteUser { user: named("ann") });
+}
+
+fn copies_of_a_role(rt: &impl Abort, alloc: Global) {
+    let named = |text: &str| name(rt, alloc, text);
+    expect_copied(
+        rt,
+        alloc,
         Command::AddRole {
             role: named("clerk"),
         },
+    );
+    expect_copied(
+        rt,
+        alloc,
         Command::DeleteRole {
             role: named("clerk"),
         },
+    );
+}
+
+fn copies_of_an_assignment(rt: &impl Abort, alloc: Global) {
+    let named = |text: &str| name(rt, alloc, text);
+    expect_copied(
+        rt,
+        alloc,
         Command::AssignUser {
             user: named("ann"),
             role: named("clerk"),
         },
+    );
+    expect_copied(
+        rt,
+        alloc,
         Command::DeassignUser {
             user: named("ann"),
             role: named("clerk"),
         },
-        grant(&rt, alloc),
+    );
+}
+
+fn copies_of_a_permission(rt: &impl Abort, alloc: Global) {
+    let named = |text: &str| name(rt, alloc, text);
+    expect_copied(rt, alloc, grant(rt, alloc));
+    expect_copied(
+        rt,
+        alloc,
         Command::RevokePermission {
             operation: named("pay"),
             object: named("invoice"),
             role: named("clerk"),
         },
-    ] {
-        assert!(rt; is_same(&command.copy(alloc)?, &command));
-    }
-    Ok(())
+    );
 }
 
-#[test]
-fn a_copy_is_the_same_command_of_a_session(rt: HostRuntime) -> Result<(), Fail> {
-    let alloc = rt.alloc();
-    let named = |text: &str| name(&rt, alloc, text);
-    for command in [
+fn copies_of_a_session(rt: &impl Abort, alloc: Global) {
+    let named = |text: &str| name(rt, alloc, text);
+    expect_copied(
+        rt,
+        alloc,
         Command::CreateSession {
             user: named("ann"),
             session: named("s1"),
-            roles: set(&rt, alloc, &["payer", "clerk"]),
+            roles: set(rt, alloc, &["payer", "clerk"]),
         },
+    );
+    expect_copied(
+        rt,
+        alloc,
         Command::DeleteSession {
             user: named("ann"),
             session: named("s1"),
         },
+    );
+}
+
+fn copies_of_active_roles(rt: &impl Abort, alloc: Global) {
+    let named = |text: &str| name(rt, alloc, text);
+    expect_copied(
+        rt,
+        alloc,
         Command::AddActiveRole {
             user: named("ann"),
             session: named("s1"),
             role: named("clerk"),
         },
+    );
+    expect_copied(
+        rt,
+        alloc,
         Command::DropActiveRole {
             user: named("ann"),
             session: named("s1"),
             role: named("clerk"),
         },
+    );
+    expect_copied(
+        rt,
+        alloc,
         Command::CheckAccess {
             session: named("s1"),
             operation: named("pay"),
             object: named("invoice"),
         },
-    ] {
-        assert!(rt; is_same(&command.copy(alloc)?, &command));
-    }
-    Ok(())
+    );
+}
+
+#[test]
+fn a_copy_is_the_same_command(rt: HostRuntime) {
+    copies_of_a_user(&rt, rt.alloc());
+    copies_of_a_role(&rt, rt.alloc());
+    copies_of_an_assignment(&rt, rt.alloc());
+    copies_of_a_permission(&rt, rt.alloc());
+    copies_of_a_session(&rt, rt.alloc());
+    copies_of_active_roles(&rt, rt.alloc());
+}
+
+fn expect_other(rt: &impl Abort, command: Command, other: Command) {
+    assert!(rt; !is_same(&command, &other));
 }
 
 #[test]
 fn other_commands_are_not_the_same(rt: HostRuntime) {
-    let alloc = rt.alloc();
-    let ann = Command::AddUser {
-        user: name(&rt, alloc, "ann"),
-    };
-    let bob = Command::AddUser {
-        user: name(&rt, alloc, "bob"),
-    };
-    let no_ann = Command::DeleteUser {
-        user: name(&rt, alloc, "ann"),
-    };
-    assert!(rt; !is_same(&ann, &bob));
-    assert!(rt; !is_same(&ann, &no_ann));
+    let named = |text: &str| name(&rt, rt.alloc(), text);
+    expect_other(
+        &rt,
+        Command::AddUser { user: named("ann") },
+        Command::AddUser { user: named("bob") },
+    );
+    expect_other(
+        &rt,
+        Command::AddUser { user: named("ann") },
+        Command::DeleteUser { user: named("ann") },
+    );
 }
