@@ -100,8 +100,8 @@ impl Policy {
         Ok(self.session_holds(session, operation, object))
     }
 
-    /// Of each policy references exist, counts are within their limits, and each session's owner exists and is authorized
-    /// for its active roles.
+    /// Of each policy each set is in order and without repeats, references exist, counts are within their limits, and each
+    /// session's owner exists and is authorized for its active roles.
     pub fn invariants(&self)
         ensures { IsSound self.now }
     {
