@@ -256,7 +256,7 @@ fn numbers(rt: HostRuntime) -> Result<(), AllocError> {
 }
 
 #[test]
-fn lists(rt: HostRuntime) -> Result<(), AllocError> {
+fn lists_of_another_kind(rt: HostRuntime) -> Result<(), AllocError> {
     for (lines, refusal) in [
         (EMPTY_LISTS, None),
         (
@@ -287,36 +287,49 @@ fn lists(rt: HostRuntime) -> Result<(), AllocError> {
             "clock = -1\noperations = [\"\"]\nobjects = []\npermissions = []",
             Some(FoundingRefusal::OutOfRange),
         ),
+    ] {
+        assert_eq!(rt; refusal_of_lists(rt.alloc(), lines)?, refusal, "{lines}");
+    }
+    Ok(())
+}
+
+#[test]
+fn names_in_lists(rt: HostRuntime) -> Result<(), AllocError> {
+    for (lines, refusal) in [
         (
             "operations = [\"a\", \"a\"]\nobjects = [\"no name\"]\npermissions = []",
-            Some(FoundingRefusal::BadName),
+            FoundingRefusal::BadName,
         ),
         (
             "operations = [\"a\", \"a\"]\nobjects = []\npermissions = [[\"a\", \"\"]]",
-            Some(FoundingRefusal::BadName),
+            FoundingRefusal::BadName,
         ),
         (
             "operations = [\"a\", \"a\"]\nobjects = []\npermissions = [[\"a\", \"b\"]]",
-            Some(FoundingRefusal::Repeated),
+            FoundingRefusal::Repeated,
         ),
         (
             "operations = []\nobjects = [\"b\", \"b\"]\npermissions = [[\"a\", \"b\"]]",
-            Some(FoundingRefusal::Repeated),
+            FoundingRefusal::Repeated,
         ),
         (
             "operations = []\nobjects = []\npermissions = [[\"a\", \"b\"], [\"a\", \"b\"]]",
-            Some(FoundingRefusal::Repeated),
+            FoundingRefusal::Repeated,
         ),
         (
             "operations = [\"a\"]\nobjects = []\npermissions = [[\"a\", \"b\"]]",
-            Some(FoundingRefusal::UnknownName),
+            FoundingRefusal::UnknownName,
         ),
         (
             "operations = []\nobjects = [\"b\"]\npermissions = [[\"a\", \"b\"]]",
-            Some(FoundingRefusal::UnknownName),
+            FoundingRefusal::UnknownName,
         ),
     ] {
-        assert_eq!(rt; refusal_of_lists(rt.alloc(), lines)?, refusal, "{lines}");
+        assert_eq!(rt;
+            refusal_of_lists(rt.alloc(), lines)?,
+            Some(refusal),
+            "{lines}"
+        );
     }
     Ok(())
 }

@@ -4,6 +4,7 @@ use crate::reading::read_line;
 use crate::refusal::LineRefusal;
 use rbac_words::{Command, Event, Name, NameSet};
 use std::alloc::{AllocError, Global};
+use std::process::Abort;
 
 fn refusal_of(alloc: Global, line: &[u8]) -> Option<LineRefusal> {
     read_line(alloc, line).err()
@@ -318,9 +319,25 @@ fn the_events(rt: HostRuntime) -> Result<(), AllocError> {
     Ok(())
 }
 
+/// Reads lines that submit these commands, and compares what they are read as.
+fn expect_commands(
+    rt: &impl Abort,
+    alloc: Global,
+    commands: &[(&str, &str)],
+) -> Result<(), AllocError> {
+    for (command, words) in commands {
+        let line = submit_line(alloc, command)?;
+        match read_line(alloc, line.as_bytes()) {
+            Ok(event) => assert_eq!(rt; event_words(alloc, &event)?.as_str(), *words),
+            Err(refusal) => panic!(rt; "{command} is refused: {refusal:?}"),
+        }
+    }
+    Ok(())
+}
+
 #[test]
-fn the_commands(rt: HostRuntime) -> Result<(), AllocError> {
-    for (command, words) in [
+fn commands_about_users_roles_and_permissions(rt: HostRuntime) -> Result<(), AllocError> {
+    let commands = [
         (
             r#"{"name":"AddRole","role":"clerk"}"#,
             "submit 1 0 0 AddRole clerk",
@@ -349,6 +366,13 @@ fn the_commands(rt: HostRuntime) -> Result<(), AllocError> {
             r#"{"name":"RevokePermission","operation":"read","object":"file","role":"clerk"}"#,
             "submit 1 0 0 RevokePermission read file clerk",
         ),
+    ];
+    expect_commands(&rt, rt.alloc(), &commands)
+}
+
+#[test]
+fn commands_about_sessions(rt: HostRuntime) -> Result<(), AllocError> {
+    let commands = [
         (
             r#"{"name":"DeleteSession","user":"ann","session":"s"}"#,
             "submit 1 0 0 DeleteSession ann s",
@@ -373,12 +397,6 @@ fn the_commands(rt: HostRuntime) -> Result<(), AllocError> {
             r#"{"name":"CheckAccess","session":"s","operation":"read","object":"file"}"#,
             "submit 1 0 0 CheckAccess s read file",
         ),
-    ] {
-        let line = submit_line(rt.alloc(), command)?;
-        match read_line(rt.alloc(), line.as_bytes()) {
-            Ok(event) => assert_eq!(rt; event_words(rt.alloc(), &event)?.as_str(), words),
-            Err(refusal) => panic!(rt; "{command} is refused: {refusal:?}"),
-        }
-    }
-    Ok(())
+    ];
+    expect_commands(&rt, rt.alloc(), &commands)
 }
