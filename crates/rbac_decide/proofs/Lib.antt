@@ -1,1 +1,3 @@
 pub mod ApplyLemmas
+pub mod AuthorizationLemmas
+pub mod TablesLemmas

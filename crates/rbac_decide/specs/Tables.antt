@@ -1,16 +1,21 @@
 -- The sets that commands change, with a vocabulary, as the state of a policy.
-use Rattle.std.specs.Prelude.{[]}
+use Rattle.std.specs.Prelude.{[], ◌≡◌, None}
 use Rattle.rbac_words.specs.Founding.{Vocabulary}
 use Rattle.rbac_words.specs.State.{State}
+use Rattle.rbac_words.specs.Rows.{first_denial}
+use Rattle.rbac_words.specs.Sound.{IsSound}
+use Rattle.rbac_words.specs.declared.command.Command.{Command}
 use Rattle.rbac_rolesets.specs.Sets.{Sets}
+use Rattle.rbac_hierarchy.specs.Order.{Order}
 use Rattle.rbac_decide.specs.declared.tables.Tables.{Tables}
 
 abbrev pub state_of : Tables → Vocabulary → State
 state_of t v = record {
   users = t.sets.content.users;
-  roles = t.sets.content.roles;
+  roles = t.hierarchy.content.roles;
   assigned = t.sets.content.assigned;
   granted = t.sets.content.granted;
+  declared = t.hierarchy.content.declared;
   sessions = t.sessions.content;
   operations = v.operations;
   objects = v.objects;
@@ -18,14 +23,28 @@ state_of t v = record {
 }
 
 -- a state with these sets alone: who is authorized for a role is a matter of nothing else
-abbrev pub state_of_sets : Sets → State
-state_of_sets s = record {
+abbrev pub state_of_roles : Sets → Order → State
+state_of_roles s h = record {
   users = s.users;
-  roles = s.roles;
+  roles = h.roles;
   assigned = s.assigned;
   granted = s.granted;
+  declared = h.declared;
   sessions = [];
   operations = [];
   objects = [];
   permissions = [];
 }
+
+-- the hierarchy has the roles of the role sets
+abbrev pub HasSameRoles : Tables → Type 0
+HasSameRoles t = t.hierarchy.content.roles ≡ t.sets.content.roles
+
+-- with some vocabulary the command is not denied
+abbrev pub IsUndenied : Command → Tables → Type 0
+IsUndenied c t = (v : Vocabulary) × (first_denial c (state_of t v) ≡ None)
+
+-- what holds of a policy's sets
+pub record IsPolicy (t : Tables) (v : Vocabulary) : Type 0 where
+  pub sound : IsSound (state_of t v)
+  pub same_roles : HasSameRoles t

@@ -1,39 +1,69 @@
-//! Who is authorized for a role, by the sets of a policy.
+//! Who is authorized for a role, and which roles have a permission, by the sets of a policy.
 ghost use Rattle.std.specs.Prelude.{◌≡◌, ◌&&◌};
-ghost use Rattle.std.specs.List.{list_all};
-ghost use Rattle.sorted_keys.specs.Keys.{has};
-ghost use Rattle.rbac_words.specs.Name.{name_cmp, pair_cmp};
+ghost use Rattle.std.specs.List.{list_all, list_any};
+ghost use Rattle.rbac_words.specs.Inheritance.{inherits};
 ghost use Rattle.rbac_words.specs.Authorization.{is_authorized, is_entitled};
-ghost use Rattle.rbac_decide.specs.Tables.{state_of_sets};
+ghost use Rattle.rbac_decide.specs.Tables.{state_of_roles};
 
+use rbac_hierarchy::Hierarchy;
 use rbac_rolesets::RoleSets;
 use rbac_words::{Name, NameSet};
 
-// Whether the role is there and the user is assigned it.
-fn is_assigned(sets: &RoleSets, user: &Name, role: &Name) -> bool
-    ensures { result ≡ (has name_cmp role.now sets.now.content.roles && has pair_cmp (user.now, role.now) sets.now.content.assigned) }
+// Whether the role of one of the assignments inherits the role.
+fn some_inherits(hierarchy: &Hierarchy, assignments: &[(Name, Name)], role: &Name) -> bool
+    ensures { let h = hierarchy.now.content in result ≡ list_any (λ pair. inherits h.roles h.declared pair.1 role.now) assignments.now }
 {
-    sets.has_role(role) && sets.assigned(user, role)
+    assignments
+        .iter()
+        .any(|pair| hierarchy.inherits(&pair.1, role))
 }
 
-/// Whether the user is authorized for the role. While no pair is declared a role inherits itself alone, so these are the
-/// roles that the user is assigned.
-pub fn is_authorized(sets: &RoleSets, user: &Name, role: &Name) -> bool
-    ensures { result ≡ is_authorized (state_of_sets sets.now.content) user.now role.now }
+// Whether the role inherits the role of one of the grants.
+fn inherits_some(hierarchy: &Hierarchy, role: &Name, grants: &[((Name, Name), Name)]) -> bool
+    ensures { let h = hierarchy.now.content in result ≡ list_any (λ grant. inherits h.roles h.declared role.now grant.1) grants.now }
 {
-    is_assigned(sets, user, role)
+    grants
+        .iter()
+        .any(|grant| hierarchy.inherits(role, &grant.1))
+}
+
+/// Whether one of the roles inherits the role of one of the grants.
+pub fn some_inherits_some(
+    hierarchy: &Hierarchy,
+    roles: &[Name],
+    grants: &[((Name, Name), Name)],
+) -> bool
+    ensures { let h = hierarchy.now.content in result ≡ list_any (λ role. list_any (λ grant. inherits h.roles h.declared role grant.1) grants.now) roles.now }
+{
+    roles
+        .iter()
+        .any(|role| inherits_some(hierarchy, role, grants))
+}
+
+/// Whether the user is authorized for the role: it is assigned one that inherits it.
+pub fn is_authorized(sets: &RoleSets, hierarchy: &Hierarchy, user: &Name, role: &Name) -> bool
+    ensures { result ≡ is_authorized (state_of_roles sets.now.content hierarchy.now.content) user.now role.now }
+{
+    some_inherits(hierarchy, sets.assignments_of(user), role)
 }
 
 /// Whether the user is authorized for each of the roles.
-pub fn is_authorized_for_all(sets: &RoleSets, user: &Name, roles: &[Name]) -> bool
-    ensures { result ≡ list_all (is_authorized (state_of_sets sets.now.content) user.now) roles.now }
+pub fn is_authorized_for_all(
+    sets: &RoleSets,
+    hierarchy: &Hierarchy,
+    user: &Name,
+    roles: &[Name],
+) -> bool
+    ensures { result ≡ list_all (is_authorized (state_of_roles sets.now.content hierarchy.now.content) user.now) roles.now }
 {
-    roles.iter().all(|role| is_authorized(sets, user, role))
+    roles
+        .iter()
+        .all(|role| is_authorized(sets, hierarchy, user, role))
 }
 
-/// Whether each of the roles is there, and the owner of a session is authorized for it.
-pub fn is_entitled(sets: &RoleSets, owner: &Name, active: &NameSet) -> bool
-    ensures { result ≡ is_entitled (state_of_sets sets.now.content) (record { owner = owner.now; active = active.now }) }
+/// Whether each of the roles is there, and the owner of a session is authorized for it. Where the owner is, the role is there.
+pub fn is_entitled(sets: &RoleSets, hierarchy: &Hierarchy, owner: &Name, active: &NameSet) -> bool
+    ensures { result ≡ is_entitled (state_of_roles sets.now.content hierarchy.now.content) (record { owner = owner.now; active = active.now }) }
 {
-    active.names().iter().all(|role| sets.has_role(role) && is_authorized(sets, owner, role))
+    is_authorized_for_all(sets, hierarchy, owner, active.names())
 }

@@ -4,9 +4,10 @@ ghost use Rattle.std.specs.Ordering.{eq_by_cmp};
 ghost use Rattle.sorted_keys.specs.Keys.{has};
 ghost use Rattle.rbac_words.specs.Name.{name_cmp};
 ghost use Rattle.rbac_words.specs.Authorization.{is_entitled as is_entitled_in};
-ghost use Rattle.rbac_decide.specs.Tables.{state_of_sets};
+ghost use Rattle.rbac_decide.specs.Tables.{state_of_roles};
 
 use crate::authorization::is_entitled;
+use rbac_hierarchy::Hierarchy;
 use rbac_rolesets::RoleSets;
 use rbac_sessions::SessionTest;
 use rbac_words::{Name, NameSet};
@@ -58,12 +59,13 @@ impl SessionTest for OwnedWithActive<'_> {
 #[derive(Drop)]
 pub struct Unentitled<'a> {
     pub sets: &'a RoleSets,
+    pub hierarchy: &'a Hierarchy,
 }
 
 impl SessionTest for Unentitled<'_> {
-    ghost passes = { λ unentitled _ owner roles. not (is_entitled_in (state_of_sets unentitled.sets.now.content) (record { owner = owner; active = roles })) };
+    ghost passes = { λ unentitled _ owner roles. not (is_entitled_in (state_of_roles unentitled.sets.now.content unentitled.hierarchy.now.content) (record { owner = owner; active = roles })) };
 
     fn test(&self, _session: &Name, owner: &Name, roles: &NameSet) -> bool {
-        !is_entitled(self.sets, owner, roles)
+        !is_entitled(self.sets, self.hierarchy, owner, roles)
     }
 }

@@ -24,15 +24,13 @@ pub struct Policy {
 
 impl Model for Policy {
     ghost use Rattle.rbac_words.specs.State.{State};
-    ghost use Rattle.rbac_decide.specs.Tables.{state_of};
+    ghost use Rattle.rbac_decide.specs.Tables.{state_of, IsPolicy};
 
     ghost Value = { State };
 
     ghost view = { λ p. state_of p.tables p.vocabulary };
 
-    ghost use Rattle.rbac_words.specs.Sound.{IsSound};
-
-    ghost invariant = { λ p. IsSound (state_of p.tables p.vocabulary) };
+    ghost invariant = { λ p. IsPolicy p.tables p.vocabulary };
 }
 
 impl Policy {
@@ -100,8 +98,8 @@ impl Policy {
         Ok(self.session_holds(session, operation, object))
     }
 
-    /// Of each policy each set is in order and without repeats, references exist, counts are within their limits, and each
-    /// session's owner exists and is authorized for its active roles.
+    /// Of each policy each set is in order and without repeats, references exist, counts are within their limits, the
+    /// hierarchy has no cycle, and each session's owner exists and is authorized for its active roles.
     pub fn invariants(&self)
         ensures { IsSound self.now }
     {

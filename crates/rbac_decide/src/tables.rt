@@ -1,42 +1,51 @@
 //! The sets that commands change.
 ghost use Rattle.std.specs.Prelude.{◌≡◌, ◌↔◌, IsTrue, IfOk, OnOk};
+ghost use Rattle.sorted_keys.specs.Keys.{has};
+ghost use Rattle.rbac_words.specs.Name.{name_cmp};
 ghost use Rattle.rbac_words.specs.Authorization.{purge};
 ghost use Rattle.rbac_words.specs.Effect.{change};
 ghost use Rattle.rbac_words.specs.Founding.{Vocabulary as VocabularyValue};
 ghost use Rattle.rbac_words.specs.State.{founding_state};
 
 use crate::ending::{OwnedBy, OwnedWithActive, Unentitled, WithActive};
+use rbac_hierarchy::Hierarchy;
 use rbac_rolesets::RoleSets;
 use rbac_sessions::Sessions;
 use rbac_words::{Command, Name};
 use std::alloc::{AllocError, Global};
 
-/// Users and roles with their pairs and grants, and the sessions.
+mod roles;
+
+/// Users and roles with their pairs and grants, the hierarchy of the same roles, and the sessions.
 #[derive(Drop)]
 pub struct Tables {
     pub sets: RoleSets,
+    pub hierarchy: Hierarchy,
     pub sessions: Sessions,
 }
 
 impl Tables {
-    ghost use Rattle.rbac_decide.specs.Tables.{state_of};
+    ghost use Rattle.rbac_decide.specs.Tables.{state_of, HasSameRoles, IsUndenied};
 
     /// No users, no roles and no sessions.
     pub fn new(alloc: Global) -> Tables
-        ensures { (v : VocabularyValue) → state_of result v ≡ founding_state v }
+        ensures state { (v : VocabularyValue) → state_of result v ≡ founding_state v }
+        ensures same_roles { HasSameRoles result }
     {
         Tables {
             sets: RoleSets::empty(alloc),
+            hierarchy: Hierarchy::empty(alloc),
             sessions: Sessions::empty(alloc),
         }
     }
 
     /// Equal sets.
     pub fn copy(&self, alloc: Global) -> Result<Tables, AllocError>
-        ensures { IfOk result (λ copy. (v : VocabularyValue) → state_of copy v ≡ state_of self.now v) }
+        ensures { IfOk result (λ copy. copy ≡ self.now) }
     {
         Ok(Tables {
             sets: self.sets.copy(alloc)?,
+            hierarchy: self.hierarchy.copy(alloc)?,
             sessions: self.sessions.copy(alloc)?,
         })
     }
@@ -45,48 +54,50 @@ impl Tables {
     pub fn same(&self, other: &Tables) -> bool
         ensures { IsTrue result ↔ (self.now ≡ other.now) }
     {
-        self.sets.same(&other.sets) && self.sessions.same(&other.sessions)
+        self.sets.same(&other.sets)
+            && self.hierarchy.same(&other.hierarchy)
+            && self.sessions.same(&other.sessions)
     }
 
     // Ends the sessions that are not entitled to an active role.
     fn purge(&mut self)
-        ensures { (v : VocabularyValue) → state_of self.new v ≡ purge (state_of self.old v) }
+        ensures state { (v : VocabularyValue) → state_of self.new v ≡ purge (state_of self.old v) }
+        ensures same_roles { HasSameRoles self.old → HasSameRoles self.new }
     {
-        self.sessions.delete_where(&Unentitled { sets: &self.sets });
+        self.sessions.delete_where(&Unentitled {
+            sets: &self.sets,
+            hierarchy: &self.hierarchy,
+        });
     }
 
     fn delete_user(&mut self, user: &Name)
-        ensures { (v : VocabularyValue) → state_of self.new v ≡ change (Command.DeleteUser user.now) (state_of self.old v) }
+        ensures state { (v : VocabularyValue) → state_of self.new v ≡ change (Command.DeleteUser user.now) (state_of self.old v) }
+        ensures same_roles { HasSameRoles self.old → HasSameRoles self.new }
     {
         self.sets.remove_user(user);
         self.sessions.delete_where(&OwnedBy { user });
     }
 
-    fn delete_role(&mut self, role: &Name)
-        ensures { (v : VocabularyValue) → state_of self.new v ≡ change (Command.DeleteRole role.now) (state_of self.old v) }
-    {
-        self.sets.remove_role(role);
-        self.sessions.delete_where(&WithActive { role });
-        self.purge();
-    }
-
     fn deassign_user(&mut self, user: &Name, role: &Name)
-        ensures { (v : VocabularyValue) → state_of self.new v ≡ change (Command.DeassignUser user.now role.now) (state_of self.old v) }
+        ensures state { (v : VocabularyValue) → state_of self.new v ≡ change (Command.DeassignUser user.now role.now) (state_of self.old v) }
+        ensures same_roles { HasSameRoles self.old → HasSameRoles self.new }
     {
         self.sets.deassign(user, role);
         self.sessions.delete_where(&OwnedWithActive { user, role });
         self.purge();
     }
 
-    /// Makes the change of a command. Where memory ends, some of it may be made.
+    /// Makes the change of a command that is not denied. Where memory ends, some of it may be made.
     pub fn change(&mut self, alloc: Global, command: &Command) -> Result<(), AllocError>
-        ensures { OnOk result ((v : VocabularyValue) → state_of self.new v ≡ change command.now (state_of self.old v)) }
+        requires undenied { IsUndenied command.now self.old }
+        ensures state { OnOk result ((v : VocabularyValue) → state_of self.new v ≡ change command.now (state_of self.old v)) }
+        ensures same_roles { HasSameRoles self.old → OnOk result (HasSameRoles self.new) }
     {
         match command {
             Command::AddUser { user } => self.sets.add_user(user.copy(alloc)?)?,
             Command::DeleteUser { user } => self.delete_user(user),
-            Command::AddRole { role } => self.sets.add_role(role.copy(alloc)?)?,
-            Command::DeleteRole { role } => self.delete_role(role),
+            Command::AddRole { role } => self.add_role(alloc, role)?,
+            Command::DeleteRole { role } => self.delete_role(alloc, role)?,
             Command::AssignUser { user, role } => {
                 self.sets.assign(user.copy(alloc)?, role.copy(alloc)?)?
             }
@@ -105,6 +116,22 @@ impl Tables {
                 object,
                 role,
             } => self.sets.revoke(operation, object, role),
+            Command::AddInheritance {
+                ascendant,
+                descendant,
+            } => self.hierarchy.declare(alloc, ascendant, descendant)?,
+            Command::DeleteInheritance {
+                ascendant,
+                descendant,
+            } => self.delete_inheritance(alloc, ascendant, descendant)?,
+            Command::AddAscendant {
+                ascendant,
+                descendant,
+            } => self.add_ascendant(alloc, ascendant, descendant)?,
+            Command::AddDescendant {
+                ascendant,
+                descendant,
+            } => self.add_descendant(alloc, ascendant, descendant)?,
             Command::CreateSession {
                 user,
                 session,

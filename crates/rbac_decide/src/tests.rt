@@ -5,6 +5,7 @@ use std::process::Abort;
 use std::test::Fail;
 
 mod deletions;
+mod hierarchy;
 mod rows;
 mod sessions;
 

@@ -3,7 +3,7 @@ use Rattle.std.specs.Prelude.{ℕ, List, [], ◌∷◌, codes, Ok}
 use Rattle.serde_json.specs.Data.{Members}
 use Rattle.rbac_words.specs.Name.{Name}
 use Rattle.rbac_words.specs.declared.command.Command.{Command}
-use Rattle.rbac_words.specs.declared.command.Command.TheVariants.{AddUser, DeleteUser, AddRole, DeleteRole, AssignUser, DeassignUser, GrantPermission, RevokePermission, CreateSession, DeleteSession, AddActiveRole, DropActiveRole, CheckAccess}
+use Rattle.rbac_words.specs.declared.command.Command.TheVariants.{AddUser, DeleteUser, AddRole, DeleteRole, AssignUser, DeassignUser, GrantPermission, RevokePermission, AddInheritance, DeleteInheritance, AddAscendant, AddDescendant, CreateSession, DeleteSession, AddActiveRole, DropActiveRole, CheckAccess}
 use Rattle.rbac_lines.specs.Steps.{◌>>=◌, ◌>>◌}
 use Rattle.rbac_lines.specs.Fields.{Reading, text_in, name_in, names_in, only_keys, by_word}
 
@@ -71,6 +71,30 @@ revoke_permission fields = do
   names ← three_names (codes "operation") (codes "object") (codes "role") fields
   Ok (RevokePermission names.0 names.1 names.2)
 
+-- an ascendant and a descendant
+abbrev pub declared_pair : Members → Reading (Name × Name)
+declared_pair fields = two_names (codes "ascendant") (codes "descendant") fields
+
+abbrev pub add_inheritance : Members → Reading Command
+add_inheritance fields = do
+  pair ← declared_pair fields
+  Ok (AddInheritance pair.0 pair.1)
+
+abbrev pub delete_inheritance : Members → Reading Command
+delete_inheritance fields = do
+  pair ← declared_pair fields
+  Ok (DeleteInheritance pair.0 pair.1)
+
+abbrev pub add_ascendant : Members → Reading Command
+add_ascendant fields = do
+  pair ← declared_pair fields
+  Ok (AddAscendant pair.0 pair.1)
+
+abbrev pub add_descendant : Members → Reading Command
+add_descendant fields = do
+  pair ← declared_pair fields
+  Ok (AddDescendant pair.0 pair.1)
+
 -- a user, a session, and the array roles
 abbrev pub create_session : Members → Reading Command
 create_session fields = do
@@ -111,6 +135,10 @@ commands_by_name =
     ∷ (codes "DeassignUser", deassign_user)
     ∷ (codes "GrantPermission", grant_permission)
     ∷ (codes "RevokePermission", revoke_permission)
+    ∷ (codes "AddInheritance", add_inheritance)
+    ∷ (codes "DeleteInheritance", delete_inheritance)
+    ∷ (codes "AddAscendant", add_ascendant)
+    ∷ (codes "AddDescendant", add_descendant)
     ∷ (codes "CreateSession", create_session)
     ∷ (codes "DeleteSession", delete_session)
     ∷ (codes "AddActiveRole", add_active_role)

@@ -11,7 +11,7 @@ use Rattle.rbac_words.specs.World.{stamp}
 use Rattle.rbac_words.specs.declared.answer.Answer.{Answer}
 use Rattle.rbac_words.specs.declared.answer.Denial.{Denial}
 use Rattle.rbac_words.specs.declared.command.Command.{Command}
-use Rattle.rbac_words.specs.declared.command.Command.TheVariants.{AddUser, DeleteUser, AddRole, DeleteRole, AssignUser, DeassignUser, GrantPermission, RevokePermission, CreateSession, DeleteSession, AddActiveRole, DropActiveRole, CheckAccess}
+use Rattle.rbac_words.specs.declared.command.Command.TheVariants.{AddUser, DeleteUser, AddRole, DeleteRole, AssignUser, DeassignUser, GrantPermission, RevokePermission, AddInheritance, DeleteInheritance, AddAscendant, AddDescendant, CreateSession, DeleteSession, AddActiveRole, DropActiveRole, CheckAccess}
 use Rattle.rbac_words.specs.declared.message.Message.{Message}
 use Rattle.rbac_words.specs.declared.message.Message.TheVariants.{Call, Ack}
 use Rattle.rbac_words.specs.declared.message.Submission.{Submission}
@@ -43,6 +43,10 @@ vocabulary-change (AssignUser user role) s = refl
 vocabulary-change (DeassignUser user role) s = refl
 vocabulary-change (GrantPermission operation object role) s = refl
 vocabulary-change (RevokePermission operation object role) s = refl
+vocabulary-change (AddInheritance ascendant descendant) s = refl
+vocabulary-change (DeleteInheritance ascendant descendant) s = refl
+vocabulary-change (AddAscendant ascendant descendant) s = refl
+vocabulary-change (AddDescendant ascendant descendant) s = refl
 vocabulary-change (CreateSession user session roles) s = refl
 vocabulary-change (DeleteSession user session) s = refl
 vocabulary-change (AddActiveRole user session role) s = refl

@@ -1,8 +1,9 @@
 //! The users and roles, UA and PA.
-ghost use Rattle.std.specs.Prelude.{◌≡◌, ◌↔◌, length, IsTrue, IfOk, OnOk, OnErr};
+ghost use Rattle.std.specs.Prelude.{◌≡◌, ◌↔◌, length, filter, IsTrue, IfOk, OnOk, OnErr};
+ghost use Rattle.std.specs.Ordering.{eq_by_cmp};
 ghost use Rattle.sorted_keys.specs.Keys.{has, with_key, without};
 ghost use Rattle.rbac_words.specs.Name.{name_cmp, pair_cmp, grant_cmp};
-ghost use Rattle.rbac_words.specs.Relations.{users_of, roles_of, without_user, without_role};
+ghost use Rattle.rbac_words.specs.Relations.{begins_with, users_of, roles_of, without_user, without_role};
 ghost use Rattle.rbac_rolesets.specs.Sets.{Sets, no_sets};
 
 use crate::gathering::{RolesOf, UsersOf, gather};
@@ -91,6 +92,23 @@ impl RoleSets {
         self.granted.contains(&PairProbe {
             first: &permission,
             second: role,
+        })
+    }
+
+    /// The pairs of UA that are the user's.
+    pub fn assignments_of(&self, user: &Name) -> &[(Name, Name)]
+        ensures { result.now ≡ filter (begins_with user.now) self.now.content.assigned }
+    {
+        self.assigned.beginning_with(user)
+    }
+
+    /// The grants of an operation on an object.
+    pub fn grants_of(&self, operation: &Name, object: &Name) -> &[((Name, Name), Name)]
+        ensures { result.now ≡ filter (λ grant. eq_by_cmp pair_cmp (operation.now, object.now) grant.0) self.now.content.granted }
+    {
+        self.granted.beginning_with(&PairProbe {
+            first: operation,
+            second: object,
         })
     }
 

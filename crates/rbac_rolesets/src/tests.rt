@@ -136,6 +136,53 @@ fn users_and_roles_are_gathered(rt: HostRuntime) -> Result<(), Fail> {
     Ok(())
 }
 
+fn assert_assignments(rt: &impl Abort, alloc: Global, sets: &RoleSets, user: &str, roles: &[&str]) {
+    let user = name(rt, alloc, user);
+    let pairs = sets.assignments_of(&user);
+    assert_eq!(rt; pairs.len(), roles.len());
+    for (pair, role) in pairs.iter().zip(roles) {
+        assert_eq!(rt; pair.0.as_bytes(), user.as_bytes());
+        assert_eq!(rt; pair.1.as_bytes(), role.as_bytes());
+    }
+}
+
+#[test]
+fn assignments_are_lent(rt: HostRuntime) -> Result<(), Fail> {
+    let alloc = rt.alloc();
+    let sets = small_office(&rt, alloc);
+    assert_assignments(&rt, alloc, &sets, "bob", &["clerk", "payer"]);
+    assert_assignments(&rt, alloc, &sets, "alice", &["clerk"]);
+    assert_assignments(&rt, alloc, &sets, "clerk", &[]);
+    Ok(())
+}
+
+fn assert_grants(
+    rt: &impl Abort,
+    alloc: Global,
+    sets: &RoleSets,
+    operation: &str,
+    object: &str,
+    roles: &[&str],
+) {
+    let (operation, object) = (name(rt, alloc, operation), name(rt, alloc, object));
+    let grants = sets.grants_of(&operation, &object);
+    assert_eq!(rt; grants.len(), roles.len());
+    for (grant, role) in grants.iter().zip(roles) {
+        assert_eq!(rt; grant.1.as_bytes(), role.as_bytes());
+    }
+}
+
+#[test]
+fn grants_are_lent(rt: HostRuntime) -> Result<(), Fail> {
+    let alloc = rt.alloc();
+    let mut sets = small_office(&rt, alloc);
+    grant(&rt, alloc, &mut sets, "read", "ledger", "auditor");
+    assert_grants(&rt, alloc, &sets, "read", "ledger", &["auditor", "clerk"]);
+    assert_grants(&rt, alloc, &sets, "pay", "invoice", &["payer"]);
+    assert_grants(&rt, alloc, &sets, "ledger", "read", &[]);
+    Ok(())
+}
+
 #[test]
 fn a_user_is_removed_with_its_roles(rt: HostRuntime) -> Result<(), Fail> {
     let alloc = rt.alloc();

@@ -6,6 +6,7 @@ pub mod NameLemmas
 pub mod PurgeLemmas
 pub mod ReplayLemmas
 pub mod SoundParts
+pub mod SoundRoles
 pub mod SoundLemmas
 pub mod StampLemmas
 pub mod VocabularyLemmas

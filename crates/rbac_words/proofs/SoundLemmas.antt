@@ -22,14 +22,15 @@ use Rattle.rbac_words.specs.Rows.{preconditions, first_denial, found_and}
 use Rattle.rbac_words.specs.Effect.{change, effect, effect_unless, end_sessions, ended_where, with_active, without_active}
 use Rattle.rbac_words.specs.Sound.{IsInOrder, HasReferences, IsWithinLimits, IsSessionSound, IsSound}
 use Rattle.rbac_words.specs.declared.command.Command.{Command}
-use Rattle.rbac_words.specs.declared.command.Command.TheVariants.{AddUser, DeleteUser, AddRole, DeleteRole, AssignUser, DeassignUser, GrantPermission, RevokePermission, CreateSession, DeleteSession, AddActiveRole, DropActiveRole, CheckAccess}
+use Rattle.rbac_words.specs.declared.command.Command.TheVariants.{AddUser, DeleteUser, AddRole, DeleteRole, AssignUser, DeassignUser, GrantPermission, RevokePermission, AddInheritance, DeleteInheritance, AddAscendant, AddDescendant, CreateSession, DeleteSession, AddActiveRole, DropActiveRole, CheckAccess}
 use Rattle.rbac_words.specs.declared.answer.Denial.{Denial}
 use Rattle.rbac_words.proofs.NameLemmas.{names_total, names_exact, pairs_total, pairs_exact, grants_total, grants_exact, one_key, all_member}
 use Rattle.rbac_words.proofs.StampLemmas.{Each-weaker}
 use Rattle.rbac_words.proofs.AuthorizationLemmas.{is_authorized_iff}
-use Rattle.rbac_words.proofs.SoundParts.{none_fails, length-with_key-new, length-put-new, fewer, still, was_kept, is_kept, each_put, each_updated, length-updated, each_kept, within, session_stays, purged}
+use Rattle.rbac_words.proofs.SoundParts.{none_fails, length-with_key-new, length-put-new, fewer, still, was_kept, is_kept, each_put, each_updated, length-updated, each_kept, within, session_stays, purged, owners}
+use Rattle.rbac_words.proofs.SoundRoles.{sound_add_role, sound_delete_role, sound_add_inheritance, sound_delete_inheritance, sound_add_ascendant, sound_add_descendant}
 
--- ---- Users and roles
+-- ---- Users
 
 sound_add_user : (user : Name) (s : State) → first_denial (AddUser user) s ≡ None → IsSound s → IsSound (change (AddUser user) s)
 sound_add_user user s none h =
@@ -40,14 +41,17 @@ sound_add_user user s none h =
         roles = h.in_order.roles;
         assigned = h.in_order.assigned;
         granted = h.in_order.granted;
+        declared = h.in_order.declared;
         sessions = h.in_order.sessions;
       };
       references = record {
         assigned = λ u r m. (still names_total user s.users u (h.references.assigned u r m).0, (h.references.assigned u r m).1);
         granted = h.references.granted;
+        declared = h.references.declared;
       };
-      limits = within h.limits (with_key name_cmp user s.users) s.roles s.assigned s.granted s.sessions
+      limits = within h.limits (with_key name_cmp user s.users) s.roles s.assigned s.granted s.declared s.sessions
           (let more = length-with_key-new name_cmp user s.users holds.0 in omega (arith, leb-false 4096 (length s.users) holds.1.0)) h.limits.roles h.limits.sessions;
+      no_cycle = h.no_cycle;
       sessions = Each-weaker (λ e. IsSessionSound s e.1) (λ e. IsSessionSound (change (AddUser user) s) e.1) s.sessions
           (λ e. session_stays s (change (AddUser user) s) e.1 (still names_total user s.users e.1.owner) (λ r a. a)) h.sessions;
     }
@@ -62,6 +66,7 @@ sound_delete_user user s h =
         roles = h.in_order.roles;
         assigned = IsStrictlySortedBy-filter _ _ _ h.in_order.assigned;
         granted = h.in_order.granted;
+        declared = h.in_order.declared;
         sessions = IsStrictlySortedBy-filter _ _ _ h.in_order.sessions;
       };
       references = record {
@@ -70,71 +75,16 @@ sound_delete_user user s h =
             let were = h.references.assigned u r kept.1 in
             (is_kept names_total names_exact (λ x. not (eq_by_cmp name_cmp user x)) s.users u kept.0 were.0, were.1);
         granted = h.references.granted;
+        declared = h.references.declared;
       };
-      limits = within h.limits (without name_cmp user s.users) s.roles (without_user user s.assigned) s.granted (ended_where (λ x. eq_by_cmp name_cmp user x.owner) s.sessions)
+      limits = within h.limits (without name_cmp user s.users) s.roles (without_user user s.assigned) s.granted s.declared (ended_where (λ x. eq_by_cmp name_cmp user x.owner) s.sessions)
           (fewer _ s.users most_users h.limits.users) h.limits.roles (fewer _ s.sessions most_sessions h.limits.sessions);
+      no_cycle = h.no_cycle;
       sessions = each_kept (λ (e : Name × Session). not (eq_by_cmp name_cmp user e.1.owner)) (λ e. IsSessionSound s e.1) (λ e. IsSessionSound t e.1)
           (λ e sound other. session_stays s t e.1
           (is_kept names_total names_exact (λ x. not (eq_by_cmp name_cmp user x)) s.users e.1.owner other)
           (λ r a. (a.0, is_kept pairs_total pairs_exact (λ (p : Name × Name). not (begins_with user p)) s.assigned (e.1.owner, a.0) other a.1, a.2)) sound)
           s.sessions h.sessions;
-    }
-
--- a chain stays where roles are added
-chain_grows : (role : Name) (roles : List Name) (declared : List (Name × Name)) (r : Name) (rest : List Name) (q : Name) → IsChain roles declared r rest q → IsChain (with_key name_cmp role roles) declared r rest q
-chain_grows role roles declared r [] q c = (still names_total role roles r c.0, c.1)
-chain_grows role roles declared r (p ∷ rest) q c = (still names_total role roles r c.0, c.1, chain_grows role roles declared p rest q c.2)
-
-sound_add_role : (role : Name) (s : State) → first_denial (AddRole role) s ≡ None → IsSound s → IsSound (change (AddRole role) s)
-sound_add_role role s none h =
-    let holds = none_fails (preconditions (AddRole role) s) none in
-    record {
-      in_order = record {
-        users = h.in_order.users;
-        roles = sorted_with_key names_total role s.roles h.in_order.roles;
-        assigned = h.in_order.assigned;
-        granted = h.in_order.granted;
-        sessions = h.in_order.sessions;
-      };
-      references = record {
-        assigned = λ u r m. ((h.references.assigned u r m).0, still names_total role s.roles r (h.references.assigned u r m).1);
-        granted = λ p r m. ((h.references.granted p r m).0, still names_total role s.roles r (h.references.granted p r m).1);
-      };
-      limits = within h.limits s.users (with_key name_cmp role s.roles) s.assigned s.granted s.sessions
-          h.limits.users (let more = length-with_key-new name_cmp role s.roles holds.0 in omega (arith, leb-false 1024 (length s.roles) holds.1.0)) h.limits.sessions;
-      sessions = Each-weaker (λ e. IsSessionSound s e.1) (λ e. IsSessionSound (change (AddRole role) s) e.1) s.sessions
-          (λ e. session_stays s (change (AddRole role) s) e.1 (λ m. m) (λ r a. (a.0, a.1, (a.2.0, chain_grows role s.roles [] a.0 a.2.0 r a.2.1)))) h.sessions;
-    }
-
--- owners of the sessions that are left
-owners : (ends : Session → Bool) (s : State) → Each (λ e. IsSessionSound s e.1) s.sessions → Each (λ (e : Name × Session). IsTrue (has name_cmp e.1.owner s.users)) (ended_where ends s.sessions)
-owners ends s all = each_kept (λ (e : Name × Session). not (ends e.1)) (λ e. IsSessionSound s e.1) (λ e. IsTrue (has name_cmp e.1.owner s.users)) (λ e sound _. sound.owned) s.sessions all
-
-sound_delete_role : (role : Name) (s : State) → IsSound s → IsSound (change (DeleteRole role) s)
-sound_delete_role role s h =
-    let ends : Session → Bool = λ x. has name_cmp role x.active in
-    let t : State = end_sessions ends (record s { roles = without name_cmp role s.roles; assigned = without_role role s.assigned; granted = without_role role s.granted }) in
-    record {
-      in_order = record {
-        users = h.in_order.users;
-        roles = IsStrictlySortedBy-filter _ _ _ h.in_order.roles;
-        assigned = IsStrictlySortedBy-filter _ _ _ h.in_order.assigned;
-        granted = IsStrictlySortedBy-filter _ _ _ h.in_order.granted;
-        sessions = IsStrictlySortedBy-filter _ _ _ (IsStrictlySortedBy-filter _ _ _ h.in_order.sessions);
-      };
-      references = record {
-        assigned = λ u r m.
-            let kept = was_kept pairs_total pairs_exact (λ (p : Name × Name). not (ends_with role p)) s.assigned (u, r) m in
-            let were = h.references.assigned u r kept.1 in
-            (were.0, is_kept names_total names_exact (λ x. not (eq_by_cmp name_cmp role x)) s.roles r kept.0 were.1);
-        granted = λ p r m.
-            let kept = was_kept grants_total grants_exact (λ (g : Grant). not (ends_with role g)) s.granted (p, r) m in
-            let were = h.references.granted p r kept.1 in
-            (were.0, is_kept names_total names_exact (λ x. not (eq_by_cmp name_cmp role x)) s.roles r kept.0 were.1);
-      };
-      limits = within h.limits s.users (without name_cmp role s.roles) (without_role role s.assigned) (without_role role s.granted) (purge t).sessions
-          h.limits.users (fewer _ s.roles most_roles h.limits.roles) (fewer _ t.sessions most_sessions (fewer _ s.sessions most_sessions h.limits.sessions));
-      sessions = purged t (owners ends s h.sessions);
     }
 
 -- ---- Assignments and grants
@@ -149,6 +99,7 @@ sound_assign_user user role s none h =
         roles = h.in_order.roles;
         assigned = sorted_with_key pairs_total (user, role) s.assigned h.in_order.assigned;
         granted = h.in_order.granted;
+        declared = h.in_order.declared;
         sessions = h.in_order.sessions;
       };
       references = record {
@@ -158,8 +109,10 @@ sound_assign_user user role s none h =
             (h.references.assigned u r)
             (or_cases _ _ (sym (has-with_key pairs_total (user, role) s.assigned (u, r)) ∙ m));
         granted = h.references.granted;
+        declared = h.references.declared;
       };
-      limits = within h.limits s.users s.roles t.assigned s.granted s.sessions h.limits.users h.limits.roles h.limits.sessions;
+      limits = within h.limits s.users s.roles t.assigned s.granted s.declared s.sessions h.limits.users h.limits.roles h.limits.sessions;
+      no_cycle = h.no_cycle;
       sessions = Each-weaker (λ e. IsSessionSound s e.1) (λ e. IsSessionSound t e.1) s.sessions
           (λ e. session_stays s t e.1 (λ m. m) (λ r a. (a.0, still pairs_total (user, role) s.assigned (e.1.owner, a.0) a.1, a.2))) h.sessions;
     }
@@ -174,14 +127,17 @@ sound_deassign_user user role s h =
         roles = h.in_order.roles;
         assigned = IsStrictlySortedBy-filter _ _ _ h.in_order.assigned;
         granted = h.in_order.granted;
+        declared = h.in_order.declared;
         sessions = IsStrictlySortedBy-filter _ _ _ (IsStrictlySortedBy-filter _ _ _ h.in_order.sessions);
       };
       references = record {
         assigned = λ u r m. h.references.assigned u r (was_kept pairs_total pairs_exact (λ p. not (eq_by_cmp pair_cmp (user, role) p)) s.assigned (u, r) m).1;
         granted = h.references.granted;
+        declared = h.references.declared;
       };
-      limits = within h.limits s.users s.roles t.assigned s.granted (purge t).sessions
+      limits = within h.limits s.users s.roles t.assigned s.granted s.declared (purge t).sessions
           h.limits.users h.limits.roles (fewer _ t.sessions most_sessions (fewer _ s.sessions most_sessions h.limits.sessions));
+      no_cycle = h.no_cycle;
       sessions = purged t (owners ends s h.sessions);
     }
 
@@ -195,6 +151,7 @@ sound_grant_permission operation object role s none h =
         roles = h.in_order.roles;
         assigned = h.in_order.assigned;
         granted = sorted_with_key grants_total ((operation, object), role) s.granted h.in_order.granted;
+        declared = h.in_order.declared;
         sessions = h.in_order.sessions;
       };
       references = record {
@@ -204,8 +161,10 @@ sound_grant_permission operation object role s none h =
             (subst (λ x. IsTrue (has pair_cmp x s.permissions)) (sym (ap (λ g. g.0) same)) (not-false _ holds.0), subst (λ x. IsTrue (has name_cmp x s.roles)) (sym (ap (λ g. g.1) same)) (not-false _ holds.1.0)))
             (h.references.granted p r)
             (or_cases _ _ (sym (has-with_key grants_total ((operation, object), role) s.granted (p, r)) ∙ m));
+        declared = h.references.declared;
       };
-      limits = within h.limits s.users s.roles s.assigned t.granted s.sessions h.limits.users h.limits.roles h.limits.sessions;
+      limits = within h.limits s.users s.roles s.assigned t.granted s.declared s.sessions h.limits.users h.limits.roles h.limits.sessions;
+      no_cycle = h.no_cycle;
       sessions = Each-weaker (λ e. IsSessionSound s e.1) (λ e. IsSessionSound t e.1) s.sessions (λ e. session_stays s t e.1 (λ m. m) (λ r a. a)) h.sessions;
     }
 
@@ -218,13 +177,16 @@ sound_revoke_permission operation object role s h =
         roles = h.in_order.roles;
         assigned = h.in_order.assigned;
         granted = IsStrictlySortedBy-filter _ _ _ h.in_order.granted;
+        declared = h.in_order.declared;
         sessions = h.in_order.sessions;
       };
       references = record {
         assigned = h.references.assigned;
         granted = λ p r m. h.references.granted p r (was_kept grants_total grants_exact (λ g. not (eq_by_cmp grant_cmp ((operation, object), role) g)) s.granted (p, r) m).1;
+        declared = h.references.declared;
       };
-      limits = within h.limits s.users s.roles s.assigned t.granted s.sessions h.limits.users h.limits.roles h.limits.sessions;
+      limits = within h.limits s.users s.roles s.assigned t.granted s.declared s.sessions h.limits.users h.limits.roles h.limits.sessions;
+      no_cycle = h.no_cycle;
       sessions = Each-weaker (λ e. IsSessionSound s e.1) (λ e. IsSessionSound t e.1) s.sessions (λ e. session_stays s t e.1 (λ m. m) (λ r a. a)) h.sessions;
     }
 
@@ -241,10 +203,12 @@ with_sessions s sessions h sorted few all =
         roles = h.in_order.roles;
         assigned = h.in_order.assigned;
         granted = h.in_order.granted;
+        declared = h.in_order.declared;
         sessions = sorted;
       };
-      references = record { assigned = h.references.assigned; granted = h.references.granted };
-      limits = within h.limits s.users s.roles s.assigned s.granted sessions h.limits.users h.limits.roles few;
+      references = record { assigned = h.references.assigned; granted = h.references.granted; declared = h.references.declared };
+      limits = within h.limits s.users s.roles s.assigned s.granted s.declared sessions h.limits.users h.limits.roles few;
+      no_cycle = h.no_cycle;
       sessions = Each-weaker (λ e. IsSessionSound s e.1) (λ e. IsSessionSound t e.1) sessions (λ e. session_stays s t e.1 (λ m. m) (λ r a. a)) all;
     }
 
@@ -312,6 +276,10 @@ sound_change (AssignUser user role) s none h = sound_assign_user user role s non
 sound_change (DeassignUser user role) s none h = sound_deassign_user user role s h
 sound_change (GrantPermission operation object role) s none h = sound_grant_permission operation object role s none h
 sound_change (RevokePermission operation object role) s none h = sound_revoke_permission operation object role s h
+sound_change (AddInheritance ascendant descendant) s none h = sound_add_inheritance ascendant descendant s none h
+sound_change (DeleteInheritance ascendant descendant) s none h = sound_delete_inheritance ascendant descendant s h
+sound_change (AddAscendant ascendant descendant) s none h = sound_add_ascendant ascendant descendant s none h
+sound_change (AddDescendant ascendant descendant) s none h = sound_add_descendant ascendant descendant s none h
 sound_change (CreateSession user session roles) s none h = sound_create_session user session roles s none h
 sound_change (DeleteSession user session) s none h = sound_delete_session session s h
 sound_change (AddActiveRole user session role) s none h = sound_add_active_role user session role s none h
@@ -333,9 +301,10 @@ sound_founding v h = record {
     roles = sorted_none name_cmp;
     assigned = sorted_none pair_cmp;
     granted = sorted_none grant_cmp;
+    declared = sorted_none pair_cmp;
     sessions = sorted_none (by_key name_cmp);
   };
-  references = record { assigned = λ user role m. absurd (false≢true m); granted = λ permission role m. absurd (false≢true m) };
+  references = record { assigned = λ user role m. absurd (false≢true m); granted = λ permission role m. absurd (false≢true m); declared = λ ascendant descendant m. absurd (false≢true m) };
   limits = record {
     users = omega arith;
     roles = omega arith;
@@ -344,5 +313,6 @@ sound_founding v h = record {
     objects = h.few_objects;
     permissions = h.few_permissions;
   };
+  no_cycle = λ ascendant descendant m. absurd (false≢true m);
   sessions = tt;
 }

@@ -19,6 +19,7 @@ use Rattle.rbac_words.specs.Limits.{most_users, most_roles, most_sessions}
 use Rattle.rbac_words.specs.State.{State, Session}
 use Rattle.rbac_words.specs.Authorization.{IsAuthorized, is_authorized, is_entitled, purge}
 use Rattle.rbac_words.specs.Rows.{Precondition, leftmost}
+use Rattle.rbac_words.specs.Effect.{ended_where}
 use Rattle.rbac_words.specs.Sound.{IsWithinLimits, IsSessionSound}
 use Rattle.rbac_words.proofs.NameLemmas.{names_total, names_exact, all_member}
 use Rattle.rbac_words.proofs.AuthorizationLemmas.{is_authorized_iff}
@@ -124,10 +125,10 @@ each_kept p P Q f (x ∷ xs) all = go (p x) refl (each_kept p P Q f xs all.1)
 -- ---- Limits and sessions of a state
 
 -- a state with these sets is within the limits
-pub within : {s : State} → IsWithinLimits s → (users roles : List Name) (assigned : List (Name × Name)) (granted : List Grant) (sessions : List (Name × Session))
+pub within : {s : State} → IsWithinLimits s → (users roles : List Name) (assigned : List (Name × Name)) (granted : List Grant) (declared : List (Name × Name)) (sessions : List (Name × Session))
     → length users ≤ most_users → length roles ≤ most_roles → length sessions ≤ most_sessions
-    → IsWithinLimits (record s { users = users; roles = roles; assigned = assigned; granted = granted; sessions = sessions })
-within h users roles assigned granted sessions u r x = record {
+    → IsWithinLimits (record s { users = users; roles = roles; assigned = assigned; granted = granted; declared = declared; sessions = sessions })
+within h users roles assigned granted declared sessions u r x = record {
   users = u;
   roles = r;
   sessions = x;
@@ -152,3 +153,7 @@ purged s owned =
           (and_parts _ _ (all_member names_total names_exact (λ r. has name_cmp r s.roles && is_authorized s e.1.owner r) e.1.active role entitled m)).1;
     })
     s.sessions owned
+
+-- owners of the sessions that are left
+pub owners : (ends : Session → Bool) (s : State) → Each (λ e. IsSessionSound s e.1) s.sessions → Each (λ (e : Name × Session). IsTrue (has name_cmp e.1.owner s.users)) (ended_where ends s.sessions)
+owners ends s all = each_kept (λ (e : Name × Session). not (ends e.1)) (λ e. IsSessionSound s e.1) (λ e. IsTrue (has name_cmp e.1.owner s.users)) (λ e sound _. sound.owned) s.sessions all

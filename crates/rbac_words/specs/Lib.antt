@@ -12,6 +12,7 @@ pub mod Relations
 pub mod Replay
 pub mod Right
 pub mod Rows
+pub mod Separation
 pub mod Sound
 pub mod Stamp
 pub mod State

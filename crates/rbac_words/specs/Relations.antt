@@ -1,5 +1,5 @@
--- What is asked of the pairs of UA and PA, and what taking a user or a role out leaves of them.
-use Rattle.std.specs.Prelude.{Bool, not, List, map}
+-- What is asked of the pairs of UA, PA and RH, and what taking a user or a role out leaves of them.
+use Rattle.std.specs.Prelude.{Bool, not, ◌||◌, List, map}
 use Rattle.std.specs.List.{filter}
 use Rattle.std.specs.Ordering.{eq_by_cmp}
 use Rattle.sorted_keys.specs.Keys.{set_of}
@@ -28,3 +28,7 @@ without_user user pairs = filter (λ p. not (begins_with user p)) pairs
 -- UA, or PA, without the pairs of a role
 abbrev pub without_role : {A : Type 0} → Name → List (A × Name) → List (A × Name)
 without_role role pairs = filter (λ p. not (ends_with role p)) pairs
+
+-- RH without the pairs of a role
+abbrev pub without_pairs_of : Name → List (Name × Name) → List (Name × Name)
+without_pairs_of role pairs = filter (λ p. not (begins_with role p || ends_with role p)) pairs

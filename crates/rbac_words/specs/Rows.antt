@@ -1,5 +1,5 @@
 -- The preconditions of each command, in order, and the first that fails.
-use Rattle.std.specs.Prelude.{ℕ, List, [], ◌∷◌, Bool, false, not, if◌then◌else◌, nat_le, length, Option, Some, None, is_some}
+use Rattle.std.specs.Prelude.{ℕ, List, [], ◌∷◌, Bool, false, not, ◌&&◌, if◌then◌else◌, nat_le, length, Option, Some, None, is_some}
 use Rattle.std.specs.List.{list_all}
 use Rattle.std.specs.FinMap.Entries.{find}
 use Rattle.std.specs.Ordering.{eq_by_cmp}
@@ -7,11 +7,11 @@ use Rattle.sorted_keys.specs.Keys.{has}
 use Rattle.rbac_words.specs.Name.{Name, name_cmp, pair_cmp, grant_cmp}
 use Rattle.rbac_words.specs.Limits.{most_users, most_roles, most_sessions}
 use Rattle.rbac_words.specs.State.{State, Session}
-use Rattle.rbac_words.specs.Authorization.{is_authorized}
+use Rattle.rbac_words.specs.Authorization.{inherits_in, is_authorized}
 use Rattle.rbac_words.specs.declared.command.Command.{Command}
-use Rattle.rbac_words.specs.declared.command.Command.TheVariants.{AddUser, DeleteUser, AddRole, DeleteRole, AssignUser, DeassignUser, GrantPermission, RevokePermission, CreateSession, DeleteSession, AddActiveRole, DropActiveRole, CheckAccess}
+use Rattle.rbac_words.specs.declared.command.Command.TheVariants.{AddUser, DeleteUser, AddRole, DeleteRole, AssignUser, DeassignUser, GrantPermission, RevokePermission, AddInheritance, DeleteInheritance, AddAscendant, AddDescendant, CreateSession, DeleteSession, AddActiveRole, DropActiveRole, CheckAccess}
 use Rattle.rbac_words.specs.declared.answer.Denial.{Denial}
-use Rattle.rbac_words.specs.declared.answer.Denial.TheVariants.{UserExists, NoUser, RoleExists, NoRole, Assigned, NotAssigned, NoPermission, NotGranted, SessionExists, NoSession, NotOwner, NotAuthorized, RoleActive, RoleNotActive, Limit, NoOperation, NoObject}
+use Rattle.rbac_words.specs.declared.answer.Denial.TheVariants.{UserExists, NoUser, RoleExists, NoRole, Assigned, NotAssigned, NoPermission, NotGranted, SessionExists, NoSession, NotOwner, NotAuthorized, RoleActive, RoleNotActive, Inherits, NoInheritance, Cycle, Limit, NoOperation, NoObject}
 
 -- a precondition: the denial that names it, and whether it fails
 pub record Precondition : Type 0 where
@@ -44,7 +44,11 @@ is_owner s session user = found_and (λ x. eq_by_cmp name_cmp user x.owner) (fin
 abbrev pub is_active : State → Name → Name → Bool
 is_active s session role = found_and (λ x. has name_cmp role x.active) (find name_cmp session s.sessions)
 
--- the preconditions of a command, from left to right (ANSI INCITS 359-2004, 6.1.1 and 6.1.2; their names, their order
+-- whether both are roles
+abbrev pub are_roles : State → Name → Name → Bool
+are_roles s first second = has name_cmp first s.roles && has name_cmp second s.roles
+
+-- the preconditions of a command, from left to right (ANSI INCITS 359-2004, 6.1.1, 6.1.2 and 6.2; their names, their order
 -- and the limits are this project's own)
 abbrev pub preconditions : Command → State → List Precondition
 preconditions (AddUser user) s =
@@ -79,6 +83,25 @@ preconditions (RevokePermission operation object role) s =
     (NoPermission when not (has pair_cmp (operation, object) s.permissions))
     ∷ (NoRole when not (has name_cmp role s.roles))
     ∷ (NotGranted when not (has grant_cmp ((operation, object), role) s.granted))
+    ∷ []
+preconditions (AddInheritance ascendant descendant) s =
+    (NoRole when not (are_roles s ascendant descendant))
+    ∷ (Inherits when has pair_cmp (ascendant, descendant) s.declared)
+    ∷ (Cycle when inherits_in s descendant ascendant)
+    ∷ []
+preconditions (DeleteInheritance ascendant descendant) s =
+    (NoRole when not (are_roles s ascendant descendant))
+    ∷ (NoInheritance when not (has pair_cmp (ascendant, descendant) s.declared))
+    ∷ []
+preconditions (AddAscendant ascendant descendant) s =
+    (RoleExists when has name_cmp ascendant s.roles)
+    ∷ (NoRole when not (has name_cmp descendant s.roles))
+    ∷ (Limit when nat_le most_roles (length s.roles))
+    ∷ []
+preconditions (AddDescendant ascendant descendant) s =
+    (RoleExists when has name_cmp descendant s.roles)
+    ∷ (NoRole when not (has name_cmp ascendant s.roles))
+    ∷ (Limit when nat_le most_roles (length s.roles))
     ∷ []
 preconditions (CreateSession user session roles) s =
     (NoUser when not (has name_cmp user s.users))

@@ -6,7 +6,7 @@ use Rattle.sorted_keys.specs.Keys.{has, by_key}
 use Rattle.rbac_words.specs.Name.{Name, Permission, name_cmp, pair_cmp, grant_cmp}
 use Rattle.rbac_words.specs.Limits.{most_users, most_roles, most_sessions, most_operations, most_objects, most_permissions}
 use Rattle.rbac_words.specs.State.{State, Session}
-use Rattle.rbac_words.specs.Authorization.{IsAuthorized}
+use Rattle.rbac_words.specs.Authorization.{InheritsIn, IsAuthorized}
 
 -- each set is a sorted list without repeats
 pub record IsInOrder (s : State) : Type 0 where
@@ -14,12 +14,14 @@ pub record IsInOrder (s : State) : Type 0 where
   pub roles : IsStrictlySortedBy name_cmp s.roles
   pub assigned : IsStrictlySortedBy pair_cmp s.assigned
   pub granted : IsStrictlySortedBy grant_cmp s.granted
+  pub declared : IsStrictlySortedBy pair_cmp s.declared
   pub sessions : IsStrictlySortedBy (by_key name_cmp) s.sessions
 
--- assignments and grants are between what exists
+-- assignments, grants and declared pairs are between what exists
 pub record HasReferences (s : State) : Type 0 where
   pub assigned : (user role : Name) → IsTrue (has pair_cmp (user, role) s.assigned) → IsTrue (has name_cmp user s.users) × IsTrue (has name_cmp role s.roles)
   pub granted : (permission : Permission) (role : Name) → IsTrue (has grant_cmp (permission, role) s.granted) → IsTrue (has pair_cmp permission s.permissions) × IsTrue (has name_cmp role s.roles)
+  pub declared : (ascendant descendant : Name) → IsTrue (has pair_cmp (ascendant, descendant) s.declared) → IsTrue (has name_cmp ascendant s.roles) × IsTrue (has name_cmp descendant s.roles)
 
 -- nothing is more than its limit
 pub record IsWithinLimits (s : State) : Type 0 where
@@ -30,6 +32,10 @@ pub record IsWithinLimits (s : State) : Type 0 where
   pub objects : length s.objects ≤ most_objects
   pub permissions : length s.permissions ≤ most_permissions
 
+-- the hierarchy has no cycle: no descendant inherits its ascendant
+abbrev pub HasNoCycle : State → Type 0
+HasNoCycle s = (ascendant descendant : Name) → IsTrue (has pair_cmp (ascendant, descendant) s.declared) → ¬ (InheritsIn s descendant ascendant)
+
 -- a session's owner exists, and is authorized for each of its active roles
 pub record IsSessionSound (s : State) (session : Session) : Type 0 where
   pub owned : IsTrue (has name_cmp session.owner s.users)
@@ -39,4 +45,5 @@ pub record IsSound (s : State) : Type 0 where
   pub in_order : IsInOrder s
   pub references : HasReferences s
   pub limits : IsWithinLimits s
+  pub no_cycle : HasNoCycle s
   pub sessions : Each (λ e. IsSessionSound s e.1) s.sessions

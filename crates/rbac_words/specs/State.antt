@@ -9,7 +9,7 @@ pub record Session : Type 0 where
   pub owner : Name
   pub active : List Name
 
--- ANSI INCITS 359-2004, 5.1 Core RBAC
+-- ANSI INCITS 359-2004, 5.1 Core RBAC and 5.2 Hierarchical RBAC
 pub record State : Type 0 where
   -- USERS
   pub users : List Name
@@ -19,6 +19,8 @@ pub record State : Type 0 where
   pub assigned : List (Name × Name)
   -- PA: permission and role
   pub granted : List Grant
+  -- RH: ascendant and descendant, each pair that was declared
+  pub declared : List (Name × Name)
   -- SESSIONS, each by its name
   pub sessions : List (Name × Session)
   -- OPS, OBS and PRMS, which no command changes
@@ -33,6 +35,7 @@ founding_state v = record {
   roles = [];
   assigned = [];
   granted = [];
+  declared = [];
   sessions = [];
   operations = v.operations;
   objects = v.objects;

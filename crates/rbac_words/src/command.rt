@@ -5,7 +5,7 @@ use crate::name::Name;
 use crate::name_set::NameSet;
 use std::alloc::{AllocError, Global};
 
-/// A command of RBAC (ANSI INCITS 359-2004, 6.1.1 and 6.1.2), one variant for each.
+/// A command of RBAC (ANSI INCITS 359-2004, 6.1.1, 6.1.2 and 6.2), one variant for each.
 #[derive(Drop)]
 pub enum Command {
     AddUser {
@@ -37,6 +37,22 @@ pub enum Command {
         operation: Name,
         object: Name,
         role: Name,
+    },
+    AddInheritance {
+        ascendant: Name,
+        descendant: Name,
+    },
+    DeleteInheritance {
+        ascendant: Name,
+        descendant: Name,
+    },
+    AddAscendant {
+        ascendant: Name,
+        descendant: Name,
+    },
+    AddDescendant {
+        ascendant: Name,
+        descendant: Name,
     },
     CreateSession {
         user: Name,
@@ -107,6 +123,34 @@ impl Command {
                 operation: operation.copy(alloc)?,
                 object: object.copy(alloc)?,
                 role: role.copy(alloc)?,
+            }),
+            Command::AddInheritance {
+                ascendant,
+                descendant,
+            } => Ok(Command::AddInheritance {
+                ascendant: ascendant.copy(alloc)?,
+                descendant: descendant.copy(alloc)?,
+            }),
+            Command::DeleteInheritance {
+                ascendant,
+                descendant,
+            } => Ok(Command::DeleteInheritance {
+                ascendant: ascendant.copy(alloc)?,
+                descendant: descendant.copy(alloc)?,
+            }),
+            Command::AddAscendant {
+                ascendant,
+                descendant,
+            } => Ok(Command::AddAscendant {
+                ascendant: ascendant.copy(alloc)?,
+                descendant: descendant.copy(alloc)?,
+            }),
+            Command::AddDescendant {
+                ascendant,
+                descendant,
+            } => Ok(Command::AddDescendant {
+                ascendant: ascendant.copy(alloc)?,
+                descendant: descendant.copy(alloc)?,
             }),
             Command::CreateSession {
                 user,

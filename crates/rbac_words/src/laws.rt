@@ -3,16 +3,17 @@ ghost use Rattle.std.specs.Prelude.{List, IsTrue, IfErr, ◌↔◌, ◌≡◌, �
 ghost use Rattle.std.specs.declared.cmp.Ordering.TheVariants.{Less};
 ghost use Rattle.std.specs.List.{list_all};
 ghost use Rattle.std.specs.List.Sorted.{IsPermutation};
+ghost use Rattle.sorted_keys.specs.Keys.{has};
 ghost use Rattle.rbac_words.specs.declared.command.Command.{Command};
 ghost use Rattle.rbac_words.specs.declared.event.Event.{Event};
 ghost use Rattle.rbac_words.specs.declared.message.Submission.{Submission};
 ghost use Rattle.rbac_words.specs.declared.stamp.Stamp.{Stamp};
-ghost use Rattle.rbac_words.specs.Authorization.{IsAuthorized, is_authorized, Holds, holds, is_entitled, purge};
+ghost use Rattle.rbac_words.specs.Authorization.{InheritsIn, IsAuthorized, is_authorized, Holds, holds, is_entitled, purge};
 ghost use Rattle.rbac_words.specs.Effect.{effect};
 ghost use Rattle.rbac_words.specs.Founding.{Group as GroupValue, Vocabulary as VocabularyValue, IsVocabulary};
 ghost use Rattle.rbac_words.specs.Inheritance.{Inherits, inherits};
 ghost use Rattle.rbac_words.specs.Message.{submitted_at};
-ghost use Rattle.rbac_words.specs.Name.{Name, Permission};
+ghost use Rattle.rbac_words.specs.Name.{Name, Permission, name_cmp};
 ghost use Rattle.rbac_words.specs.Right.{AreHistoriesRight, founding_world};
 ghost use Rattle.rbac_words.specs.Stamp.{IsBefore, is_before, stamp_cmp, IsInStampOrder, sort_by_stamp};
 ghost use Rattle.rbac_words.specs.Sound.{IsSound};
@@ -22,6 +23,14 @@ ghost use Rattle.rbac_words.specs.World.{World, step, step_outcome};
 /// The test of inheritance tells whether there is a chain of declared pairs.
 pub fn a_test_tells_inheritance()
     ensures { (roles : List Name) (declared : List (Name × Name)) (r q : Name) → IsTrue (inherits roles declared r q) ↔ Inherits roles declared r q }
+{}
+
+/// Inheritance is reflexive over the roles and transitive, and in a policy that is sound no two roles inherit one another: it
+/// is the partial order of roles of ANSI INCITS 359-2004, 5.2.
+pub fn inheritance_is_a_partial_order()
+    ensures reflexive { (s : State) (r : Name) → IsTrue (has name_cmp r s.roles) → InheritsIn s r r }
+    ensures transitive { (s : State) (r q p : Name) → InheritsIn s r q → InheritsIn s q p → InheritsIn s r p }
+    ensures antisymmetric { (s : State) (r q : Name) → IsSound s → InheritsIn s r q → InheritsIn s q r → r ≡ q }
 {}
 
 /// The test of authorization tells whether the user is assigned a role that inherits this one.

@@ -240,3 +240,18 @@ fn pairs_are_the_same_by_both_halves(rt: HostRuntime) -> Result<(), Fail> {
     assert!(rt; !(1u64, 2usize).same(&(2, 2)));
     Ok(())
 }
+
+#[test]
+fn pairs_that_begin_alike_stand_together(rt: HostRuntime) -> Result<(), Fail> {
+    let mut pairs = SortedSet::new(rt.alloc());
+    assert!(rt; pairs.beginning_with(&2u64).is_empty());
+    for pair in [(2u64, 7usize), (1, 8), (2, 5), (3, 5)] {
+        pairs.insert(pair)?;
+    }
+    assert_eq!(rt; pairs.beginning_with(&1), [(1, 8)].as_slice());
+    assert_eq!(rt; pairs.beginning_with(&2), [(2, 5), (2, 7)].as_slice());
+    assert_eq!(rt; pairs.beginning_with(&3), [(3, 5)].as_slice());
+    assert!(rt; pairs.beginning_with(&0).is_empty());
+    assert!(rt; pairs.beginning_with(&4).is_empty());
+    Ok(())
+}

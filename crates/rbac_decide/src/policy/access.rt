@@ -1,32 +1,53 @@
 //! Who is authorized for a role, and what a session may do.
-ghost use Rattle.std.specs.Prelude.{◌≡◌};
-ghost use Rattle.std.specs.List.{list_all};
+ghost use Rattle.std.specs.Prelude.{◌≡◌, length};
+ghost use Rattle.sorted_keys.specs.Keys.{has};
+ghost use Rattle.std.specs.List.{list_all, list_any};
 ghost use Rattle.std.specs.Option.{option_copied};
 ghost use Rattle.std.specs.FinMap.Entries.{find};
 ghost use Rattle.rbac_words.specs.Name.{name_cmp};
-ghost use Rattle.rbac_words.specs.Authorization.{is_authorized as is_authorized_in};
+ghost use Rattle.rbac_words.specs.Authorization.{inherits_in, is_authorized as is_authorized_in, has_permission};
 ghost use Rattle.rbac_words.specs.Rows.{is_owner, is_active};
 ghost use Rattle.rbac_words.specs.Effect.{session_holds};
-ghost use Rattle.rbac_decide.specs.Held.{has_grant_in, any_grant_in};
 
-use crate::authorization::{is_authorized, is_authorized_for_all};
+use crate::authorization::{is_authorized, is_authorized_for_all, some_inherits_some};
 use crate::policy::Policy;
 use rbac_sessions::Session;
 use rbac_words::Name;
 
 impl Policy {
+    /// Whether it is one of the roles.
+    pub fn has_role(&self, role: &Name) -> bool
+        ensures { result ≡ has name_cmp role.now self.now.roles }
+    {
+        self.tables.sets.has_role(role)
+    }
+
+    /// How many roles there are.
+    pub fn role_count(&self) -> usize
+        ensures { result ≡ length self.now.roles }
+    {
+        self.tables.sets.role_count()
+    }
+
+    /// Whether the senior inherits the junior.
+    pub fn inherits(&self, senior: &Name, junior: &Name) -> bool
+        ensures { result ≡ inherits_in self.now senior.now junior.now }
+    {
+        self.tables.hierarchy.inherits(senior, junior)
+    }
+
     /// Whether the user is authorized for the role.
     pub fn is_authorized(&self, user: &Name, role: &Name) -> bool
         ensures { result ≡ is_authorized_in self.now user.now role.now }
     {
-        is_authorized(&self.tables.sets, user, role)
+        is_authorized(&self.tables.sets, &self.tables.hierarchy, user, role)
     }
 
     /// Whether the user is authorized for each of the roles.
     pub fn is_authorized_for_all(&self, user: &Name, roles: &[Name]) -> bool
         ensures { result ≡ list_all (is_authorized_in self.now user.now) roles.now }
     {
-        is_authorized_for_all(&self.tables.sets, user, roles)
+        is_authorized_for_all(&self.tables.sets, &self.tables.hierarchy, user, roles)
     }
 
     /// Whether the session is the user's.
@@ -49,20 +70,12 @@ impl Policy {
         }
     }
 
-    // Whether the role is there and the permission is granted to it.
-    fn has_grant(&self, role: &Name, operation: &Name, object: &Name) -> bool
-        ensures { result ≡ has_grant_in self.now (operation.now, object.now) role.now }
+    // Whether the permission is granted to a role that one of these inherits.
+    fn some_has_permission(&self, roles: &[Name], operation: &Name, object: &Name) -> bool
+        ensures { result ≡ list_any (has_permission self.now (operation.now, object.now)) roles.now }
     {
-        self.tables.sets.has_role(role) && self.tables.sets.granted(operation, object, role)
-    }
-
-    // Whether the permission is granted to one of the roles.
-    fn has_grant_of_any(&self, roles: &[Name], operation: &Name, object: &Name) -> bool
-        ensures { result ≡ any_grant_in self.now (operation.now, object.now) roles.now }
-    {
-        roles
-            .iter()
-            .any(|role| self.has_grant(role, operation, object))
+        let grants = self.tables.sets.grants_of(operation, object);
+        some_inherits_some(&self.tables.hierarchy, roles, grants)
     }
 
     // The session of this name.
@@ -77,7 +90,7 @@ impl Policy {
         ensures { result ≡ session_holds (find name_cmp session.now self.now.sessions) self.now (operation.now, object.now) }
     {
         match self.session(session) {
-            Some(session) => self.has_grant_of_any(session.active.names(), operation, object),
+            Some(session) => self.some_has_permission(session.active.names(), operation, object),
             None => false,
         }
     }

@@ -3,6 +3,7 @@ ghost use Rattle.std.specs.Prelude.{◌≡◌};
 ghost use Rattle.rbac_words.specs.Rows.{first_denial};
 
 mod administration;
+mod hierarchy;
 mod sessions;
 
 use crate::policy::Policy;
@@ -30,6 +31,22 @@ impl Policy {
                 object,
                 role,
             } => self.first_revoke_permission(operation, object, role),
+            Command::AddInheritance {
+                ascendant,
+                descendant,
+            } => self.first_add_inheritance(ascendant, descendant),
+            Command::DeleteInheritance {
+                ascendant,
+                descendant,
+            } => self.first_delete_inheritance(ascendant, descendant),
+            Command::AddAscendant {
+                ascendant,
+                descendant,
+            } => self.first_add_ascendant(ascendant, descendant),
+            Command::AddDescendant {
+                ascendant,
+                descendant,
+            } => self.first_add_descendant(ascendant, descendant),
             Command::CreateSession {
                 user,
                 session,

@@ -75,6 +75,30 @@ fn permission_command(rt: &impl Abort, alloc: Global, kind: &str, words: &[&str]
     }
 }
 
+// A command about the role hierarchy.
+fn hierarchy_command(rt: &impl Abort, alloc: Global, kind: &str, words: &[&str]) -> Command {
+    let ascendant = name_at(rt, alloc, words, 0);
+    let descendant = name_at(rt, alloc, words, 1);
+    match kind {
+        "AddInheritance" => Command::AddInheritance {
+            ascendant,
+            descendant,
+        },
+        "DeleteInheritance" => Command::DeleteInheritance {
+            ascendant,
+            descendant,
+        },
+        "AddAscendant" => Command::AddAscendant {
+            ascendant,
+            descendant,
+        },
+        _ => Command::AddDescendant {
+            ascendant,
+            descendant,
+        },
+    }
+}
+
 // A command by its name and its words from the first field on.
 fn command(rt: &impl Abort, alloc: Global, kind: &str, words: &[&str]) -> Command {
     match kind {
@@ -99,6 +123,9 @@ fn command(rt: &impl Abort, alloc: Global, kind: &str, words: &[&str]) -> Comman
             role: name_at(rt, alloc, words, 1),
         },
         "GrantPermission" | "RevokePermission" => permission_command(rt, alloc, kind, words),
+        "AddInheritance" | "DeleteInheritance" | "AddAscendant" | "AddDescendant" => {
+            hierarchy_command(rt, alloc, kind, words)
+        }
         _ => session_command(rt, alloc, kind, words),
     }
 }

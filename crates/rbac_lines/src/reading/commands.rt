@@ -3,8 +3,11 @@ ghost use Rattle.serde_json.specs.View.{members_view};
 ghost use Rattle.rbac_lines.specs.Fields.{Reads};
 ghost use Rattle.rbac_lines.specs.Command.{command_of, one_name, two_names, three_names, add_user, delete_user, add_role, delete_role, assign_user, deassign_user, grant_permission, revoke_permission, create_session, delete_session, add_active_role, drop_active_role, check_access};
 
+mod hierarchy;
+
 use crate::reading::fields::{Object, name_in, names_in, only_keys, text_in};
 use crate::refusal::LineRefusal;
+use hierarchy::{add_ascendant, add_descendant, add_inheritance, delete_inheritance};
 use rbac_words::{Command, Name};
 use std::alloc::Global;
 
@@ -22,6 +25,10 @@ pub(crate) fn command_of(alloc: Global, fields: &Object) -> Result<Command, Line
         "DeassignUser" => deassign_user(alloc, fields),
         "GrantPermission" => grant_permission(alloc, fields),
         "RevokePermission" => revoke_permission(alloc, fields),
+        "AddInheritance" => add_inheritance(alloc, fields),
+        "DeleteInheritance" => delete_inheritance(alloc, fields),
+        "AddAscendant" => add_ascendant(alloc, fields),
+        "AddDescendant" => add_descendant(alloc, fields),
         "CreateSession" => create_session(alloc, fields),
         "DeleteSession" => delete_session(alloc, fields),
         "AddActiveRole" => add_active_role(alloc, fields),
@@ -41,7 +48,7 @@ fn one_name(alloc: Global, fields: &Object, key: &str) -> Result<Name, LineRefus
 }
 
 // The names at these two keys, and no other key.
-fn two_names(
+pub fn two_names(
     alloc: Global,
     fields: &Object,
     first: &str,

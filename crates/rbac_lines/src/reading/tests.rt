@@ -244,6 +244,22 @@ fn command_words(alloc: Global, command: &Command) -> Result<String, AllocError>
             object,
             role,
         } => words_of(alloc, "RevokePermission", &[operation, object, role]),
+        Command::AddInheritance {
+            ascendant,
+            descendant,
+        } => words_of(alloc, "AddInheritance", &[ascendant, descendant]),
+        Command::DeleteInheritance {
+            ascendant,
+            descendant,
+        } => words_of(alloc, "DeleteInheritance", &[ascendant, descendant]),
+        Command::AddAscendant {
+            ascendant,
+            descendant,
+        } => words_of(alloc, "AddAscendant", &[ascendant, descendant]),
+        Command::AddDescendant {
+            ascendant,
+            descendant,
+        } => words_of(alloc, "AddDescendant", &[ascendant, descendant]),
         Command::CreateSession {
             user,
             session,
@@ -365,6 +381,29 @@ fn commands_about_users_roles_and_permissions(rt: HostRuntime) -> Result<(), All
         (
             r#"{"name":"RevokePermission","operation":"read","object":"file","role":"clerk"}"#,
             "submit 1 0 0 RevokePermission read file clerk",
+        ),
+    ];
+    expect_commands(&rt, rt.alloc(), &commands)
+}
+
+#[test]
+fn commands_about_the_hierarchy(rt: HostRuntime) -> Result<(), AllocError> {
+    let commands = [
+        (
+            r#"{"name":"AddInheritance","ascendant":"boss","descendant":"clerk"}"#,
+            "submit 1 0 0 AddInheritance boss clerk",
+        ),
+        (
+            r#"{"descendant":"clerk","ascendant":"boss","name":"DeleteInheritance"}"#,
+            "submit 1 0 0 DeleteInheritance boss clerk",
+        ),
+        (
+            r#"{"name":"AddAscendant","descendant":"clerk","ascendant":"boss"}"#,
+            "submit 1 0 0 AddAscendant boss clerk",
+        ),
+        (
+            r#"{"name":"AddDescendant","ascendant":"boss","descendant":"clerk"}"#,
+            "submit 1 0 0 AddDescendant boss clerk",
         ),
     ];
     expect_commands(&rt, rt.alloc(), &commands)

@@ -36,6 +36,22 @@ fn fields(command: &Command) -> (&str, [&[u8]; 3]) {
             object,
             role,
         } => ("RevokePermission", three(operation, object, role)),
+        Command::AddInheritance {
+            ascendant,
+            descendant,
+        } => ("AddInheritance", two(ascendant, descendant)),
+        Command::DeleteInheritance {
+            ascendant,
+            descendant,
+        } => ("DeleteInheritance", two(ascendant, descendant)),
+        Command::AddAscendant {
+            ascendant,
+            descendant,
+        } => ("AddAscendant", two(ascendant, descendant)),
+        Command::AddDescendant {
+            ascendant,
+            descendant,
+        } => ("AddDescendant", two(ascendant, descendant)),
         Command::CreateSession { user, session, .. } => ("CreateSession", two(user, session)),
         Command::DeleteSession { user, session } => ("DeleteSession", two(user, session)),
         Command::AddActiveRole {
@@ -139,6 +155,46 @@ fn copies_of_a_permission(rt: &impl Abort, alloc: Global) {
     );
 }
 
+fn copies_of_a_declared_pair(rt: &impl Abort, alloc: Global) {
+    let named = |text: &str| name(rt, alloc, text);
+    expect_copied(
+        rt,
+        alloc,
+        Command::AddInheritance {
+            ascendant: named("boss"),
+            descendant: named("clerk"),
+        },
+    );
+    expect_copied(
+        rt,
+        alloc,
+        Command::DeleteInheritance {
+            ascendant: named("boss"),
+            descendant: named("clerk"),
+        },
+    );
+}
+
+fn copies_of_a_new_pair(rt: &impl Abort, alloc: Global) {
+    let named = |text: &str| name(rt, alloc, text);
+    expect_copied(
+        rt,
+        alloc,
+        Command::AddAscendant {
+            ascendant: named("boss"),
+            descendant: named("clerk"),
+        },
+    );
+    expect_copied(
+        rt,
+        alloc,
+        Command::AddDescendant {
+            ascendant: named("boss"),
+            descendant: named("clerk"),
+        },
+    );
+}
+
 fn copies_of_a_session(rt: &impl Abort, alloc: Global) {
     let named = |text: &str| name(rt, alloc, text);
     expect_copied(
@@ -197,6 +253,8 @@ fn a_copy_is_the_same_command(rt: HostRuntime) {
     copies_of_a_role(&rt, rt.alloc());
     copies_of_an_assignment(&rt, rt.alloc());
     copies_of_a_permission(&rt, rt.alloc());
+    copies_of_a_declared_pair(&rt, rt.alloc());
+    copies_of_a_new_pair(&rt, rt.alloc());
     copies_of_a_session(&rt, rt.alloc());
     copies_of_active_roles(&rt, rt.alloc());
 }

@@ -1,7 +1,14 @@
-use Rattle.std.proofs.Common.{◌∙◌, sym}
-use Rattle.rbac_words.proofs.AuthorizationLemmas.{authorized-undeclared}
-use Rattle.rbac_decide.specs.Tables.{state_of_sets}
+use Rattle.std.proofs.Common.{◌∙◌, ap}
+use Rattle.std.specs.List.{list_any}
+use Rattle.rbac_words.specs.Name.{Name}
+use Rattle.rbac_words.specs.Relations.{begins_with}
+use Rattle.rbac_words.specs.Inheritance.{inherits}
+use Rattle.rbac_decide.proofs.AuthorizationLemmas.{any-filter}
 use Rattle.rbac_decide.proofs.authorization.is_authorized.Goals as goal
 
 pub returns : goal.returns
-returns c = c.is_assigned.ensures ∙ sym (authorized-undeclared (state_of_sets c.args.sets.now.content) c.args.user.now c.args.role.now)
+returns c =
+    let h = c.args.hierarchy.now.content in
+    c.some_inherits.ensures
+    ∙ ap (list_any (λ (pair : Name × Name). inherits h.roles h.declared pair.1 c.args.role.now)) c.assignments_of.ensures
+    ∙ any-filter (begins_with c.args.user.now) (λ (pair : Name × Name). inherits h.roles h.declared pair.1 c.args.role.now) c.args.sets.now.content.assigned

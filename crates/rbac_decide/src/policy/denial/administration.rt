@@ -8,7 +8,8 @@ use rbac_words::{Denial, Name};
 
 const MOST_USERS: usize = 4096;
 
-const MOST_ROLES: usize = 1024;
+/// How many roles there may be.
+pub const MOST_ROLES: usize = 1024;
 
 impl Policy {
     pub fn first_add_user(&self, user: &Name) -> Option<Denial>
@@ -35,10 +36,10 @@ impl Policy {
     pub fn first_add_role(&self, role: &Name) -> Option<Denial>
         ensures { result ≡ first_denial (AddRole role.now) self.now }
     {
-        if self.tables.sets.has_role(role) {
+        if self.has_role(role) {
             return Some(Denial::RoleExists);
         }
-        if self.tables.sets.role_count() >= MOST_ROLES {
+        if self.role_count() >= MOST_ROLES {
             return Some(Denial::Limit);
         }
         None
@@ -47,7 +48,7 @@ impl Policy {
     pub fn first_delete_role(&self, role: &Name) -> Option<Denial>
         ensures { result ≡ first_denial (DeleteRole role.now) self.now }
     {
-        if !self.tables.sets.has_role(role) {
+        if !self.has_role(role) {
             return Some(Denial::NoRole);
         }
         None
@@ -59,7 +60,7 @@ impl Policy {
         if !self.tables.sets.has_user(user) {
             return Some(Denial::NoUser);
         }
-        if !self.tables.sets.has_role(role) {
+        if !self.has_role(role) {
             return Some(Denial::NoRole);
         }
         if self.tables.sets.assigned(user, role) {
@@ -74,7 +75,7 @@ impl Policy {
         if !self.tables.sets.has_user(user) {
             return Some(Denial::NoUser);
         }
-        if !self.tables.sets.has_role(role) {
+        if !self.has_role(role) {
             return Some(Denial::NoRole);
         }
         if !self.tables.sets.assigned(user, role) {
@@ -94,7 +95,7 @@ impl Policy {
         if !self.vocabulary.has_permission(operation, object) {
             return Some(Denial::NoPermission);
         }
-        if !self.tables.sets.has_role(role) {
+        if !self.has_role(role) {
             return Some(Denial::NoRole);
         }
         None
@@ -111,7 +112,7 @@ impl Policy {
         if !self.vocabulary.has_permission(operation, object) {
             return Some(Denial::NoPermission);
         }
-        if !self.tables.sets.has_role(role) {
+        if !self.has_role(role) {
             return Some(Denial::NoRole);
         }
         if !self.tables.sets.granted(operation, object, role) {

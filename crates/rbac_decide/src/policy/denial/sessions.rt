@@ -56,7 +56,7 @@ impl Policy {
         if !self.tables.sessions.contains(session) {
             return Some(Denial::NoSession);
         }
-        if !self.tables.sets.has_role(role) {
+        if !self.has_role(role) {
             return Some(Denial::NoRole);
         }
         if !self.is_owner(session, user) {
@@ -80,7 +80,7 @@ impl Policy {
         if !self.tables.sessions.contains(session) {
             return Some(Denial::NoSession);
         }
-        if !self.tables.sets.has_role(role) {
+        if !self.has_role(role) {
             return Some(Denial::NoRole);
         }
         if !self.is_owner(session, user) {

@@ -1,21 +1,24 @@
-use Rattle.std.proofs.Common.{◌≡◌, subst, sym, ◌∙◌}
+use Rattle.std.proofs.Common.{◌≡◌, subst, sym, ap}
 use Rattle.rbac_words.specs.Sound.{IsSound}
 use Rattle.rbac_words.specs.Effect.{effect}
 use Rattle.rbac_words.proofs.SoundLemmas.{sound_effect}
-use Rattle.rbac_decide.specs.Tables.{state_of}
+use Rattle.rbac_decide.specs.declared.tables.Tables.{Tables}
+use Rattle.rbac_decide.specs.Tables.{state_of, HasSameRoles}
 use Rattle.rbac_decide.proofs.ApplyLemmas.{undenied_reply, changed}
 use Rattle.rbac_decide.proofs.policy.Policy.apply.Goals as goal
 
 -- the tables that are put in place, with the vocabulary
-put_in_place : (c : goal.After-drop-self-inside-5) → state_of c.change.new.self c.self.inside.vocabulary ≡ effect c.args.command.now c.args.self.now
+put_in_place : (c : goal.After-drop-self-inside-7) → state_of c.change.new.self c.self.inside.vocabulary ≡ effect c.args.command.now c.args.self.now
 put_in_place c =
     let v = c.self.inside.vocabulary in
     changed c.args.command.now c.args.self.now (state_of c.in_ok-next.next v) (state_of c.change.new.self v) (state_of c.self.inside.tables v)
-    c.in_default.ensures c.self.view_is (c.in_ok-next.ensures v) (c.in_ok-change.ensures v)
+    c.in_default.ensures c.self.view_is (ap (λ (t : Tables). state_of t v) c.in_ok-next.ensures) (c.in_ok-change.ensures.state v)
 
 pub invariant_of-self : goal.invariant_of-self
-invariant_of-self c =
-    subst IsSound (sym (put_in_place c)) (sound_effect c.args.command.now c.args.self.now (subst IsSound c.self.view_is c.self.invariant))
+invariant_of-self c = record {
+  sound = subst IsSound (sym (put_in_place c)) (sound_effect c.args.command.now c.args.self.now (subst IsSound c.self.view_is c.self.invariant.sound));
+  same_roles = c.in_ok-change.ensures.same_roles (subst HasSameRoles (sym c.in_ok-next.ensures) c.self.invariant.same_roles);
+}
 
 pub returns : goal.returns
 returns c = record {

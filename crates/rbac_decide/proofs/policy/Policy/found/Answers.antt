@@ -4,7 +4,10 @@ use Rattle.rbac_words.proofs.SoundLemmas.{sound_founding}
 use Rattle.rbac_decide.proofs.policy.Policy.found.Goals as goal
 
 pub invariant_of-result : goal.invariant_of-result
-invariant_of-result c = subst IsSound (sym (c.new.ensures c.args.vocabulary)) (sound_founding c.args.vocabulary c.invariants.ensures)
+invariant_of-result c = record {
+  sound = subst IsSound (sym (c.new.ensures.state c.args.vocabulary)) (sound_founding c.args.vocabulary c.invariants.ensures);
+  same_roles = c.new.ensures.same_roles;
+}
 
 pub returns : goal.returns
-returns c = c.new.ensures c.args.vocabulary
+returns c = c.new.ensures.state c.args.vocabulary

@@ -3,5 +3,7 @@ use Rattle.rbac_words.specs.Authorization.{purge}
 use Rattle.rbac_decide.specs.Tables.{state_of}
 use Rattle.rbac_decide.proofs.tables.Tables.delete_role.Goals as goal
 
-pub returns : goal.returns
-returns c = λ v. c.purge.ensures v ∙ (λ i. purge (state_of (record { sets = record { content = c.remove_role.ensures i }; sessions = record { content = c.delete_where.ensures i } }) v))
+pub returns-clause-state : goal.returns-clause-state
+returns-clause-state c = λ v.
+    c.purge.ensures.state v
+    ∙ (λ i. purge (state_of (record { sets = record { content = c.remove_role-2.ensures i }; hierarchy = record { content = c.in_ok-remove_role.ensures.ok i }; sessions = record { content = c.delete_where.ensures i } }) v))

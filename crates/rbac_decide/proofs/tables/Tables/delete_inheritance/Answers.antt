@@ -1,0 +1,9 @@
+use Rattle.std.proofs.Common.{◌∙◌}
+use Rattle.rbac_words.specs.Authorization.{purge}
+use Rattle.rbac_decide.specs.Tables.{state_of}
+use Rattle.rbac_decide.proofs.tables.Tables.delete_inheritance.Goals as goal
+
+pub returns-clause-state : goal.returns-clause-state
+returns-clause-state c = λ v.
+    c.purge.ensures.state v
+    ∙ (λ i. purge (state_of (record { sets = c.args.self.now.sets; hierarchy = record { content = c.in_ok-retract.ensures.ok i }; sessions = c.args.self.now.sessions }) v))

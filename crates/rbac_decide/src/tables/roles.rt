@@ -1,0 +1,79 @@
+//! Changes of the roles and of the declared pairs, in the role sets and in the hierarchy alike.
+ghost use Rattle.std.specs.Prelude.{◌≡◌, IsTrue, OnOk};
+ghost use Rattle.sorted_keys.specs.Keys.{has};
+ghost use Rattle.rbac_words.specs.Name.{name_cmp};
+ghost use Rattle.rbac_words.specs.Effect.{change};
+ghost use Rattle.rbac_words.specs.Founding.{Vocabulary as VocabularyValue};
+ghost use Rattle.rbac_words.specs.declared.command.Command.TheVariants.{AddRole, DeleteRole, DeleteInheritance, AddAscendant, AddDescendant};
+
+use crate::ending::WithActive;
+use crate::tables::Tables;
+use rbac_words::Name;
+use std::alloc::{AllocError, Global};
+
+impl Tables {
+    ghost use Rattle.rbac_decide.specs.Tables.{state_of, HasSameRoles};
+
+    pub fn add_role(&mut self, alloc: Global, role: &Name) -> Result<(), AllocError>
+        ensures state { OnOk result ((v : VocabularyValue) → state_of self.new v ≡ change (AddRole role.now) (state_of self.old v)) }
+        ensures same_roles { HasSameRoles self.old → OnOk result (HasSameRoles self.new) }
+    {
+        self.sets.add_role(role.copy(alloc)?)?;
+        self.hierarchy.add_role(alloc, role)
+    }
+
+    pub fn delete_role(&mut self, alloc: Global, role: &Name) -> Result<(), AllocError>
+        ensures state { OnOk result ((v : VocabularyValue) → state_of self.new v ≡ change (DeleteRole role.now) (state_of self.old v)) }
+        ensures same_roles { HasSameRoles self.old → OnOk result (HasSameRoles self.new) }
+    {
+        self.hierarchy.remove_role(alloc, role)?;
+        self.sets.remove_role(role);
+        self.sessions.delete_where(&WithActive { role });
+        self.purge();
+        Ok(())
+    }
+
+    pub fn delete_inheritance(
+        &mut self,
+        alloc: Global,
+        ascendant: &Name,
+        descendant: &Name,
+    ) -> Result<(), AllocError>
+        ensures state { OnOk result ((v : VocabularyValue) → state_of self.new v ≡ change (DeleteInheritance ascendant.now descendant.now) (state_of self.old v)) }
+        ensures same_roles { HasSameRoles self.old → OnOk result (HasSameRoles self.new) }
+    {
+        self.hierarchy.retract(alloc, ascendant, descendant)?;
+        self.purge();
+        Ok(())
+    }
+
+    pub fn add_ascendant(
+        &mut self,
+        alloc: Global,
+        ascendant: &Name,
+        descendant: &Name,
+    ) -> Result<(), AllocError>
+        requires descendant { IsTrue (has name_cmp descendant.now self.old.hierarchy.content.roles) }
+        ensures state { OnOk result ((v : VocabularyValue) → state_of self.new v ≡ change (AddAscendant ascendant.now descendant.now) (state_of self.old v)) }
+        ensures same_roles { HasSameRoles self.old → OnOk result (HasSameRoles self.new) }
+    {
+        self.add_role(alloc, ascendant)?;
+        self.hierarchy.declare(alloc, ascendant, descendant)?;
+        Ok(())
+    }
+
+    pub fn add_descendant(
+        &mut self,
+        alloc: Global,
+        ascendant: &Name,
+        descendant: &Name,
+    ) -> Result<(), AllocError>
+        requires ascendant { IsTrue (has name_cmp ascendant.now self.old.hierarchy.content.roles) }
+        ensures state { OnOk result ((v : VocabularyValue) → state_of self.new v ≡ change (AddDescendant ascendant.now descendant.now) (state_of self.old v)) }
+        ensures same_roles { HasSameRoles self.old → OnOk result (HasSameRoles self.new) }
+    {
+        self.add_role(alloc, descendant)?;
+        self.hierarchy.declare(alloc, ascendant, descendant)?;
+        Ok(())
+    }
+}

@@ -1,0 +1,4 @@
+pub mod Kept
+pub mod JuniorLemmas
+pub mod RowLemmas
+pub mod WalkLemmas

@@ -1,0 +1,181 @@
+//! The roles and the declared pairs of roles.
+ghost use Rattle.std.specs.Prelude.{◌≡◌, ◌↔◌, IsTrue, IfOk, OnOk, OnErr};
+ghost use Rattle.sorted_keys.specs.Keys.{has, with_key, without};
+ghost use Rattle.rbac_words.specs.Inheritance.{Inherits, inherits, juniors, seniors};
+ghost use Rattle.rbac_words.specs.Name.{name_cmp, pair_cmp};
+ghost use Rattle.rbac_words.specs.Relations.{without_pairs_of};
+ghost use Rattle.rbac_hierarchy.specs.Order.{no_order};
+ghost use Rattle.rbac_hierarchy.specs.Rows.{RangesOver};
+
+use crate::removal::OtherPairs;
+use crate::rows::{lone_row, renewed_rows, roles_above};
+use rbac_words::{Name, NameSet};
+use sorted_keys::{PairProbe, SortedMap, SortedSet};
+use std::alloc::{AllocError, Global};
+use std::marker::Model;
+
+/// The roles and the declared pairs of roles (RH).
+///
+/// For each role the set of its juniors, itself among them, is kept, so that a question is a look-up. A change of the
+/// declared pairs computes these sets anew.
+#[derive(Drop)]
+pub struct Hierarchy {
+    declared: SortedSet<(Name, Name)>,
+    juniors: SortedMap<Name, NameSet>,
+}
+
+impl Model for Hierarchy {
+    ghost use Rattle.rbac_hierarchy.specs.Order.{Hierarchy as HierarchyValue};
+    ghost use Rattle.rbac_hierarchy.specs.Rows.{AreRows, roles_in};
+
+    ghost Value = { HierarchyValue };
+
+    ghost view = { λ h. record { content = record { roles = roles_in h.juniors.content; declared = h.declared.content } } };
+
+    ghost invariant = { λ h. AreRows h.declared.content h.juniors.content };
+}
+
+impl Hierarchy {
+    /// No roles.
+    pub fn empty(alloc: Global) -> Hierarchy
+        ensures { result.content ≡ no_order }
+    {
+        Hierarchy {
+            declared: SortedSet::new(alloc),
+            juniors: SortedMap::new(alloc),
+        }
+    }
+
+    /// Whether the senior inherits the junior. A role inherits itself, and what is no role inherits nothing.
+    pub fn inherits(&self, senior: &Name, junior: &Name) -> bool
+        ensures definition { let h = self.now.content in IsTrue result ↔ Inherits h.roles h.declared senior.now junior.now }
+        ensures test { let h = self.now.content in result ≡ inherits h.roles h.declared senior.now junior.now }
+    {
+        match self.juniors.get(senior) {
+            Some(names) => names.contains(junior),
+            None => false,
+        }
+    }
+
+    /// Whether the pair is declared.
+    pub fn declared(&self, ascendant: &Name, descendant: &Name) -> bool
+        ensures { result ≡ has pair_cmp (ascendant.now, descendant.now) self.now.content.declared }
+    {
+        self.declared.contains(&PairProbe {
+            first: ascendant,
+            second: descendant,
+        })
+    }
+
+    /// Adds a role. Where it is there, nothing changes.
+    pub fn add_role(&mut self, alloc: Global, role: &Name) -> Result<(), AllocError>
+        ensures ok { let h = self.old.content in OnOk result (self.new.content ≡ record h { roles = with_key name_cmp role.now h.roles }) }
+        ensures err { OnErr result (self.new.content ≡ self.old.content) }
+    {
+        if self.juniors.contains(role) {
+            return Ok(());
+        }
+        let names = lone_row(alloc, role)?;
+        let role = role.copy(alloc)?;
+        self.juniors.insert(role, names)
+    }
+
+    // Puts these pairs in place of the declared ones, with the juniors that they give.
+    fn replace_pairs(
+        &mut self,
+        alloc: Global,
+        declared: SortedSet<(Name, Name)>,
+    ) -> Result<(), AllocError>
+        requires { RangesOver self.old.content.roles declared.content }
+        ensures ok { let h = self.old.content in OnOk result (self.new.content ≡ record h { declared = declared.content }) }
+        ensures err { OnErr result (self.new.content ≡ self.old.content) }
+    {
+        let juniors = renewed_rows(alloc, &self.juniors, &declared)?;
+        self.declared = declared;
+        self.juniors = juniors;
+        Ok(())
+    }
+
+    /// Takes a role out, and its pairs.
+    pub fn remove_role(&mut self, alloc: Global, role: &Name) -> Result<(), AllocError>
+        ensures ok { let h = self.old.content in OnOk result (self.new.content ≡ record h { roles = without name_cmp role.now h.roles; declared = without_pairs_of role.now h.declared }) }
+        ensures err { OnErr result (self.new.content ≡ self.old.content) }
+    {
+        let mut declared = self.declared.copy(alloc)?;
+        declared.retain(&OtherPairs { role });
+        self.replace_pairs(alloc, declared)?;
+        self.juniors.remove(role);
+        Ok(())
+    }
+
+    /// Declares a pair of roles. Where it is declared, nothing changes.
+    pub fn declare(
+        &mut self,
+        alloc: Global,
+        ascendant: &Name,
+        descendant: &Name,
+    ) -> Result<(), AllocError>
+        requires ascendant { IsTrue (has name_cmp ascendant.now self.old.content.roles) }
+        requires descendant { IsTrue (has name_cmp descendant.now self.old.content.roles) }
+        ensures ok { let h = self.old.content in OnOk result (self.new.content ≡ record h { declared = with_key pair_cmp (ascendant.now, descendant.now) h.declared }) }
+        ensures err { OnErr result (self.new.content ≡ self.old.content) }
+    {
+        let mut declared = self.declared.copy(alloc)?;
+        let first = ascendant.copy(alloc)?;
+        let second = descendant.copy(alloc)?;
+        declared.insert((first, second))?;
+        self.replace_pairs(alloc, declared)
+    }
+
+    /// Takes a declared pair back. Where it is not declared, nothing changes.
+    pub fn retract(
+        &mut self,
+        alloc: Global,
+        ascendant: &Name,
+        descendant: &Name,
+    ) -> Result<(), AllocError>
+        ensures ok { let h = self.old.content in OnOk result (self.new.content ≡ record h { declared = without pair_cmp (ascendant.now, descendant.now) h.declared }) }
+        ensures err { OnErr result (self.new.content ≡ self.old.content) }
+    {
+        let mut declared = self.declared.copy(alloc)?;
+        declared.remove(&PairProbe {
+            first: ascendant,
+            second: descendant,
+        });
+        self.replace_pairs(alloc, declared)
+    }
+
+    /// The roles that the role inherits, itself among them.
+    pub fn juniors(&self, alloc: Global, role: &Name) -> Result<NameSet, AllocError>
+        ensures { let h = self.now.content in IfOk result (λ names. names ≡ juniors h.roles h.declared role.now) }
+    {
+        match self.juniors.get(role) {
+            Some(names) => names.copy(alloc),
+            None => Ok(NameSet::new(alloc)),
+        }
+    }
+
+    /// The roles that inherit the role, itself among them.
+    pub fn seniors(&self, alloc: Global, role: &Name) -> Result<NameSet, AllocError>
+        ensures { let h = self.now.content in IfOk result (λ names. names ≡ seniors h.roles h.declared role.now) }
+    {
+        roles_above(alloc, self.juniors.entries(), role)
+    }
+
+    /// An equal hierarchy.
+    pub fn copy(&self, alloc: Global) -> Result<Hierarchy, AllocError>
+        ensures { IfOk result (λ copy. copy.content ≡ self.now.content) }
+    {
+        Ok(Hierarchy {
+            declared: self.declared.copy(alloc)?,
+            juniors: self.juniors.copy(alloc)?,
+        })
+    }
+
+    /// Whether both have the same roles and declared pairs.
+    pub fn same(&self, other: &Hierarchy) -> bool
+        ensures { IsTrue result ↔ (self.now.content ≡ other.now.content) }
+    {
+        self.declared.same(&other.declared) && self.juniors.same(&other.juniors)
+    }
+}

@@ -1,0 +1,56 @@
+//! The rows of juniors.
+ghost use Rattle.std.specs.Prelude.{◌≡◌, ◌∷◌, [], filter, IfOk};
+ghost use Rattle.std.specs.List.Sorted.{IsStrictlySortedBy};
+ghost use Rattle.sorted_keys.specs.Keys.{has, by_key};
+ghost use Rattle.rbac_words.specs.Name.{name_cmp};
+ghost use Rattle.rbac_hierarchy.specs.Rows.{RangesOver, roles_in, rows_over};
+
+use crate::walk::walk;
+use rbac_words::{Name, NameSet};
+use sorted_keys::{SortedMap, SortedSet};
+use std::alloc::{AllocError, Global};
+
+/// The rows of the same roles over these pairs.
+pub fn renewed_rows(
+    alloc: Global,
+    rows: &SortedMap<Name, NameSet>,
+    declared: &SortedSet<(Name, Name)>,
+) -> Result<SortedMap<Name, NameSet>, AllocError>
+    requires { RangesOver (roles_in rows.now.content) declared.now.content }
+    ensures { IfOk result (λ renewed. renewed.content ≡ rows_over (roles_in rows.now.content) declared.now.content) }
+{
+    let mut renewed = SortedMap::new(alloc);
+    for entry in rows.entries() {
+        let names = walk(alloc, &entry.0, declared)?;
+        let role = entry.0.copy(alloc)?;
+        renewed.insert(role, names)?;
+    }
+    Ok(renewed)
+}
+
+/// The roles in whose rows the name is.
+pub fn roles_above(
+    alloc: Global,
+    rows: &[(Name, NameSet)],
+    name: &Name,
+) -> Result<NameSet, AllocError>
+    requires { IsStrictlySortedBy (by_key name_cmp) rows.now }
+    ensures { IfOk result (λ roles. roles ≡ roles_in (filter (λ e. has name_cmp name.now e.1) rows.now)) }
+{
+    let mut roles = NameSet::new(alloc);
+    for entry in rows {
+        if entry.1.contains(name) {
+            roles.add(entry.0.copy(alloc)?)?;
+        }
+    }
+    Ok(roles)
+}
+
+/// The row of a role alone.
+pub fn lone_row(alloc: Global, role: &Name) -> Result<NameSet, AllocError>
+    ensures { IfOk result (λ names. names ≡ role.now ∷ []) }
+{
+    let mut names = NameSet::new(alloc);
+    names.add(role.copy(alloc)?)?;
+    Ok(names)
+}
