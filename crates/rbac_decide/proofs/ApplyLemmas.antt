@@ -1,5 +1,5 @@
 -- What a command that is not denied answers and leaves.
-use Rattle.std.proofs.Common.{◌≡◌, Option, Some, None, ap, sym, ◌∙◌}
+use Rattle.std.proofs.Common.{◌≡◌, Option, None, ap, ◌∙◌}
 use Rattle.rbac_words.specs.State.{State}
 use Rattle.rbac_words.specs.Rows.{first_denial}
 use Rattle.rbac_words.specs.Effect.{change, effect, effect_unless, answer, reply, reply_unless}

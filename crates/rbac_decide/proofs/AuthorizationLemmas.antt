@@ -1,5 +1,5 @@
 -- What is found among a user's assignments and a permission's grants is found among all.
-use Rattle.std.proofs.Common.{List, [], ◌∷◌, Bool, true, false, cond, ◌||◌, ◌&&◌, ◌≡◌, IsTrue, refl, sym, ap}
+use Rattle.std.proofs.Common.{List, [], ◌∷◌, Bool, true, false, cond, ◌||◌, ◌&&◌, ◌≡◌, refl, sym, ap}
 use Rattle.std.specs.List.{list_any, list_all, filter}
 use Rattle.sorted_keys.specs.Keys.{has}
 use Rattle.rbac_words.specs.Name.{Name, name_cmp}

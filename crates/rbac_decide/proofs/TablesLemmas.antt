@@ -1,5 +1,5 @@
 -- What a change of one table is to the state.
-use Rattle.std.proofs.Common.{List, [], ◌≡◌, IsTrue, ap, sym, subst, ◌∙◌}
+use Rattle.std.proofs.Common.{[], ◌≡◌, IsTrue, ap, sym, subst, ◌∙◌}
 use Rattle.sorted_keys.specs.Keys.{has, with_key}
 use Rattle.rbac_words.specs.Name.{Name, name_cmp, pair_cmp}
 use Rattle.rbac_words.specs.Founding.{Vocabulary}

@@ -1,6 +1,5 @@
 -- Juniors over pairs that range over the roles.
-use Rattle.std.proofs.Common.{◌≡◌, Bool, true, false, ◌||◌, ◌&&◌, ◌↔◌, List, [], ◌∷◌, IsTrue, refl, sym, ap, ◌∙◌, subst, ⊎_elim}
-use Rattle.std.specs.List.{filter}
+use Rattle.std.proofs.Common.{◌≡◌, Bool, true, false, ◌↔◌, List, [], ◌∷◌, IsTrue, sym, ◌∙◌, subst, ⊎_elim}
 use Rattle.std.specs.List.Sorted.{IsStrictlySortedBy}
 use Rattle.std.specs.Ordering.{eq_by_cmp}
 use Rattle.std.proofs.lemmas.Bool.{and_parts, and_from, or_cases, or_left, true≢false, false_from_ne_true}
@@ -9,12 +8,12 @@ use Rattle.sorted_keys.specs.Keys.{has, with_key}
 use Rattle.sorted_keys.proofs.Order.{sorted_none}
 use Rattle.sorted_keys.proofs.KeyPlace.{sorted_with_key}
 use Rattle.sorted_keys.proofs.Members.{has-filter, has-with_key, same_keys}
-use Rattle.rbac_words.specs.Name.{Name, name_cmp, pair_cmp}
+use Rattle.rbac_words.specs.Name.{Name, name_cmp}
 use Rattle.rbac_words.specs.Inheritance.{IsChain, Inherits, inherits, juniors}
 use Rattle.rbac_words.proofs.InheritanceLemmas.{inherits_iff}
-use Rattle.rbac_words.proofs.NameLemmas.{names_total, names_exact, one_key, ties_itself}
+use Rattle.rbac_words.proofs.NameLemmas.{names_total, names_exact, one_key, ties_itself, same_bits}
 use Rattle.rbac_hierarchy.specs.Rows.{RangesOver}
-use Rattle.rbac_hierarchy.proofs.Kept.{same_bits, keeps_none}
+use Rattle.rbac_hierarchy.proofs.Kept.{keeps_none}
 
 pub between_roles : (roles : List Name) (declared : List (Name × Name)) (r q : Name) → inherits roles declared r q ≡ true → (has name_cmp r roles ≡ true) × (has name_cmp q roles ≡ true)
 unfolding inherits

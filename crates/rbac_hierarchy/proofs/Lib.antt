@@ -1,4 +1,6 @@
 pub mod Kept
 pub mod JuniorLemmas
+pub mod EntryLemmas
+pub mod RangeLemmas
 pub mod RowLemmas
 pub mod WalkLemmas

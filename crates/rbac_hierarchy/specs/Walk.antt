@@ -16,7 +16,7 @@ abbrev pub unfound : List Name → List (Name × Name) → ℕ
 unfound found pairs = length (filter (λ p. not (has name_cmp p.1 found)) pairs)
 
 -- from the names that were found and those of them that are pending, to those after the descendants of these pairs are
--- found, and opened where they were not found before
+-- found, and pending where they were not found before
 pub record FindsDescendants (pairs : List (Name × Name)) (found pending found_then pending_then : List Name) : Type 0 where
   pub in_order : IsStrictlySortedBy name_cmp found → IsStrictlySortedBy name_cmp found_then
   pub kept : (q : Name) → IsTrue (has name_cmp q found) → IsTrue (has name_cmp q found_then)

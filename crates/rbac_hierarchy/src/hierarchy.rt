@@ -67,7 +67,7 @@ impl Hierarchy {
         })
     }
 
-    /// Adds a role. Where it is there, nothing changes.
+    /// Adds a role. Where it is there, nothing changes. What the other roles inherit is not computed anew.
     pub fn add_role(&mut self, alloc: Global, role: &Name) -> Result<(), AllocError>
         ensures ok { let h = self.old.content in OnOk result (self.new.content ≡ record h { roles = with_key name_cmp role.now h.roles }) }
         ensures err { OnErr result (self.new.content ≡ self.old.content) }

@@ -25,7 +25,7 @@ pub fn walk(
     Ok(found)
 }
 
-// Finds the descendants of the pairs, and opens those that were not found before.
+// Finds the descendants of the pairs. Those that were not found before are pending.
 fn find_descendants(
     alloc: Global,
     pairs: &[(Name, Name)],

@@ -1,14 +1,13 @@
 -- The tests of authorization and of holding a permission tell what they should.
-use Rattle.std.proofs.Common.{List, [], ◌∷◌, Bool, true, false, ◌||◌, ◌&&◌, ◌≡◌, IsTrue, ◌↔◌, refl, sym, ap, ◌∙◌, subst, ⊎_elim}
-use Rattle.std.specs.List.{list_any, list_all, filter}
+use Rattle.std.proofs.Common.{Bool, true, ◌&&◌, ◌≡◌, IsTrue, ◌↔◌, sym, subst}
+use Rattle.std.specs.List.{list_any}
 use Rattle.std.specs.Ordering.{eq_by_cmp}
 use Rattle.std.proofs.lemmas.Bool.{and_parts, and_from}
 use Rattle.sorted_keys.specs.Keys.{has}
 use Rattle.rbac_words.specs.Name.{Name, Permission, Grant, name_cmp, pair_cmp, grant_cmp}
 use Rattle.rbac_words.specs.State.{State, Session}
-use Rattle.rbac_words.specs.Inheritance.{Inherits, reaches_through, inherits}
 use Rattle.rbac_words.specs.Authorization.{IsAuthorized, is_authorized, Holds, holds, inherits_in}
-use Rattle.rbac_words.proofs.NameLemmas.{names_total, names_exact, pairs_total, pairs_exact, grants_total, grants_exact, one_key, ties_itself, ties_flip, ties-pair, any_member, member_any}
+use Rattle.rbac_words.proofs.NameLemmas.{names_total, names_exact, pairs_total, pairs_exact, grants_total, grants_exact, one_key, ties_itself, any_member, member_any}
 use Rattle.rbac_words.proofs.InheritanceLemmas.{inherits_iff}
 
 pub is_authorized_iff : (s : State) (user role : Name) → IsTrue (is_authorized s user role) ↔ IsAuthorized s user role

@@ -1,7 +1,7 @@
 -- What a purge leaves.
-use Rattle.std.proofs.Common.{List, [], ◌∷◌, Bool, true, false, cond, ◌&&◌, ◌≡◌, IsTrue, refl, sym, ap}
+use Rattle.std.proofs.Common.{List, [], ◌∷◌, Bool, true, false, cond, ◌≡◌, IsTrue, refl, ap}
 use Rattle.std.specs.List.{list_all, filter}
-use Rattle.std.proofs.lemmas.Bool.{and_parts, false≢true}
+use Rattle.std.proofs.lemmas.Bool.{and_parts}
 use Rattle.rbac_words.specs.Name.{Name}
 use Rattle.rbac_words.specs.State.{State, Session}
 use Rattle.rbac_words.specs.Authorization.{is_entitled, purge}

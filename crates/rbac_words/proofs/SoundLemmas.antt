@@ -1,8 +1,8 @@
 -- Each command keeps a policy sound.
-use Rattle.std.proofs.Common.{ℕ, List, [], ◌∷◌, length, Bool, true, false, not, ◌&&◌, ◌||◌, ◌≡◌, ◌≤◌, ◌+◌, IsTrue, Option, Some, None, refl, sym, ap, ◌∙◌, subst, ⊎_elim, arith}
+use Rattle.std.proofs.Common.{List, length, Bool, not, ◌&&◌, ◌≡◌, ◌≤◌, IsTrue, Option, Some, None, refl, sym, ap, ◌∙◌, subst, ⊎_elim, arith}
 use Rattle.std.proofs.lemmas.Bool.{or_cases, false≢true, leb-false, not-false}
 use Rattle.std.proofs.lemmas.List.Kept.{IsStrictlySortedBy-filter}
-use Rattle.std.specs.List.{list_all, filter, AllByRecursion as Each}
+use Rattle.std.specs.List.{AllByRecursion as Each}
 use Rattle.std.specs.List.Sorted.{IsStrictlySortedBy}
 use Rattle.std.specs.Ordering.{eq_by_cmp}
 use Rattle.std.specs.FinMap.Entries.{find, put}
@@ -11,16 +11,15 @@ use Rattle.sorted_keys.proofs.KeyPlace.{sorted_with_key}
 use Rattle.sorted_keys.proofs.EntryPlace.{sorted_put, sorted_updated}
 use Rattle.sorted_keys.proofs.Members.{has-with_key}
 use Rattle.sorted_keys.proofs.Order.{sorted_none}
-use Rattle.rbac_words.specs.Name.{Name, Permission, Grant, name_cmp, pair_cmp, grant_cmp}
-use Rattle.rbac_words.specs.Limits.{most_users, most_roles, most_sessions}
+use Rattle.rbac_words.specs.Name.{Name, name_cmp, pair_cmp, grant_cmp}
+use Rattle.rbac_words.specs.Limits.{most_users, most_sessions}
 use Rattle.rbac_words.specs.Founding.{Vocabulary, IsVocabulary}
 use Rattle.rbac_words.specs.State.{State, Session, founding_state}
-use Rattle.rbac_words.specs.Relations.{begins_with, ends_with, without_user, without_role}
-use Rattle.rbac_words.specs.Inheritance.{IsChain, Inherits}
-use Rattle.rbac_words.specs.Authorization.{IsAuthorized, is_authorized, is_entitled, purge}
+use Rattle.rbac_words.specs.Relations.{begins_with, without_user}
+use Rattle.rbac_words.specs.Authorization.{IsAuthorized, is_authorized, purge}
 use Rattle.rbac_words.specs.Rows.{preconditions, first_denial, found_and}
 use Rattle.rbac_words.specs.Effect.{change, effect, effect_unless, end_sessions, ended_where, with_active, without_active}
-use Rattle.rbac_words.specs.Sound.{IsInOrder, HasReferences, IsWithinLimits, IsSessionSound, IsSound}
+use Rattle.rbac_words.specs.Sound.{IsSessionSound, IsSound}
 use Rattle.rbac_words.specs.declared.command.Command.{Command}
 use Rattle.rbac_words.specs.declared.command.Command.TheVariants.{AddUser, DeleteUser, AddRole, DeleteRole, AssignUser, DeassignUser, GrantPermission, RevokePermission, AddInheritance, DeleteInheritance, AddAscendant, AddDescendant, CreateSession, DeleteSession, AddActiveRole, DropActiveRole, CheckAccess}
 use Rattle.rbac_words.specs.declared.answer.Denial.{Denial}

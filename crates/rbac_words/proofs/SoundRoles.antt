@@ -1,13 +1,12 @@
 -- Each command that adds or takes out roles or declared pairs keeps a policy sound.
-use Rattle.std.proofs.Common.{ℕ, List, [], ◌∷◌, length, Bool, true, false, not, ◌&&◌, ◌||◌, ◌≡◌, ◌≤◌, ◌<◌, ◌+◌, IsTrue, Option, None, refl, sym, ap, ◌∙◌, subst, ⊎_elim, arith}
+use Rattle.std.proofs.Common.{List, [], ◌∷◌, length, Bool, true, false, not, ◌||◌, ◌≡◌, ◌<◌, IsTrue, None, refl, sym, ap, ◌∙◌, subst, ⊎_elim, arith}
 use Rattle.std.proofs.lemmas.Bool.{or_cases, or_left, and_parts, false≢true, leb-false, not-false}
 use Rattle.std.proofs.lemmas.List.Kept.{IsStrictlySortedBy-filter}
-use Rattle.std.specs.List.{AllByRecursion as Each}
 use Rattle.std.specs.Ordering.{eq_by_cmp}
 use Rattle.sorted_keys.specs.Keys.{has, with_key, without}
 use Rattle.sorted_keys.proofs.KeyPlace.{sorted_with_key}
 use Rattle.sorted_keys.proofs.Members.{has-with_key}
-use Rattle.rbac_words.specs.Name.{Name, Grant, name_cmp, pair_cmp, grant_cmp}
+use Rattle.rbac_words.specs.Name.{Name, Grant, name_cmp, pair_cmp}
 use Rattle.rbac_words.specs.Limits.{most_roles, most_sessions}
 use Rattle.rbac_words.specs.State.{State, Session}
 use Rattle.rbac_words.specs.Relations.{begins_with, ends_with, without_role, without_pairs_of}

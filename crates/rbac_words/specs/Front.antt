@@ -1,5 +1,5 @@
 -- A history that a member may have.
-use Rattle.std.specs.Prelude.{ℕ, ◌≡◌, List, map, ◌==◌, ◌&&◌, Bool}
+use Rattle.std.specs.Prelude.{ℕ, ◌≡◌, List, map, ◌==◌, Bool}
 use Rattle.std.specs.List.{filter}
 use Rattle.rbac_words.specs.State.{State}
 use Rattle.rbac_words.specs.Replay.{replies}

@@ -1,10 +1,9 @@
 -- Messages, the commands in them, and the lists of messages that a member may send (Lamport 1978).
-use Rattle.std.specs.Prelude.{ℕ, Bool, suc, ◌≡◌, ◌≤◌, ◌==◌, ⊤, List, [], ◌∷◌, length, count_by, map}
+use Rattle.std.specs.Prelude.{ℕ, Bool, suc, ◌≡◌, ◌≤◌, ◌==◌, ⊤, List, [], ◌∷◌, length, map}
 use Rattle.std.specs.List.{AllByRecursion, flat_map, filter}
 use Rattle.rbac_words.specs.Limits.{last_clock}
 use Rattle.rbac_words.specs.Founding.{Group}
 use Rattle.rbac_words.specs.Stamp.{IsRising}
-use Rattle.rbac_words.specs.declared.command.Command.{Command}
 use Rattle.rbac_words.specs.declared.stamp.Stamp.{Stamp}
 use Rattle.rbac_words.specs.declared.message.Message.{Message}
 use Rattle.rbac_words.specs.declared.message.Message.TheVariants.{Call, Ack}

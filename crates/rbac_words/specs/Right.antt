@@ -1,5 +1,5 @@
 -- What is right of a world's histories, and the founding world.
-use Rattle.std.specs.Prelude.{ℕ, zero, suc, ◌≡◌, ◌<◌, ◌+◌, List, [], ◌∷◌, map, length, replicate, slice_index_or}
+use Rattle.std.specs.Prelude.{ℕ, zero, suc, ◌≡◌, ◌<◌, List, [], ◌∷◌, map, length, replicate, slice_index_or}
 use Rattle.std.specs.List.{flat_map}
 use Rattle.rbac_words.specs.Founding.{Group, Vocabulary}
 use Rattle.rbac_words.specs.State.{founding_state}

@@ -1,5 +1,5 @@
 -- What holds of each policy, whatever commands it was given.
-use Rattle.std.specs.Prelude.{ℕ, ◌≡◌, ◌≤◌, List, length, IsTrue}
+use Rattle.std.specs.Prelude.{◌≤◌, length, IsTrue}
 use Rattle.std.specs.List.{AllByRecursion as Each}
 use Rattle.std.specs.List.Sorted.{IsStrictlySortedBy}
 use Rattle.sorted_keys.specs.Keys.{has, by_key}

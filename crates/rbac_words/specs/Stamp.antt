@@ -1,5 +1,5 @@
 -- Stamps and their total order (Lamport 1978, "Ordering the Events Totally").
-use Rattle.std.specs.Prelude.{ℕ, Bool, ◌≡◌, ◌==◌, ◌<◌, nat_lt, ◌||◌, ◌&&◌, ◌⊎◌, List, [], ◌∷◌, ⊤, not, if◌then◌else◌, Option, Some, None}
+use Rattle.std.specs.Prelude.{Bool, ◌≡◌, ◌==◌, ◌<◌, nat_lt, ◌||◌, ◌&&◌, ◌⊎◌, List, [], ◌∷◌, ⊤, not, if◌then◌else◌, Option, Some, None}
 use Rattle.std.specs.List.{AllByRecursion, filter}
 use Rattle.std.specs.declared.cmp.Ordering.{Ordering}
 use Rattle.std.specs.Ordering.{nat_cmp, then_cmp, on}

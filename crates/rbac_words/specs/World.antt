@@ -1,6 +1,6 @@
 -- A world of members, and the step that an event is (Lamport 1978, "Ordering the Events Totally"; the numbers on the
 -- links, the limits and the refusals are this project's own).
-use Rattle.std.specs.Prelude.{ℕ, Bool, true, false, not, ◌≡◌, ◌==◌, ◌-◌, ◌+◌, ◌&&◌, ◌||◌, max, nat_lt, nat_le, if◌then◌else◌, List, [], ◌∷◌, ◌++◌, Option, Some, None, Result, Ok, Err, length, map, take, slice_set, slice_index, slice_index_or}
+use Rattle.std.specs.Prelude.{ℕ, Bool, true, false, not, ◌==◌, ◌-◌, ◌+◌, ◌&&◌, ◌||◌, max, nat_lt, nat_le, if◌then◌else◌, List, [], ◌∷◌, ◌++◌, Option, Some, None, Result, Ok, Err, length, map, take, slice_set, slice_index, slice_index_or}
 use Rattle.std.specs.List.{flat_map, filter, list_any, list_all}
 use Rattle.rbac_words.specs.Limits.{last_clock}
 use Rattle.rbac_words.specs.Founding.{Group, Vocabulary}

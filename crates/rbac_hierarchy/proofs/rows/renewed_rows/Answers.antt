@@ -3,7 +3,8 @@ use Rattle.std.specs.List.Sorted.{IsStrictlySortedBy}
 use Rattle.sorted_keys.specs.Keys.{by_key}
 use Rattle.rbac_words.specs.Name.{name_cmp}
 use Rattle.rbac_hierarchy.specs.Rows.{roles_in}
-use Rattle.rbac_hierarchy.proofs.RowLemmas.{sorted_keys, key_among, rows_more}
+use Rattle.rbac_hierarchy.proofs.EntryLemmas.{sorted_keys}
+use Rattle.rbac_hierarchy.proofs.RowLemmas.{key_among, rows_more}
 use Rattle.rbac_hierarchy.proofs.rows.renewed_rows.Goals as goal
 
 pub loop-entry-preserved : goal.loop-entry-preserved

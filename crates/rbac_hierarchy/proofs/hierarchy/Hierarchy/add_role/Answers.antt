@@ -1,9 +1,10 @@
 use Rattle.std.proofs.Common.{◌≡◌, true, false, ap, sym, ◌∙◌}
 use Rattle.sorted_keys.specs.Keys.{has}
-use Rattle.rbac_words.specs.Name.{Name, name_cmp}
+use Rattle.rbac_words.specs.Name.{name_cmp}
 use Rattle.rbac_words.proofs.NameLemmas.{names_total, names_exact}
 use Rattle.rbac_hierarchy.specs.Rows.{roles_in}
-use Rattle.rbac_hierarchy.proofs.RowLemmas.{found_among, with_key_there, role_put, same_order}
+use Rattle.rbac_hierarchy.proofs.EntryLemmas.{found_among, with_key_there}
+use Rattle.rbac_hierarchy.proofs.RowLemmas.{role_put, same_order}
 use Rattle.rbac_hierarchy.proofs.hierarchy.Hierarchy.add_role.Goals as goal
 
 pub returns-then-contains-clause-ok : goal.returns-then-contains-clause-ok

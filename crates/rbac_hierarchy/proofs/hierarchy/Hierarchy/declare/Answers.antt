@@ -1,5 +1,5 @@
 use Rattle.std.proofs.Common.{ap}
-use Rattle.rbac_hierarchy.proofs.RowLemmas.{ranges_more}
+use Rattle.rbac_hierarchy.proofs.RangeLemmas.{ranges_more}
 use Rattle.rbac_hierarchy.proofs.hierarchy.Hierarchy.declare.Goals as goal
 
 pub replace_pairs-requires : goal.replace_pairs-requires

@@ -1,5 +1,6 @@
 use Rattle.std.proofs.Common.{ap, sym, ◌∙◌}
-use Rattle.rbac_hierarchy.proofs.RowLemmas.{ranges_without, role_taken}
+use Rattle.rbac_hierarchy.proofs.RangeLemmas.{ranges_without}
+use Rattle.rbac_hierarchy.proofs.RowLemmas.{role_taken}
 use Rattle.rbac_hierarchy.proofs.hierarchy.Hierarchy.remove_role.Goals as goal
 
 pub replace_pairs-requires : goal.replace_pairs-requires

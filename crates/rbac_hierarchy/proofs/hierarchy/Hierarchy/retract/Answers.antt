@@ -1,5 +1,5 @@
 use Rattle.std.proofs.Common.{ap}
-use Rattle.rbac_hierarchy.proofs.RowLemmas.{ranges_less}
+use Rattle.rbac_hierarchy.proofs.RangeLemmas.{ranges_less}
 use Rattle.rbac_hierarchy.proofs.hierarchy.Hierarchy.retract.Goals as goal
 
 pub replace_pairs-requires : goal.replace_pairs-requires
