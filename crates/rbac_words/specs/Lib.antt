@@ -12,7 +12,6 @@ pub mod Relations
 pub mod Replay
 pub mod Right
 pub mod Rows
-pub mod Separation
 pub mod Sound
 pub mod Stamp
 pub mod State
