@@ -2,7 +2,8 @@
 use Rattle.std.proofs.Common.{◌≡◌, Option, None, ap, ◌∙◌}
 use Rattle.rbac_words.specs.State.{State}
 use Rattle.rbac_words.specs.Rows.{first_denial}
-use Rattle.rbac_words.specs.Effect.{change, effect, effect_unless, answer, reply, reply_unless}
+use Rattle.rbac_words.specs.Change.{change}
+use Rattle.rbac_words.specs.Effect.{effect, effect_unless, answer, reply, reply_unless}
 use Rattle.rbac_words.specs.declared.command.Command.{Command}
 use Rattle.rbac_words.specs.declared.answer.Answer.{Answer}
 use Rattle.rbac_words.specs.declared.answer.Denial.{Denial}

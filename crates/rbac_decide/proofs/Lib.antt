@@ -1,3 +1,4 @@
 pub mod ApplyLemmas
 pub mod AuthorizationLemmas
+pub mod SeparationLemmas
 pub mod TablesLemmas

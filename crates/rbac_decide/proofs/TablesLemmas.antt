@@ -4,7 +4,7 @@ use Rattle.sorted_keys.specs.Keys.{has, with_key}
 use Rattle.rbac_words.specs.Name.{Name, name_cmp, pair_cmp}
 use Rattle.rbac_words.specs.Founding.{Vocabulary}
 use Rattle.rbac_words.specs.State.{State}
-use Rattle.rbac_words.specs.Effect.{change}
+use Rattle.rbac_words.specs.Change.{change}
 use Rattle.rbac_words.specs.declared.command.Command.TheVariants.{AddRole}
 use Rattle.rbac_words.proofs.NameLemmas.{names_total}
 use Rattle.rbac_words.proofs.SoundParts.{still}

@@ -1,13 +1,16 @@
 //! Who is authorized for a role, and which roles have a permission, by the sets of a policy.
-ghost use Rattle.std.specs.Prelude.{◌≡◌, ◌&&◌};
+ghost use Rattle.std.specs.Prelude.{◌≡◌, ◌&&◌, ◌||◌, count_by, IfOk, OnOk};
+ghost use Rattle.sorted_keys.specs.Keys.{has};
+ghost use Rattle.rbac_words.specs.Name.{Name as NameValue, name_cmp};
 ghost use Rattle.std.specs.List.{list_all, list_any};
 ghost use Rattle.rbac_words.specs.Inheritance.{inherits};
-ghost use Rattle.rbac_words.specs.Authorization.{is_authorized, is_entitled};
+ghost use Rattle.rbac_words.specs.Authorization.{inherits_in, is_authorized, is_entitled};
 ghost use Rattle.rbac_decide.specs.Tables.{state_of_roles};
 
 use rbac_hierarchy::Hierarchy;
 use rbac_rolesets::RoleSets;
 use rbac_words::{Name, NameSet};
+use std::alloc::{AllocError, Global};
 
 // Whether the role of one of the assignments inherits the role.
 fn some_inherits(hierarchy: &Hierarchy, assignments: &[(Name, Name)], role: &Name) -> bool
@@ -59,6 +62,63 @@ pub fn is_authorized_for_all(
     roles
         .iter()
         .all(|role| is_authorized(sets, hierarchy, user, role))
+}
+
+// Adds names to a set.
+fn add_all(alloc: Global, names: &mut NameSet, more: &[Name]) -> Result<(), AllocError>
+    ensures { OnOk result ((r : NameValue) → has name_cmp r names.new ≡ (has name_cmp r names.old || has name_cmp r more.now)) }
+{
+    for name in more {
+        names.add(name.copy(alloc)?)?;
+    }
+    Ok(())
+}
+
+// The juniors of the role and of the roles of the assignments.
+fn gather_juniors(
+    alloc: Global,
+    hierarchy: &Hierarchy,
+    role: &Name,
+    assignments: &[(Name, Name)],
+) -> Result<NameSet, AllocError>
+    ensures { let h = hierarchy.now.content in IfOk result (λ names. (r : NameValue) →
+        has name_cmp r names ≡ (inherits h.roles h.declared role.now r || list_any (λ pair. inherits h.roles h.declared pair.1 r) assignments.now)) }
+{
+    let mut names = hierarchy.juniors(alloc, role)?;
+    for pair in assignments {
+        let juniors = hierarchy.juniors(alloc, &pair.1)?;
+        add_all(alloc, &mut names, juniors.names())?;
+    }
+    Ok(names)
+}
+
+/// The roles that the user is authorized for, and those that this role inherits.
+pub fn authorized_with(
+    alloc: Global,
+    sets: &RoleSets,
+    hierarchy: &Hierarchy,
+    user: &Name,
+    role: &Name,
+) -> Result<NameSet, AllocError>
+    ensures { let s = state_of_roles sets.now.content hierarchy.now.content in IfOk result (λ names. (r : NameValue) →
+        has name_cmp r names ≡ (inherits_in s role.now r || is_authorized s user.now r)) }
+{
+    gather_juniors(alloc, hierarchy, role, sets.assignments_of(user))
+}
+
+/// How many of the roles the user is authorized for.
+pub fn count_authorized(
+    sets: &RoleSets,
+    hierarchy: &Hierarchy,
+    user: &Name,
+    roles: &[Name],
+) -> usize
+    ensures { result ≡ count_by (is_authorized (state_of_roles sets.now.content hierarchy.now.content) user.now) roles.now }
+{
+    roles
+        .iter()
+        .filter(|role| is_authorized(sets, hierarchy, user, role))
+        .count()
 }
 
 /// Whether each of the roles is there, and the owner of a session is authorized for it. Where the owner is, the role is there.

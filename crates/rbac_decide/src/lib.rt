@@ -2,6 +2,7 @@
 #![tactic(auto)]
 
 mod authorization;
+mod breaking;
 mod ending;
 mod policy;
 mod tables;

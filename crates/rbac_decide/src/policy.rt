@@ -9,6 +9,8 @@ ghost use Rattle.rbac_words.specs.Sound.{IsSound};
 
 mod access;
 mod denial;
+mod separation;
+mod violation;
 
 use crate::tables::Tables;
 use rbac_words::{Answer, Command, Denial, Name, Vocabulary};
@@ -73,7 +75,7 @@ impl Policy {
         ensures effect { OnOk result (self.new ≡ effect command.now self.old) }
         ensures unchanged { OnErr result (self.new ≡ self.old) }
     {
-        if let Some(denial) = self.first_denial(command) {
+        if let Some(denial) = self.first_denial(alloc, command)? {
             return Ok(Answer::Denied(denial));
         }
         let answer = self.answer(command);
@@ -99,7 +101,8 @@ impl Policy {
     }
 
     /// Of each policy each set is in order and without repeats, references exist, counts are within their limits, the
-    /// hierarchy has no cycle, and each session's owner exists and is authorized for its active roles.
+    /// hierarchy has no cycle, static and dynamic separation of duty hold over sets that are well formed, and each session's owner
+    /// exists and is authorized for its active roles.
     pub fn invariants(&self)
         ensures { IsSound self.now }
     {

@@ -3,24 +3,28 @@ ghost use Rattle.std.specs.Prelude.{◌≡◌, ◌↔◌, IsTrue, IfOk, OnOk};
 ghost use Rattle.sorted_keys.specs.Keys.{has};
 ghost use Rattle.rbac_words.specs.Name.{name_cmp};
 ghost use Rattle.rbac_words.specs.Authorization.{purge};
-ghost use Rattle.rbac_words.specs.Effect.{change};
+ghost use Rattle.rbac_words.specs.Change.{change};
 ghost use Rattle.rbac_words.specs.Founding.{Vocabulary as VocabularyValue};
 ghost use Rattle.rbac_words.specs.State.{founding_state};
 
 use crate::ending::{OwnedBy, OwnedWithActive, Unentitled, WithActive};
 use rbac_hierarchy::Hierarchy;
 use rbac_rolesets::RoleSets;
+use rbac_separation::SetTable;
 use rbac_sessions::Sessions;
 use rbac_words::{Command, Name};
 use std::alloc::{AllocError, Global};
 
 mod roles;
+mod sets;
 
-/// Users and roles with their pairs and grants, the hierarchy of the same roles, and the sessions.
+/// Users and roles with their pairs and grants, the hierarchy of the same roles, the sets of separation, and the sessions.
 #[derive(Drop)]
 pub struct Tables {
     pub sets: RoleSets,
     pub hierarchy: Hierarchy,
+    pub static_sets: SetTable,
+    pub dynamic_sets: SetTable,
     pub sessions: Sessions,
 }
 
@@ -35,6 +39,8 @@ impl Tables {
         Tables {
             sets: RoleSets::empty(alloc),
             hierarchy: Hierarchy::empty(alloc),
+            static_sets: SetTable::empty(alloc),
+            dynamic_sets: SetTable::empty(alloc),
             sessions: Sessions::empty(alloc),
         }
     }
@@ -46,6 +52,8 @@ impl Tables {
         Ok(Tables {
             sets: self.sets.copy(alloc)?,
             hierarchy: self.hierarchy.copy(alloc)?,
+            static_sets: self.static_sets.copy(alloc)?,
+            dynamic_sets: self.dynamic_sets.copy(alloc)?,
             sessions: self.sessions.copy(alloc)?,
         })
     }
@@ -56,6 +64,8 @@ impl Tables {
     {
         self.sets.same(&other.sets)
             && self.hierarchy.same(&other.hierarchy)
+            && self.static_sets.same(&other.static_sets)
+            && self.dynamic_sets.same(&other.dynamic_sets)
             && self.sessions.same(&other.sessions)
     }
 
@@ -132,6 +142,20 @@ impl Tables {
                 ascendant,
                 descendant,
             } => self.add_descendant(alloc, ascendant, descendant)?,
+            Command::CreateSet {
+                kind,
+                set,
+                roles,
+                n,
+            } => self.create_set(alloc, *kind, set, roles, *n)?,
+            Command::DeleteSet { kind, set } => self.delete_set(*kind, set),
+            Command::AddRoleMember { kind, set, role } => {
+                self.add_role_member(alloc, *kind, set, role)?
+            }
+            Command::DeleteRoleMember { kind, set, role } => {
+                self.delete_role_member(*kind, set, role)
+            }
+            Command::SetCardinality { kind, set, n } => self.set_cardinality(*kind, set, *n),
             Command::CreateSession {
                 user,
                 session,

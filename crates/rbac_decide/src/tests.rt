@@ -7,6 +7,7 @@ use std::test::Fail;
 mod deletions;
 mod hierarchy;
 mod rows;
+mod separation;
 mod sessions;
 
 use rows::{name, play};

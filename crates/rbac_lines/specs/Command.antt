@@ -2,10 +2,12 @@
 use Rattle.std.specs.Prelude.{ℕ, List, [], ◌∷◌, codes, Ok}
 use Rattle.serde_json.specs.Data.{Members}
 use Rattle.rbac_words.specs.Name.{Name}
+use Rattle.rbac_words.specs.declared.separation.Separation.{Separation}
+use Rattle.rbac_words.specs.declared.separation.Separation.TheVariants.{Static, Dynamic}
 use Rattle.rbac_words.specs.declared.command.Command.{Command}
-use Rattle.rbac_words.specs.declared.command.Command.TheVariants.{AddUser, DeleteUser, AddRole, DeleteRole, AssignUser, DeassignUser, GrantPermission, RevokePermission, AddInheritance, DeleteInheritance, AddAscendant, AddDescendant, CreateSession, DeleteSession, AddActiveRole, DropActiveRole, CheckAccess}
+use Rattle.rbac_words.specs.declared.command.Command.TheVariants.{AddUser, DeleteUser, AddRole, DeleteRole, AssignUser, DeassignUser, GrantPermission, RevokePermission, AddInheritance, DeleteInheritance, AddAscendant, AddDescendant, CreateSet, DeleteSet, AddRoleMember, DeleteRoleMember, SetCardinality, CreateSession, DeleteSession, AddActiveRole, DropActiveRole, CheckAccess}
 use Rattle.rbac_lines.specs.Steps.{◌>>=◌, ◌>>◌}
-use Rattle.rbac_lines.specs.Fields.{Reading, text_in, name_in, names_in, only_keys, by_word}
+use Rattle.rbac_lines.specs.Fields.{Reading, whole_in, text_in, name_in, names_in, only_keys, by_word}
 
 -- the name at this key, where there is no other key but the command's name
 abbrev pub one_name : List ℕ → Members → Reading Name
@@ -95,6 +97,38 @@ add_descendant fields = do
   pair ← declared_pair fields
   Ok (AddDescendant pair.0 pair.1)
 
+-- a set of separation, its roles, and its number
+abbrev pub create_set : Separation → Members → Reading Command
+create_set kind fields = do
+  set ← name_in (codes "set") fields
+  roles ← names_in (codes "roles") fields
+  n ← whole_in (codes "n") fields
+  only_keys (codes "name" ∷ codes "set" ∷ codes "roles" ∷ codes "n" ∷ []) fields
+  Ok (CreateSet kind set roles n)
+
+abbrev pub delete_set : Separation → Members → Reading Command
+delete_set kind fields = do
+  set ← one_name (codes "set") fields
+  Ok (DeleteSet kind set)
+
+abbrev pub add_role_member : Separation → Members → Reading Command
+add_role_member kind fields = do
+  names ← two_names (codes "set") (codes "role") fields
+  Ok (AddRoleMember kind names.0 names.1)
+
+abbrev pub delete_role_member : Separation → Members → Reading Command
+delete_role_member kind fields = do
+  names ← two_names (codes "set") (codes "role") fields
+  Ok (DeleteRoleMember kind names.0 names.1)
+
+-- a set and its new number
+abbrev pub set_cardinality : Separation → Members → Reading Command
+set_cardinality kind fields = do
+  set ← name_in (codes "set") fields
+  n ← whole_in (codes "n") fields
+  only_keys (codes "name" ∷ codes "set" ∷ codes "n" ∷ []) fields
+  Ok (SetCardinality kind set n)
+
 -- a user, a session, and the array roles
 abbrev pub create_session : Members → Reading Command
 create_session fields = do
@@ -124,6 +158,21 @@ check_access fields = do
   names ← three_names (codes "session") (codes "operation") (codes "object") fields
   Ok (CheckAccess names.0 names.1 names.2)
 
+-- the commands about sets of separation by their names
+abbrev pub separation_commands : List (List ℕ × (Members → Reading Command))
+separation_commands =
+    (codes "CreateSsdSet", create_set Static)
+    ∷ (codes "DeleteSsdSet", delete_set Static)
+    ∷ (codes "AddSsdRoleMember", add_role_member Static)
+    ∷ (codes "DeleteSsdRoleMember", delete_role_member Static)
+    ∷ (codes "SetSsdSetCardinality", set_cardinality Static)
+    ∷ (codes "CreateDsdSet", create_set Dynamic)
+    ∷ (codes "DeleteDsdSet", delete_set Dynamic)
+    ∷ (codes "AddDsdRoleMember", add_role_member Dynamic)
+    ∷ (codes "DeleteDsdRoleMember", delete_role_member Dynamic)
+    ∷ (codes "SetDsdSetCardinality", set_cardinality Dynamic)
+    ∷ []
+
 -- the commands by their names
 abbrev pub commands_by_name : List (List ℕ × (Members → Reading Command))
 commands_by_name =
@@ -144,7 +193,7 @@ commands_by_name =
     ∷ (codes "AddActiveRole", add_active_role)
     ∷ (codes "DropActiveRole", drop_active_role)
     ∷ (codes "CheckAccess", check_access)
-    ∷ []
+    ∷ separation_commands
 
 -- the command that an object stands for
 abbrev pub command_of : Members → Reading Command

@@ -5,13 +5,19 @@ use Rattle.std.proofs.lemmas.List.Sums.{sum_by-cons}
 use Rattle.rbac_words.specs.Founding.{Vocabulary}
 use Rattle.rbac_words.specs.State.{State}
 use Rattle.rbac_words.specs.Rows.{first_denial}
-use Rattle.rbac_words.specs.Effect.{change, effect, effect_unless, reply}
+use Rattle.rbac_words.specs.Change.{change}
+use Rattle.rbac_words.specs.Constraints.{with_sets}
+use Rattle.rbac_words.specs.Separation.{RoleSet}
+use Rattle.rbac_words.specs.Name.{Name}
+use Rattle.rbac_words.specs.declared.separation.Separation.{Separation}
+use Rattle.rbac_words.specs.declared.separation.Separation.TheVariants.{Static, Dynamic}
+use Rattle.rbac_words.specs.Effect.{effect, effect_unless, reply}
 use Rattle.rbac_words.specs.Message.{is_by, submissions_of, submissions, next_serial}
 use Rattle.rbac_words.specs.World.{stamp}
 use Rattle.rbac_words.specs.declared.answer.Answer.{Answer}
 use Rattle.rbac_words.specs.declared.answer.Denial.{Denial}
 use Rattle.rbac_words.specs.declared.command.Command.{Command}
-use Rattle.rbac_words.specs.declared.command.Command.TheVariants.{AddUser, DeleteUser, AddRole, DeleteRole, AssignUser, DeassignUser, GrantPermission, RevokePermission, AddInheritance, DeleteInheritance, AddAscendant, AddDescendant, CreateSession, DeleteSession, AddActiveRole, DropActiveRole, CheckAccess}
+use Rattle.rbac_words.specs.declared.command.Command.TheVariants.{AddUser, DeleteUser, AddRole, DeleteRole, AssignUser, DeassignUser, GrantPermission, RevokePermission, AddInheritance, DeleteInheritance, AddAscendant, AddDescendant, CreateSet, DeleteSet, AddRoleMember, DeleteRoleMember, SetCardinality, CreateSession, DeleteSession, AddActiveRole, DropActiveRole, CheckAccess}
 use Rattle.rbac_words.specs.declared.message.Message.{Message}
 use Rattle.rbac_words.specs.declared.message.Message.TheVariants.{Call, Ack}
 use Rattle.rbac_words.specs.declared.message.Submission.{Submission}
@@ -34,6 +40,10 @@ count_of_calls caller (Call stamp other serial command ∷ ms) = sum_by-cons (λ
     go true e = omega arith
     go false e = omega arith
 
+vocabulary-sets : (kind : Separation) (sets : List (Name × RoleSet)) (s : State) → vocabulary_of (with_sets kind sets s) ≡ vocabulary_of s
+vocabulary-sets Static sets s = refl
+vocabulary-sets Dynamic sets s = refl
+
 vocabulary-change : (c : Command) (s : State) → vocabulary_of (change c s) ≡ vocabulary_of s
 vocabulary-change (AddUser user) s = refl
 vocabulary-change (DeleteUser user) s = refl
@@ -47,6 +57,11 @@ vocabulary-change (AddInheritance ascendant descendant) s = refl
 vocabulary-change (DeleteInheritance ascendant descendant) s = refl
 vocabulary-change (AddAscendant ascendant descendant) s = refl
 vocabulary-change (AddDescendant ascendant descendant) s = refl
+vocabulary-change (CreateSet kind set roles n) s = vocabulary-sets kind _ s
+vocabulary-change (DeleteSet kind set) s = vocabulary-sets kind _ s
+vocabulary-change (AddRoleMember kind set role) s = vocabulary-sets kind _ s
+vocabulary-change (DeleteRoleMember kind set role) s = vocabulary-sets kind _ s
+vocabulary-change (SetCardinality kind set n) s = vocabulary-sets kind _ s
 vocabulary-change (CreateSession user session roles) s = refl
 vocabulary-change (DeleteSession user session) s = refl
 vocabulary-change (AddActiveRole user session role) s = refl

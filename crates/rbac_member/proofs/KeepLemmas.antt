@@ -6,7 +6,8 @@ use Rattle.std.proofs.lemmas.List.Elements.{filter-append}
 use Rattle.rbac_words.specs.Limits.{last_clock}
 use Rattle.rbac_words.specs.Founding.{Group, Vocabulary, IsGroup}
 use Rattle.rbac_words.specs.State.{State, founding_state}
-use Rattle.rbac_words.specs.Effect.{effect, effect_unless, change, reply}
+use Rattle.rbac_words.specs.Change.{change}
+use Rattle.rbac_words.specs.Effect.{effect, effect_unless, reply}
 use Rattle.rbac_words.specs.Replay.{state_after, replies}
 use Rattle.rbac_words.specs.Rows.{first_denial}
 use Rattle.rbac_words.specs.Stamp.{IsBefore, IsRising}

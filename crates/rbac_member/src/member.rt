@@ -36,6 +36,36 @@ impl Model for Member {
     ghost invariant = { IsKept };
 }
 
+// Holds the command of a message, where it is one.
+fn hold(alloc: Global, held: &mut VecDeque<Submission>, message: &Message) -> Result<(), AllocError>
+    ensures held { OnOk result (held.new.items ≡ held.old.items ++ submissions_of message.now) }
+    ensures unchanged { OnErr result (held.new.items ≡ held.old.items) }
+{
+    match message {
+        Message::Call {
+            stamp,
+            caller,
+            serial,
+            command,
+        } => {
+            let command = command.copy(alloc)?;
+            held.push_back(Submission {
+                stamp: *stamp,
+                caller: *caller,
+                serial: *serial,
+                command,
+            })?;
+            Ok(())
+        }
+        Message::Ack { .. } => Ok(()),
+    }
+}
+
+// Drops a message that is not sent, in this one place: a drop of a command is a case for each command.
+fn dropped(_message: Message) -> AllocError {
+    AllocError
+}
+
 // Sends a message of the member itself, and holds its command.
 fn send(
     alloc: Global,
@@ -48,20 +78,8 @@ fn send(
     ensures sent_unchanged { OnErr result (sent.new.items ≡ sent.old.items) }
     ensures held_unchanged { OnErr result (held.new.items ≡ held.old.items) }
 {
-    sent.reserve(1)?;
-    if let Message::Call {
-        stamp,
-        caller,
-        serial,
-        command,
-    } = &message
-    {
-        held.push_back(Submission {
-            stamp: *stamp,
-            caller: *caller,
-            serial: *serial,
-            command: command.copy(alloc)?,
-        })?;
+    if sent.reserve(1).is_err() || hold(alloc, held, &message).is_err() {
+        return Err(dropped(message));
     }
     let Ok(()) = sent.push(message) else {
         unreachable!()

@@ -50,6 +50,13 @@ impl RoleSets {
         self.users.len()
     }
 
+    /// The users, sorted by their bytes.
+    pub fn users(&self) -> &[Name]
+        ensures { result.now ≡ self.now.content.users }
+    {
+        self.users.keys()
+    }
+
     /// How many roles there are.
     pub fn role_count(&self) -> usize
         ensures { result ≡ length self.now.content.roles }

@@ -66,11 +66,15 @@ fn reads(rt: &impl Abort, alloc: Global, sets: &RoleSets, role: &str) -> bool {
     sets.granted(&read, &ledger, &name(rt, alloc, role))
 }
 
-fn assert_names(rt: &impl Abort, names: &NameSet, texts: &[&str]) {
+fn assert_bytes(rt: &impl Abort, names: &[Name], texts: &[&str]) {
     assert_eq!(rt; names.len(), texts.len());
-    for (name, text) in names.names().iter().zip(texts) {
+    for (name, text) in names.iter().zip(texts) {
         assert_eq!(rt; name.as_bytes(), text.as_bytes());
     }
+}
+
+fn assert_names(rt: &impl Abort, names: &NameSet, texts: &[&str]) {
+    assert_bytes(rt, names.names(), texts);
 }
 
 fn assert_users(rt: &impl Abort, alloc: Global, sets: &RoleSets, role: &str, texts: &[&str]) {
@@ -88,6 +92,7 @@ fn users_and_roles_are_there(rt: HostRuntime) -> Result<(), Fail> {
     let alloc = rt.alloc();
     let sets = small_office(&rt, alloc);
     assert_eq!(rt; sets.user_count(), 2);
+    assert_bytes(&rt, sets.users(), &["alice", "bob"]);
     assert_eq!(rt; sets.role_count(), 2);
     assert!(rt; is_user(&rt, alloc, &sets, "bob"));
     assert!(rt; !is_user(&rt, alloc, &sets, "clerk"));

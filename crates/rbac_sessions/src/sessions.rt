@@ -1,5 +1,6 @@
 //! The sessions by their names.
 ghost use Rattle.std.specs.Prelude.{◌≡◌, ◌↔◌, [], List, Bool, not, length, filter, is_some, IsTrue, IfOk, OnOk, OnErr};
+ghost use Rattle.std.specs.List.{list_any};
 ghost use Rattle.std.specs.Option.{option_copied, option_map};
 ghost use Rattle.std.specs.FinMap.Entries.{find, put};
 ghost use Rattle.sorted_keys.specs.Keys.{with_key, without, without_key, updated};
@@ -99,6 +100,17 @@ impl Sessions {
             Some(session) => Some(&session.active),
             None => None,
         }
+    }
+
+    /// Whether some session passes a test.
+    pub fn any<T: SessionTest>(&self, test: &T) -> bool
+        ensures { result ≡ list_any (λ e. T.passes test.now e.0 e.1.owner e.1.active) self.now.content }
+    {
+        self.sessions.entries().iter().any(|entry| test.test(
+            &entry.0,
+            &entry.1.owner,
+            &entry.1.active,
+        ))
     }
 
     /// Opens a session of a user, in which these roles are active. One of the same name is replaced.

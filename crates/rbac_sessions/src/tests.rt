@@ -141,6 +141,17 @@ fn a_role_is_dropped(rt: HostRuntime) -> Result<(), Fail> {
 }
 
 #[test]
+fn some_session_passes_a_test(rt: HostRuntime) -> Result<(), Fail> {
+    let alloc = rt.alloc();
+    let sessions = two_sessions(&rt, alloc);
+    for (owner, is) in [("alice", true), ("bob", true), ("clerk", false)] {
+        let owner = name(&rt, alloc, owner);
+        assert_eq!(rt; sessions.any(&OwnedBy { owner }), is);
+    }
+    Ok(())
+}
+
+#[test]
 fn the_sessions_that_pass_a_test_are_deleted(rt: HostRuntime) -> Result<(), Fail> {
     let alloc = rt.alloc();
     let mut sessions = two_sessions(&rt, alloc);

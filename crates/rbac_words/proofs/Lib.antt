@@ -6,7 +6,10 @@ pub mod NameLemmas
 pub mod PurgeLemmas
 pub mod ReplayLemmas
 pub mod SoundParts
+pub mod SoundSeparation
+pub mod SoundSets
 pub mod SoundRoles
 pub mod SoundLemmas
 pub mod StampLemmas
 pub mod VocabularyLemmas
+pub mod SeparationLaws

@@ -1,8 +1,8 @@
 -- Each command keeps a policy sound.
-use Rattle.std.proofs.Common.{List, length, Bool, not, ◌&&◌, ◌≡◌, ◌≤◌, IsTrue, Option, Some, None, refl, sym, ap, ◌∙◌, subst, ⊎_elim, arith}
+use Rattle.std.proofs.Common.{List, length, Bool, not, ◌&&◌, ◌≡◌, ◌≤◌, IsTrue, Option, Some, None, refl, sym, ap, ◌∙◌, subst, ⊎_elim, arith, false, [], true}
 use Rattle.std.proofs.lemmas.Bool.{or_cases, false≢true, leb-false, not-false}
 use Rattle.std.proofs.lemmas.List.Kept.{IsStrictlySortedBy-filter}
-use Rattle.std.specs.List.{AllByRecursion as Each}
+use Rattle.std.specs.List.{list_any, AllByRecursion as Each}
 use Rattle.std.specs.List.Sorted.{IsStrictlySortedBy}
 use Rattle.std.specs.Ordering.{eq_by_cmp}
 use Rattle.std.specs.FinMap.Entries.{find, put}
@@ -16,18 +16,22 @@ use Rattle.rbac_words.specs.Limits.{most_users, most_sessions}
 use Rattle.rbac_words.specs.Founding.{Vocabulary, IsVocabulary}
 use Rattle.rbac_words.specs.State.{State, Session, founding_state}
 use Rattle.rbac_words.specs.Relations.{begins_with, without_user}
-use Rattle.rbac_words.specs.Authorization.{IsAuthorized, is_authorized, purge}
+use Rattle.rbac_words.specs.Authorization.{IsAuthorized, is_authorized, purge, is_entitled}
 use Rattle.rbac_words.specs.Rows.{preconditions, first_denial, found_and}
-use Rattle.rbac_words.specs.Effect.{change, effect, effect_unless, end_sessions, ended_where, with_active, without_active}
-use Rattle.rbac_words.specs.Sound.{IsSessionSound, IsSound}
+use Rattle.rbac_words.specs.Constraints.{breaks_dynamic}
+use Rattle.rbac_words.specs.Change.{change, end_sessions, ended_where, with_active, without_active}
+use Rattle.rbac_words.specs.Effect.{effect, effect_unless}
+use Rattle.rbac_words.specs.Sound.{IsSessionSound, AreRoleSets, IsSound}
 use Rattle.rbac_words.specs.declared.command.Command.{Command}
-use Rattle.rbac_words.specs.declared.command.Command.TheVariants.{AddUser, DeleteUser, AddRole, DeleteRole, AssignUser, DeassignUser, GrantPermission, RevokePermission, AddInheritance, DeleteInheritance, AddAscendant, AddDescendant, CreateSession, DeleteSession, AddActiveRole, DropActiveRole, CheckAccess}
+use Rattle.rbac_words.specs.declared.command.Command.TheVariants.{AddUser, DeleteUser, AddRole, DeleteRole, AssignUser, DeassignUser, GrantPermission, RevokePermission, AddInheritance, DeleteInheritance, AddAscendant, AddDescendant, CreateSet, DeleteSet, AddRoleMember, DeleteRoleMember, SetCardinality, CreateSession, DeleteSession, AddActiveRole, DropActiveRole, CheckAccess}
 use Rattle.rbac_words.specs.declared.answer.Denial.{Denial}
 use Rattle.rbac_words.proofs.NameLemmas.{names_total, names_exact, pairs_total, pairs_exact, grants_total, grants_exact, one_key, all_member}
 use Rattle.rbac_words.proofs.StampLemmas.{Each-weaker}
 use Rattle.rbac_words.proofs.AuthorizationLemmas.{is_authorized_iff}
 use Rattle.rbac_words.proofs.SoundParts.{none_fails, length-with_key-new, length-put-new, fewer, still, was_kept, is_kept, each_put, each_updated, length-updated, each_kept, within, session_stays, purged, owners}
-use Rattle.rbac_words.proofs.SoundRoles.{sound_add_role, sound_delete_role, sound_add_inheritance, sound_delete_inheritance, sound_add_ascendant, sound_add_descendant}
+use Rattle.rbac_words.proofs.SoundSeparation.{is_false, fewer_active, static_less, dynamic_kept, dynamic_updated}
+use Rattle.rbac_words.proofs.SoundSets.{sound_create_set, sound_delete_set, sound_add_role_member, sound_delete_role_member, sound_set_cardinality}
+use Rattle.rbac_words.proofs.SoundRoles.{static_stays, sound_add_role, sound_delete_role, sound_add_inheritance, sound_delete_inheritance, sound_add_ascendant, sound_add_descendant}
 
 -- ---- Users
 
@@ -51,6 +55,13 @@ sound_add_user user s none h =
       limits = within h.limits (with_key name_cmp user s.users) s.roles s.assigned s.granted s.declared s.sessions
           (let more = length-with_key-new name_cmp user s.users holds.0 in omega (arith, leb-false 4096 (length s.users) holds.1.0)) h.limits.roles h.limits.sessions;
       no_cycle = h.no_cycle;
+      separation = record {
+        static_sets = h.separation.static_sets;
+        dynamic_sets = h.separation.dynamic_sets;
+        static = static_less s.roles s.static_sets (is_authorized s) (is_authorized s) s.users (with_key name_cmp user s.users) h.separation.static_sets.each
+            (λ u r m is e. let a = (is_authorized_iff s u r).0 e in ((h.references.assigned u a.0 a.1).0, e)) h.separation.static;
+        dynamic = h.separation.dynamic;
+      };
       sessions = Each-weaker (λ e. IsSessionSound s e.1) (λ e. IsSessionSound (change (AddUser user) s) e.1) s.sessions
           (λ e. session_stays s (change (AddUser user) s) e.1 (still names_total user s.users e.1.owner) (λ r a. a)) h.sessions;
     }
@@ -79,6 +90,13 @@ sound_delete_user user s h =
       limits = within h.limits (without name_cmp user s.users) s.roles (without_user user s.assigned) s.granted s.declared (ended_where (λ x. eq_by_cmp name_cmp user x.owner) s.sessions)
           (fewer _ s.users most_users h.limits.users) h.limits.roles (fewer _ s.sessions most_sessions h.limits.sessions);
       no_cycle = h.no_cycle;
+      separation = record {
+        static_sets = h.separation.static_sets;
+        dynamic_sets = h.separation.dynamic_sets;
+        static = static_stays s t h (λ u m. (was_kept names_total names_exact (λ x. not (eq_by_cmp name_cmp user x)) s.users u m).1)
+            (λ u r is a. (a.0, (was_kept pairs_total pairs_exact (λ (p : Name × Name). not (begins_with user p)) s.assigned (u, a.0) a.1).1, a.2));
+        dynamic = dynamic_kept (breaks_dynamic s) (λ (e : Name × Session). not (eq_by_cmp name_cmp user e.1.owner)) s.sessions h.separation.dynamic;
+      };
       sessions = each_kept (λ (e : Name × Session). not (eq_by_cmp name_cmp user e.1.owner)) (λ e. IsSessionSound s e.1) (λ e. IsSessionSound t e.1)
           (λ e sound other. session_stays s t e.1
           (is_kept names_total names_exact (λ x. not (eq_by_cmp name_cmp user x)) s.users e.1.owner other)
@@ -112,6 +130,7 @@ sound_assign_user user role s none h =
       };
       limits = within h.limits s.users s.roles t.assigned s.granted s.declared s.sessions h.limits.users h.limits.roles h.limits.sessions;
       no_cycle = h.no_cycle;
+      separation = record { static_sets = h.separation.static_sets; dynamic_sets = h.separation.dynamic_sets; static = holds.1.1.1.0; dynamic = h.separation.dynamic };
       sessions = Each-weaker (λ e. IsSessionSound s e.1) (λ e. IsSessionSound t e.1) s.sessions
           (λ e. session_stays s t e.1 (λ m. m) (λ r a. (a.0, still pairs_total (user, role) s.assigned (e.1.owner, a.0) a.1, a.2))) h.sessions;
     }
@@ -137,6 +156,13 @@ sound_deassign_user user role s h =
       limits = within h.limits s.users s.roles t.assigned s.granted s.declared (purge t).sessions
           h.limits.users h.limits.roles (fewer _ t.sessions most_sessions (fewer _ s.sessions most_sessions h.limits.sessions));
       no_cycle = h.no_cycle;
+      separation = record {
+        static_sets = h.separation.static_sets;
+        dynamic_sets = h.separation.dynamic_sets;
+        static = static_stays s t h (λ u m. m) (λ u r is a. (a.0, (was_kept pairs_total pairs_exact (λ p. not (eq_by_cmp pair_cmp (user, role) p)) s.assigned (u, a.0) a.1).1, a.2));
+        dynamic = dynamic_kept (breaks_dynamic s) (λ (e : Name × Session). is_entitled t e.1) t.sessions
+            (dynamic_kept (breaks_dynamic s) (λ (e : Name × Session). not (ends e.1)) s.sessions h.separation.dynamic);
+      };
       sessions = purged t (owners ends s h.sessions);
     }
 
@@ -164,6 +190,7 @@ sound_grant_permission operation object role s none h =
       };
       limits = within h.limits s.users s.roles s.assigned t.granted s.declared s.sessions h.limits.users h.limits.roles h.limits.sessions;
       no_cycle = h.no_cycle;
+      separation = record { static_sets = h.separation.static_sets; dynamic_sets = h.separation.dynamic_sets; static = h.separation.static; dynamic = h.separation.dynamic };
       sessions = Each-weaker (λ e. IsSessionSound s e.1) (λ e. IsSessionSound t e.1) s.sessions (λ e. session_stays s t e.1 (λ m. m) (λ r a. a)) h.sessions;
     }
 
@@ -186,6 +213,7 @@ sound_revoke_permission operation object role s h =
       };
       limits = within h.limits s.users s.roles s.assigned t.granted s.declared s.sessions h.limits.users h.limits.roles h.limits.sessions;
       no_cycle = h.no_cycle;
+      separation = record { static_sets = h.separation.static_sets; dynamic_sets = h.separation.dynamic_sets; static = h.separation.static; dynamic = h.separation.dynamic };
       sessions = Each-weaker (λ e. IsSessionSound s e.1) (λ e. IsSessionSound t e.1) s.sessions (λ e. session_stays s t e.1 (λ m. m) (λ r a. a)) h.sessions;
     }
 
@@ -193,8 +221,8 @@ sound_revoke_permission operation object role s h =
 
 -- a state with other sessions, each of which is sound in the old state
 with_sessions : (s : State) (sessions : List (Name × Session)) → IsSound s → IsStrictlySortedBy (by_key name_cmp) sessions → length sessions ≤ most_sessions
-    → Each (λ e. IsSessionSound s e.1) sessions → IsSound (record s { sessions = sessions })
-with_sessions s sessions h sorted few all =
+    → Each (λ e. IsSessionSound s e.1) sessions → list_any (λ e. breaks_dynamic s e.1) sessions ≡ false → IsSound (record s { sessions = sessions })
+with_sessions s sessions h sorted few all separated =
     let t : State = record s { sessions = sessions } in
     record {
       in_order = record {
@@ -208,6 +236,7 @@ with_sessions s sessions h sorted few all =
       references = record { assigned = h.references.assigned; granted = h.references.granted; declared = h.references.declared };
       limits = within h.limits s.users s.roles s.assigned s.granted s.declared sessions h.limits.users h.limits.roles few;
       no_cycle = h.no_cycle;
+      separation = record { static_sets = h.separation.static_sets; dynamic_sets = h.separation.dynamic_sets; static = h.separation.static; dynamic = separated };
       sessions = Each-weaker (λ e. IsSessionSound s e.1) (λ e. IsSessionSound t e.1) sessions (λ e. session_stays s t e.1 (λ m. m) (λ r a. a)) all;
     }
 
@@ -217,13 +246,14 @@ sound_create_session user name roles s none h =
     let opened : Session = record { owner = user; active = roles } in
     with_sessions s (put name_cmp name opened s.sessions) h
     (sorted_put names_total name opened s.sessions h.in_order.sessions)
-    (let more = length-put-new name_cmp name opened s.sessions holds.1.0 in omega (arith, leb-false 8192 (length s.sessions) holds.1.1.1.0))
+    (let more = length-put-new name_cmp name opened s.sessions holds.1.0 in omega (arith, leb-false 8192 (length s.sessions) holds.1.1.1.1.0))
     (each_put name_cmp (IsSessionSound s) name opened s.sessions
     (record {
       owned = not-false _ holds.0;
       authorized = λ role m. (is_authorized_iff s user role).0 (all_member names_total names_exact (is_authorized s user) roles role (not-false _ holds.1.1.0) m);
     })
     h.sessions)
+    holds.1.1.1.0
 
 sound_delete_session : (name : Name) (s : State) → IsSound s → IsSound (record s { sessions = without_key name_cmp name s.sessions })
 sound_delete_session name s h =
@@ -231,15 +261,18 @@ sound_delete_session name s h =
     (IsStrictlySortedBy-filter _ _ _ h.in_order.sessions)
     (fewer _ s.sessions most_sessions h.limits.sessions)
     (each_kept _ (λ e. IsSessionSound s e.1) (λ e. IsSessionSound s e.1) (λ e sound _. sound) s.sessions h.sessions)
+    (dynamic_kept (breaks_dynamic s) (λ (e : Name × Session). not (eq_by_cmp name_cmp name e.0)) s.sessions h.separation.dynamic)
 
 -- a session is changed, and stays sound
-sound_update : (name : Name) (f : Session → Session) (s : State) → ((x : Session) → find name_cmp name s.sessions ≡ Some x → IsSessionSound s x → IsSessionSound s (f x)) → IsSound s
+sound_update : (name : Name) (f : Session → Session) (s : State) → ((x : Session) → find name_cmp name s.sessions ≡ Some x → IsSessionSound s x → IsSessionSound s (f x))
+    → list_any (λ e. breaks_dynamic s e.1) (updated name_cmp name f s.sessions) ≡ false → IsSound s
     → IsSound (record s { sessions = updated name_cmp name f s.sessions })
-sound_update name f s keeps h =
+sound_update name f s keeps separated h =
     with_sessions s (updated name_cmp name f s.sessions) h
     (sorted_updated names_total name f s.sessions h.in_order.sessions)
     (subst (λ n. n ≤ most_sessions) (sym (length-updated names_total name f s.sessions h.in_order.sessions)) h.limits.sessions)
     (each_updated name_cmp (IsSessionSound s) name f s.sessions keeps h.sessions)
+    separated
 
 sound_add_active_role : (user name role : Name) (s : State) → first_denial (AddActiveRole user name role) s ≡ None → IsSound s → IsSound (change (AddActiveRole user name role) s)
 sound_add_active_role user name role s none h =
@@ -253,6 +286,7 @@ sound_add_active_role user name role s none h =
           (sound.authorized r)
           (or_cases _ _ (sym (has-with_key names_total role x.active r) ∙ m));
     })
+    holds.1.1.1.1.1.1.0
     h
 
 sound_drop_active_role : (name role : Name) (s : State) → IsSound s → IsSound (record s { sessions = updated name_cmp name (without_active role) s.sessions })
@@ -262,6 +296,7 @@ sound_drop_active_role name role s h =
       owned = sound.owned;
       authorized = λ r m. sound.authorized r (was_kept names_total names_exact (λ y. not (eq_by_cmp name_cmp role y)) x.active r m).1;
     })
+    (dynamic_updated (breaks_dynamic s) name (without_active role) s.sessions (λ x h. is_false _ (λ some. false≢true (sym h ∙ fewer_active x.active (without name_cmp role x.active) s.dynamic_sets (λ r m. (was_kept names_total names_exact (λ y. not (eq_by_cmp name_cmp role y)) x.active r m).1) some))) h.separation.dynamic)
     h
 
 -- ---- Each command
@@ -270,7 +305,7 @@ sound_change : (c : Command) (s : State) → first_denial c s ≡ None → IsSou
 sound_change (AddUser user) s none h = sound_add_user user s none h
 sound_change (DeleteUser user) s none h = sound_delete_user user s h
 sound_change (AddRole role) s none h = sound_add_role role s none h
-sound_change (DeleteRole role) s none h = sound_delete_role role s h
+sound_change (DeleteRole role) s none h = sound_delete_role role s none h
 sound_change (AssignUser user role) s none h = sound_assign_user user role s none h
 sound_change (DeassignUser user role) s none h = sound_deassign_user user role s h
 sound_change (GrantPermission operation object role) s none h = sound_grant_permission operation object role s none h
@@ -279,6 +314,11 @@ sound_change (AddInheritance ascendant descendant) s none h = sound_add_inherita
 sound_change (DeleteInheritance ascendant descendant) s none h = sound_delete_inheritance ascendant descendant s h
 sound_change (AddAscendant ascendant descendant) s none h = sound_add_ascendant ascendant descendant s none h
 sound_change (AddDescendant ascendant descendant) s none h = sound_add_descendant ascendant descendant s none h
+sound_change (CreateSet kind set roles n) s none h = sound_create_set kind set roles n s none h
+sound_change (DeleteSet kind set) s none h = sound_delete_set kind set s h
+sound_change (AddRoleMember kind set role) s none h = sound_add_role_member kind set role s none h
+sound_change (DeleteRoleMember kind set role) s none h = sound_delete_role_member kind set role s none h
+sound_change (SetCardinality kind set n) s none h = sound_set_cardinality kind set n s none h
 sound_change (CreateSession user session roles) s none h = sound_create_session user session roles s none h
 sound_change (DeleteSession user session) s none h = sound_delete_session session s h
 sound_change (AddActiveRole user session role) s none h = sound_add_active_role user session role s none h
@@ -291,6 +331,9 @@ sound_effect c s h = go (first_denial c s) refl
     go : (o : Option Denial) → first_denial c s ≡ o → IsSound (effect_unless o c s)
     go None e = sound_change c s e h
     go (Some d) e = h
+
+no_role_sets : AreRoleSets [] []
+no_role_sets = record { in_order = sorted_none (by_key name_cmp); few = omega arith; each = tt }
 
 -- the founding state of a vocabulary is sound
 pub sound_founding : (v : Vocabulary) → IsVocabulary v → IsSound (founding_state v)
@@ -313,5 +356,6 @@ sound_founding v h = record {
     permissions = h.few_permissions;
   };
   no_cycle = λ ascendant descendant m. absurd (false≢true m);
+  separation = record { static_sets = no_role_sets; dynamic_sets = no_role_sets; static = refl; dynamic = refl };
   sessions = tt;
 }

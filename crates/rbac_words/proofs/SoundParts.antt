@@ -19,7 +19,7 @@ use Rattle.rbac_words.specs.Limits.{most_users, most_roles, most_sessions}
 use Rattle.rbac_words.specs.State.{State, Session}
 use Rattle.rbac_words.specs.Authorization.{IsAuthorized, is_authorized, is_entitled, purge}
 use Rattle.rbac_words.specs.Rows.{Precondition, leftmost}
-use Rattle.rbac_words.specs.Effect.{ended_where}
+use Rattle.rbac_words.specs.Change.{ended_where}
 use Rattle.rbac_words.specs.Sound.{IsWithinLimits, IsSessionSound}
 use Rattle.rbac_words.proofs.NameLemmas.{names_total, names_exact, all_member}
 use Rattle.rbac_words.proofs.AuthorizationLemmas.{is_authorized_iff}

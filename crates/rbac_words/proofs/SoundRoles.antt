@@ -1,6 +1,7 @@
 -- Each command that adds or takes out roles or declared pairs keeps a policy sound.
 use Rattle.std.proofs.Common.{List, [], ◌∷◌, length, Bool, true, false, not, ◌||◌, ◌≡◌, ◌<◌, IsTrue, None, refl, sym, ap, ◌∙◌, subst, ⊎_elim, arith}
-use Rattle.std.proofs.lemmas.Bool.{or_cases, or_left, and_parts, false≢true, leb-false, not-false}
+use Rattle.std.specs.List.{list_any}
+use Rattle.std.proofs.lemmas.Bool.{or_cases, or_left, or_parts, and_parts, false≢true, leb-false, not-false}
 use Rattle.std.proofs.lemmas.List.Kept.{IsStrictlySortedBy-filter}
 use Rattle.std.specs.Ordering.{eq_by_cmp}
 use Rattle.sorted_keys.specs.Keys.{has, with_key, without}
@@ -8,17 +9,22 @@ use Rattle.sorted_keys.proofs.KeyPlace.{sorted_with_key}
 use Rattle.sorted_keys.proofs.Members.{has-with_key}
 use Rattle.rbac_words.specs.Name.{Name, Grant, name_cmp, pair_cmp}
 use Rattle.rbac_words.specs.Limits.{most_roles, most_sessions}
+use Rattle.rbac_words.specs.Separation.{is_broken_by}
 use Rattle.rbac_words.specs.State.{State, Session}
 use Rattle.rbac_words.specs.Relations.{begins_with, ends_with, without_role, without_pairs_of}
 use Rattle.rbac_words.specs.Inheritance.{IsChain, Inherits}
-use Rattle.rbac_words.specs.Authorization.{InheritsIn, IsAuthorized, purge}
+use Rattle.rbac_words.specs.Authorization.{InheritsIn, IsAuthorized, is_authorized, is_entitled, purge}
 use Rattle.rbac_words.specs.Rows.{preconditions, first_denial}
-use Rattle.rbac_words.specs.Effect.{change, end_sessions}
-use Rattle.rbac_words.specs.Sound.{IsSessionSound, IsSound}
+use Rattle.rbac_words.specs.Constraints.{is_violated, breaks_dynamic}
+use Rattle.rbac_words.specs.declared.separation.Separation.TheVariants.{Static, Dynamic}
+use Rattle.rbac_words.specs.Change.{change, end_sessions}
+use Rattle.rbac_words.specs.Sound.{IsSessionSound, IsRoleSet, IsSeparated, IsSound}
 use Rattle.rbac_words.specs.declared.command.Command.TheVariants.{AddRole, DeleteRole, AddInheritance, DeleteInheritance, AddAscendant, AddDescendant}
 use Rattle.rbac_words.proofs.NameLemmas.{names_total, names_exact, pairs_total, pairs_exact, grants_total, grants_exact, one_key, ties_itself}
 use Rattle.rbac_words.proofs.StampLemmas.{Each-weaker}
 use Rattle.rbac_words.proofs.InheritanceLemmas.{chain_end, joined, inherits_iff, inherits_still, inherits_without, inherits_over}
+use Rattle.rbac_words.proofs.AuthorizationLemmas.{is_authorized_iff}
+use Rattle.rbac_words.proofs.SoundSeparation.{static_less, sets_wider, sets_without, dynamic_kept}
 use Rattle.rbac_words.proofs.SoundParts.{none_fails, length-with_key-new, fewer, still, was_kept, is_kept, within, session_stays, purged, owners}
 
 -- ---- One more role
@@ -28,6 +34,14 @@ authorized_still : (s : State) (roles : List Name) (declared : List (Name × Nam
     → ((x : Name) → has name_cmp x s.roles ≡ true → has name_cmp x roles ≡ true) → ((p : Name × Name) → has pair_cmp p s.declared ≡ true → has pair_cmp p declared ≡ true)
     → (user role : Name) → IsAuthorized s user role → IsAuthorized (record s { roles = roles; declared = declared }) user role
 authorized_still s roles declared keeps_roles keeps_pairs user role a = (a.0, a.1, inherits_still s.roles roles s.declared declared keeps_roles keeps_pairs a.0 role a.2)
+
+-- static separation stays where, for the roles of the sets, nobody is authorized who was not
+pub static_stays : (s t : State) → IsSound s → ((user : Name) → has name_cmp user t.users ≡ true → has name_cmp user s.users ≡ true)
+    → ((user role : Name) → has name_cmp role s.roles ≡ true → IsAuthorized t user role → IsAuthorized s user role)
+    → list_any (λ user. list_any (λ e. is_broken_by (is_authorized t user) e.1) s.static_sets) t.users ≡ false
+static_stays s t h users authorized =
+    static_less s.roles s.static_sets (is_authorized s) (is_authorized t) s.users t.users h.separation.static_sets.each
+    (λ u r m is e. (users u m, (is_authorized_iff s u r).1 (authorized u r is ((is_authorized_iff t u r).0 e)))) h.separation.static
 
 sound_with_role : (role : Name) (s : State) → has name_cmp role s.roles ≡ false → length s.roles < most_roles → IsSound s → IsSound (record s { roles = with_key name_cmp role s.roles })
 sound_with_role role s new few h =
@@ -50,6 +64,12 @@ sound_with_role role s new few h =
       limits = within h.limits s.users t.roles s.assigned s.granted s.declared s.sessions
           h.limits.users (let more = length-with_key-new name_cmp role s.roles new in omega arith) h.limits.sessions;
       no_cycle = λ a d m back. h.no_cycle a d m (inherits_without role s.roles s.declared h.references.declared d a (h.references.declared a d m).1 back);
+      separation = record {
+        static_sets = sets_wider s.roles t.roles s.static_sets stays h.separation.static_sets;
+        dynamic_sets = sets_wider s.roles t.roles s.dynamic_sets stays h.separation.dynamic_sets;
+        static = static_stays s t h (λ u m. m) (λ u r is a. (a.0, a.1, inherits_without role s.roles s.declared h.references.declared a.0 r (h.references.assigned u a.0 a.1).1 a.2));
+        dynamic = h.separation.dynamic;
+      };
       sessions = Each-weaker (λ e. IsSessionSound s e.1) (λ e. IsSessionSound t e.1) s.sessions
           (λ e. session_stays s t e.1 (λ m. m) (authorized_still s t.roles s.declared stays (λ p m. m) e.1.owner)) h.sessions;
     }
@@ -61,9 +81,10 @@ sound_add_role role s none h =
 
 -- ---- One more pair
 
-sound_with_pair : (a d : Name) (s : State) → has name_cmp a s.roles ≡ true → has name_cmp d s.roles ≡ true → ¬ (InheritsIn s d a) → IsSound s
+sound_with_pair : (a d : Name) (s : State) → has name_cmp a s.roles ≡ true → has name_cmp d s.roles ≡ true → ¬ (InheritsIn s d a)
+    → is_violated Static (record s { declared = with_key pair_cmp (a, d) s.declared }) ≡ false → IsSound s
     → IsSound (record s { declared = with_key pair_cmp (a, d) s.declared })
-sound_with_pair a d s is_a is_d acyclic h =
+sound_with_pair a d s is_a is_d acyclic separated h =
     let t : State = record s { declared = with_key pair_cmp (a, d) s.declared } in
     let stays : (p : Name × Name) → has pair_cmp p s.declared ≡ true → has pair_cmp p t.declared ≡ true = still pairs_total (a, d) s.declared in
     let either : (x y : Name) → has pair_cmp (x, y) t.declared ≡ true → (eq_by_cmp pair_cmp (x, y) (a, d) || has pair_cmp (x, y) s.declared) ≡ true = λ x y m. sym (has-with_key pairs_total (a, d) s.declared (x, y)) ∙ m in
@@ -91,6 +112,7 @@ sound_with_pair a d s is_a is_d acyclic h =
           new_pair (subst (λ p. Inherits s.roles t.declared p.1 p.0) same back))
           (λ old. old_pair x y old back)
           (or_cases _ _ (either x y m));
+      separation = record { static_sets = h.separation.static_sets; dynamic_sets = h.separation.dynamic_sets; static = separated; dynamic = h.separation.dynamic };
       sessions = Each-weaker (λ e. IsSessionSound s e.1) (λ e. IsSessionSound t e.1) s.sessions
           (λ e. session_stays s t e.1 (λ m. m) (authorized_still s s.roles t.declared (λ x m. m) stays e.1.owner)) h.sessions;
     }
@@ -115,7 +137,7 @@ pub sound_add_inheritance : (a d : Name) (s : State) → first_denial (AddInheri
 sound_add_inheritance a d s none h =
     let holds = none_fails (preconditions (AddInheritance a d) s) none in
     let are = and_parts _ _ (not-false _ holds.0) in
-    sound_with_pair a d s are.0 are.1 (λ back. false≢true (sym holds.1.1.0 ∙ (inherits_iff s.roles s.declared d a).1 back)) h
+    sound_with_pair a d s are.0 are.1 (λ back. false≢true (sym holds.1.1.0 ∙ (inherits_iff s.roles s.declared d a).1 back)) holds.1.1.1.0 h
 
 -- a new role that no pair names is inherited by no other
 not_inherited : (role other : Name) (s : State) → has name_cmp role s.roles ≡ false → has name_cmp other s.roles ≡ true → IsSound s → ¬ (Inherits (with_key name_cmp role s.roles) s.declared other role)
@@ -139,14 +161,26 @@ pub sound_add_ascendant : (a d : Name) (s : State) → first_denial (AddAscendan
 sound_add_ascendant a d s none h =
     let holds = none_fails (preconditions (AddAscendant a d) s) none in
     let is_d = not-false _ holds.1.0 in
+    let more = with_key pair_cmp (a, d) s.declared in
     sound_with_pair a d (record s { roles = with_key name_cmp a s.roles }) (is_there a s.roles) (still names_total a s.roles d is_d) (not_inherited a d s holds.0 is_d h)
+    (static_stays s (record s { roles = with_key name_cmp a s.roles; declared = more }) h (λ u m. m)
+    (λ u r is x. let senior = (h.references.assigned u x.0 x.1).1 in ⊎_elim
+    (λ direct. (x.0, x.1, inherits_without a s.roles s.declared h.references.declared x.0 r senior direct))
+    (λ over. absurd (not_inherited a x.0 s holds.0 senior h over.0))
+    (inherits_over (with_key name_cmp a s.roles) s.declared a d x.0 r x.2)))
     (sound_with_role a s holds.0 (omega (arith, leb-false 1024 (length s.roles) holds.1.1.0)) h)
 
 pub sound_add_descendant : (a d : Name) (s : State) → first_denial (AddDescendant a d) s ≡ None → IsSound s → IsSound (change (AddDescendant a d) s)
 sound_add_descendant a d s none h =
     let holds = none_fails (preconditions (AddDescendant a d) s) none in
     let is_a = not-false _ holds.1.0 in
+    let more = with_key pair_cmp (a, d) s.declared in
     sound_with_pair a d (record s { roles = with_key name_cmp d s.roles }) (still names_total d s.roles a is_a) (is_there d s.roles) (inherits_nothing d a s holds.0 is_a h)
+    (static_stays s (record s { roles = with_key name_cmp d s.roles; declared = more }) h (λ u m. m)
+    (λ u r is x. let senior = (h.references.assigned u x.0 x.1).1 in ⊎_elim
+    (λ direct. (x.0, x.1, inherits_without d s.roles s.declared h.references.declared x.0 r senior direct))
+    (λ over. absurd (inherits_nothing d r s holds.0 is h over.1))
+    (inherits_over (with_key name_cmp d s.roles) s.declared a d x.0 r x.2)))
     (sound_with_role d s holds.0 (omega (arith, leb-false 1024 (length s.roles) holds.1.1.0)) h)
 
 -- ---- Fewer roles and pairs
@@ -171,6 +205,12 @@ sound_delete_inheritance a d s h =
       };
       limits = within h.limits s.users s.roles s.assigned s.granted t.declared (purge t).sessions h.limits.users h.limits.roles (fewer _ s.sessions most_sessions h.limits.sessions);
       no_cycle = λ x y m back. h.no_cycle x y (was (x, y) m) (inherits_still s.roles s.roles t.declared s.declared (λ z k. k) was y x back);
+      separation = record {
+        static_sets = h.separation.static_sets;
+        dynamic_sets = h.separation.dynamic_sets;
+        static = static_stays s t h (λ u m. m) (λ u r is x. (x.0, x.1, inherits_still s.roles s.roles t.declared s.declared (λ z k. k) was x.0 r x.2));
+        dynamic = dynamic_kept (breaks_dynamic s) (λ (e : Name × Session). is_entitled t e.1) s.sessions h.separation.dynamic;
+      };
       sessions = purged t (Each-weaker (λ e. IsSessionSound s e.1) (λ (e : Name × Session). IsTrue (has name_cmp e.1.owner s.users)) s.sessions (λ e sound. sound.owned) h.sessions);
     }
 
@@ -179,8 +219,10 @@ neither true b e = absurd (false≢true e)
 neither false true e = absurd (false≢true e)
 neither false false e = (refl, refl)
 
-pub sound_delete_role : (role : Name) (s : State) → IsSound s → IsSound (change (DeleteRole role) s)
-sound_delete_role role s h =
+pub sound_delete_role : (role : Name) (s : State) → first_denial (DeleteRole role) s ≡ None → IsSound s → IsSound (change (DeleteRole role) s)
+sound_delete_role role s none h =
+    let holds = none_fails (preconditions (DeleteRole role) s) none in
+    let free = or_parts _ _ holds.1.0 in
     let ends : Session → Bool = λ x. has name_cmp role x.active in
     let t : State = end_sessions ends (record s { roles = without name_cmp role s.roles; assigned = without_role role s.assigned; granted = without_role role s.granted; declared = without_pairs_of role s.declared }) in
     let was_role : (x : Name) → has name_cmp x t.roles ≡ true → has name_cmp x s.roles ≡ true = λ x m. (was_kept names_total names_exact (λ y. not (eq_by_cmp name_cmp role y)) s.roles x m).1 in
@@ -212,6 +254,17 @@ sound_delete_role role s h =
       limits = within h.limits s.users (without name_cmp role s.roles) (without_role role s.assigned) (without_role role s.granted) (without_pairs_of role s.declared) (purge t).sessions
           h.limits.users (fewer _ s.roles most_roles h.limits.roles) (fewer _ t.sessions most_sessions (fewer _ s.sessions most_sessions h.limits.sessions));
       no_cycle = λ x y m back. h.no_cycle x y (was_pair (x, y) m).1 (inherits_still t.roles s.roles t.declared s.declared was_role (λ p k. (was_pair p k).1) y x back);
+      separation = record {
+        static_sets = sets_without role s.roles s.static_sets free.0 h.separation.static_sets;
+        dynamic_sets = sets_without role s.roles s.dynamic_sets free.1 h.separation.dynamic_sets;
+        static = static_stays s t h (λ u m. m) (λ u r is x. (
+          x.0,
+          (was_kept pairs_total pairs_exact (λ (p : Name × Name). not (ends_with role p)) s.assigned (u, x.0) x.1).1,
+          inherits_still t.roles s.roles t.declared s.declared was_role (λ p k. (was_pair p k).1) x.0 r x.2,
+        ));
+        dynamic = dynamic_kept (breaks_dynamic s) (λ (e : Name × Session). is_entitled t e.1) t.sessions
+            (dynamic_kept (breaks_dynamic s) (λ (e : Name × Session). not (ends e.1)) s.sessions h.separation.dynamic);
+      };
       sessions = purged t (owners ends s h.sessions);
     }
 

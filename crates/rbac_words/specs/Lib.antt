@@ -1,5 +1,7 @@
 pub mod Authorization
 pub mod Build
+pub mod Change
+pub mod Constraints
 pub mod Denials
 pub mod Effect
 pub mod Founding
@@ -12,6 +14,7 @@ pub mod Relations
 pub mod Replay
 pub mod Right
 pub mod Rows
+pub mod Separation
 pub mod Sound
 pub mod Stamp
 pub mod State

@@ -10,6 +10,10 @@ most_roles = 1024
 abbrev pub most_sessions : ℕ
 most_sessions = 8192
 
+-- of each kind of separation
+abbrev pub most_sets : ℕ
+most_sets = 256
+
 abbrev pub most_operations : ℕ
 most_operations = 256
 

@@ -1,12 +1,15 @@
 -- What holds of each policy, whatever commands it was given.
-use Rattle.std.specs.Prelude.{◌≤◌, length, IsTrue}
+use Rattle.std.specs.Prelude.{◌≡◌, ◌≤◌, false, List, length, IsTrue}
 use Rattle.std.specs.List.{AllByRecursion as Each}
 use Rattle.std.specs.List.Sorted.{IsStrictlySortedBy}
 use Rattle.sorted_keys.specs.Keys.{has, by_key}
 use Rattle.rbac_words.specs.Name.{Name, Permission, name_cmp, pair_cmp, grant_cmp}
-use Rattle.rbac_words.specs.Limits.{most_users, most_roles, most_sessions, most_operations, most_objects, most_permissions}
+use Rattle.rbac_words.specs.Limits.{most_users, most_roles, most_sessions, most_sets, most_operations, most_objects, most_permissions}
+use Rattle.rbac_words.specs.Separation.{RoleSet, is_well_sized}
 use Rattle.rbac_words.specs.State.{State, Session}
 use Rattle.rbac_words.specs.Authorization.{InheritsIn, IsAuthorized}
+use Rattle.rbac_words.specs.Constraints.{is_violated}
+use Rattle.rbac_words.specs.declared.separation.Separation.TheVariants.{Static, Dynamic}
 
 -- each set is a sorted list without repeats
 pub record IsInOrder (s : State) : Type 0 where
@@ -41,9 +44,28 @@ pub record IsSessionSound (s : State) (session : Session) : Type 0 where
   pub owned : IsTrue (has name_cmp session.owner s.users)
   pub authorized : (role : Name) → IsTrue (has name_cmp role session.active) → IsAuthorized s session.owner role
 
+-- a set has roles that exist, and 2 ≤ n ≤ |rs|
+pub record IsRoleSet (roles : List Name) (set : RoleSet) : Type 0 where
+  pub exist : (role : Name) → IsTrue (has name_cmp role set.roles) → IsTrue (has name_cmp role roles)
+  pub sized : IsTrue (is_well_sized set)
+
+-- the sets of a kind are sorted by name and within their limit, and each is as it should be
+pub record AreRoleSets (roles : List Name) (sets : List (Name × RoleSet)) : Type 0 where
+  pub in_order : IsStrictlySortedBy (by_key name_cmp) sets
+  pub few : length sets ≤ most_sets
+  pub each : Each (λ e. IsRoleSet roles e.1) sets
+
+-- static and dynamic separation of duty hold
+pub record IsSeparated (s : State) : Type 0 where
+  pub static_sets : AreRoleSets s.roles s.static_sets
+  pub dynamic_sets : AreRoleSets s.roles s.dynamic_sets
+  pub static : is_violated Static s ≡ false
+  pub dynamic : is_violated Dynamic s ≡ false
+
 pub record IsSound (s : State) : Type 0 where
   pub in_order : IsInOrder s
   pub references : HasReferences s
   pub limits : IsWithinLimits s
   pub no_cycle : HasNoCycle s
+  pub separation : IsSeparated s
   pub sessions : Each (λ e. IsSessionSound s e.1) s.sessions

@@ -3,13 +3,14 @@
 use Rattle.std.specs.Prelude.{List, []}
 use Rattle.rbac_words.specs.Name.{Name, Permission, Grant}
 use Rattle.rbac_words.specs.Founding.{Vocabulary}
+use Rattle.rbac_words.specs.Separation.{RoleSet}
 
 -- a session has one owner and a set of active roles (ANSI INCITS 359-2004, 5.1: session_users, session_roles)
 pub record Session : Type 0 where
   pub owner : Name
   pub active : List Name
 
--- ANSI INCITS 359-2004, 5.1 Core RBAC and 5.2 Hierarchical RBAC
+-- ANSI INCITS 359-2004, 5.1 Core RBAC, 5.2 Hierarchical RBAC and 5.3 Constrained RBAC
 pub record State : Type 0 where
   -- USERS
   pub users : List Name
@@ -21,6 +22,9 @@ pub record State : Type 0 where
   pub granted : List Grant
   -- RH: ascendant and descendant, each pair that was declared
   pub declared : List (Name × Name)
+  -- SSD and DSD, each set by its name
+  pub static_sets : List (Name × RoleSet)
+  pub dynamic_sets : List (Name × RoleSet)
   -- SESSIONS, each by its name
   pub sessions : List (Name × Session)
   -- OPS, OBS and PRMS, which no command changes
@@ -36,6 +40,8 @@ founding_state v = record {
   assigned = [];
   granted = [];
   declared = [];
+  static_sets = [];
+  dynamic_sets = [];
   sessions = [];
   operations = v.operations;
   objects = v.objects;

@@ -3,9 +3,11 @@ ghost use Rattle.std.specs.Prelude.{◌≡◌, IfOk};
 
 use crate::name::Name;
 use crate::name_set::NameSet;
+use crate::separation::Separation;
 use std::alloc::{AllocError, Global};
 
-/// A command of RBAC (ANSI INCITS 359-2004, 6.1.1, 6.1.2 and 6.2), one variant for each.
+/// A command of RBAC (ANSI INCITS 359-2004, 6.1.1, 6.1.2 and 6.2 to 6.4), one variant for each; those about
+/// sets of separation serve both kinds: CreateSsdSet is `CreateSet` of the static kind, CreateDsdSet of the dynamic one.
 #[derive(Drop)]
 pub enum Command {
     AddUser {
@@ -53,6 +55,31 @@ pub enum Command {
     AddDescendant {
         ascendant: Name,
         descendant: Name,
+    },
+    CreateSet {
+        kind: Separation,
+        set: Name,
+        roles: NameSet,
+        n: u32,
+    },
+    DeleteSet {
+        kind: Separation,
+        set: Name,
+    },
+    AddRoleMember {
+        kind: Separation,
+        set: Name,
+        role: Name,
+    },
+    DeleteRoleMember {
+        kind: Separation,
+        set: Name,
+        role: Name,
+    },
+    SetCardinality {
+        kind: Separation,
+        set: Name,
+        n: u32,
     },
     CreateSession {
         user: Name,
@@ -151,6 +178,36 @@ impl Command {
             } => Ok(Command::AddDescendant {
                 ascendant: ascendant.copy(alloc)?,
                 descendant: descendant.copy(alloc)?,
+            }),
+            Command::CreateSet {
+                kind,
+                set,
+                roles,
+                n,
+            } => Ok(Command::CreateSet {
+                kind: *kind,
+                set: set.copy(alloc)?,
+                roles: roles.copy(alloc)?,
+                n: *n,
+            }),
+            Command::DeleteSet { kind, set } => Ok(Command::DeleteSet {
+                kind: *kind,
+                set: set.copy(alloc)?,
+            }),
+            Command::AddRoleMember { kind, set, role } => Ok(Command::AddRoleMember {
+                kind: *kind,
+                set: set.copy(alloc)?,
+                role: role.copy(alloc)?,
+            }),
+            Command::DeleteRoleMember { kind, set, role } => Ok(Command::DeleteRoleMember {
+                kind: *kind,
+                set: set.copy(alloc)?,
+                role: role.copy(alloc)?,
+            }),
+            Command::SetCardinality { kind, set, n } => Ok(Command::SetCardinality {
+                kind: *kind,
+                set: set.copy(alloc)?,
+                n: *n,
             }),
             Command::CreateSession {
                 user,

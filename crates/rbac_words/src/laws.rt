@@ -1,5 +1,5 @@
 //! Laws about the definitions: functions with an empty body, whose contracts are proved like any other.
-ghost use Rattle.std.specs.Prelude.{List, IsTrue, IfErr, ◌↔◌, ◌≡◌, ◌⊎◌};
+ghost use Rattle.std.specs.Prelude.{false, List, IsTrue, IfErr, ◌↔◌, ◌≡◌, ◌⊎◌};
 ghost use Rattle.std.specs.declared.cmp.Ordering.TheVariants.{Less};
 ghost use Rattle.std.specs.List.{list_all};
 ghost use Rattle.std.specs.List.Sorted.{IsPermutation};
@@ -9,6 +9,8 @@ ghost use Rattle.rbac_words.specs.declared.event.Event.{Event};
 ghost use Rattle.rbac_words.specs.declared.message.Submission.{Submission};
 ghost use Rattle.rbac_words.specs.declared.stamp.Stamp.{Stamp};
 ghost use Rattle.rbac_words.specs.Authorization.{InheritsIn, IsAuthorized, is_authorized, Holds, holds, is_entitled, purge};
+ghost use Rattle.rbac_words.specs.Constraints.{is_violated, KeepsStatic, KeepsDynamic};
+ghost use Rattle.rbac_words.specs.declared.separation.Separation.TheVariants.{Static, Dynamic};
 ghost use Rattle.rbac_words.specs.Effect.{effect};
 ghost use Rattle.rbac_words.specs.Founding.{Group as GroupValue, Vocabulary as VocabularyValue, IsVocabulary};
 ghost use Rattle.rbac_words.specs.Inheritance.{Inherits, inherits};
@@ -41,6 +43,13 @@ pub fn a_test_tells_authorization()
 /// The test of holding tells whether an active role inherits one to which the permission is granted.
 pub fn a_test_tells_holding()
     ensures { (s : State) (session : Session) (permission : Permission) → IsTrue (holds s session permission) ↔ Holds s session permission }
+{}
+
+/// The tests of separation of duty tell whether of each set each user is authorized for fewer roles than its number, and
+/// fewer are active in each session.
+pub fn a_test_tells_separation()
+    ensures of_users { (s : State) → (is_violated Static s ≡ false) ↔ KeepsStatic s }
+    ensures of_sessions { (s : State) → (is_violated Dynamic s ≡ false) ↔ KeepsDynamic s }
 {}
 
 /// Stamps are in a total order, which the test and the comparison of stamps tell.

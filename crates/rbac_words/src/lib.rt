@@ -11,6 +11,7 @@ pub mod message;
 pub mod name;
 pub mod name_set;
 pub mod record;
+pub mod separation;
 pub mod stamp;
 pub mod vocabulary;
 
@@ -22,6 +23,7 @@ pub use message::{Message, Submission};
 pub use name::{Name, NameRefusal};
 pub use name_set::NameSet;
 pub use record::Record;
+pub use separation::Separation;
 pub use stamp::Stamp;
 pub use vocabulary::{Vocabulary, VocabularyRefusal};
 

@@ -78,8 +78,8 @@ impl Policy {
         some_inherits_some(&self.tables.hierarchy, roles, grants)
     }
 
-    // The session of this name.
-    fn session(&self, session: &Name) -> Option<&Session>
+    /// The session of this name.
+    pub fn session(&self, session: &Name) -> Option<&Session>
         ensures { option_copied result ≡ find name_cmp session.now self.now.sessions }
     {
         self.tables.sessions.get(session)

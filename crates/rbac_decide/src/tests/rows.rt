@@ -1,7 +1,7 @@
 //! Commands and answers as a person writes them: `AssignUser ann clerk` and `Done`.
 
 use crate::Policy;
-use rbac_words::{Answer, Command, Name, NameSet};
+use rbac_words::{Answer, Command, Name, NameSet, Separation};
 use std::alloc::Global;
 use std::process::Abort;
 
@@ -99,6 +99,49 @@ fn hierarchy_command(rt: &impl Abort, alloc: Global, kind: &str, words: &[&str])
     }
 }
 
+// The number at a place of a command's words.
+fn number_at(rt: &impl Abort, words: &[&str], at: usize) -> u32 {
+    let word = words.get(at).expect(rt, "a word");
+    word.parse().expect(rt, "a number")
+}
+
+// A command about a set of separation: its number stands before its roles.
+fn set_command(rt: &impl Abort, alloc: Global, kind: &str, words: &[&str]) -> Command {
+    let separation = if kind.contains("Ssd") {
+        Separation::Static
+    } else {
+        Separation::Dynamic
+    };
+    let set = name_at(rt, alloc, words, 0);
+    match kind {
+        "CreateSsdSet" | "CreateDsdSet" => Command::CreateSet {
+            kind: separation,
+            set,
+            roles: names_from(rt, alloc, words, 2),
+            n: number_at(rt, words, 1),
+        },
+        "DeleteSsdSet" | "DeleteDsdSet" => Command::DeleteSet {
+            kind: separation,
+            set,
+        },
+        "AddSsdRoleMember" | "AddDsdRoleMember" => Command::AddRoleMember {
+            kind: separation,
+            set,
+            role: name_at(rt, alloc, words, 1),
+        },
+        "DeleteSsdRoleMember" | "DeleteDsdRoleMember" => Command::DeleteRoleMember {
+            kind: separation,
+            set,
+            role: name_at(rt, alloc, words, 1),
+        },
+        _ => Command::SetCardinality {
+            kind: separation,
+            set,
+            n: number_at(rt, words, 1),
+        },
+    }
+}
+
 // A command by its name and its words from the first field on.
 fn command(rt: &impl Abort, alloc: Global, kind: &str, words: &[&str]) -> Command {
     match kind {
@@ -125,6 +168,9 @@ fn command(rt: &impl Abort, alloc: Global, kind: &str, words: &[&str]) -> Comman
         "GrantPermission" | "RevokePermission" => permission_command(rt, alloc, kind, words),
         "AddInheritance" | "DeleteInheritance" | "AddAscendant" | "AddDescendant" => {
             hierarchy_command(rt, alloc, kind, words)
+        }
+        kind if kind.contains("sdSet") || kind.contains("sdRole") => {
+            set_command(rt, alloc, kind, words)
         }
         _ => session_command(rt, alloc, kind, words),
     }

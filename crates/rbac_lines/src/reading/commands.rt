@@ -4,11 +4,13 @@ ghost use Rattle.rbac_lines.specs.Fields.{Reads};
 ghost use Rattle.rbac_lines.specs.Command.{command_of, one_name, two_names, three_names, add_user, delete_user, add_role, delete_role, assign_user, deassign_user, grant_permission, revoke_permission, create_session, delete_session, add_active_role, drop_active_role, check_access};
 
 mod hierarchy;
+mod separation;
 
 use crate::reading::fields::{Object, name_in, names_in, only_keys, text_in};
 use crate::refusal::LineRefusal;
 use hierarchy::{add_ascendant, add_descendant, add_inheritance, delete_inheritance};
 use rbac_words::{Command, Name};
+use separation::separation_command;
 use std::alloc::Global;
 
 /// Reads a command object.
@@ -34,12 +36,12 @@ pub(crate) fn command_of(alloc: Global, fields: &Object) -> Result<Command, Line
         "AddActiveRole" => add_active_role(alloc, fields),
         "DropActiveRole" => drop_active_role(alloc, fields),
         "CheckAccess" => check_access(alloc, fields),
-        _ => Err(LineRefusal::UnknownWord),
+        name => separation_command(alloc, fields, name),
     }
 }
 
 // The name at this key, where there is no other key but the command's name.
-fn one_name(alloc: Global, fields: &Object, key: &str) -> Result<Name, LineRefusal>
+pub fn one_name(alloc: Global, fields: &Object, key: &str) -> Result<Name, LineRefusal>
     ensures { Reads (one_name key.now (members_view fields.now.entries)) result }
 {
     let name = name_in(alloc, fields, key)?;

@@ -2,7 +2,7 @@
 
 use crate::reading::read_line;
 use crate::refusal::LineRefusal;
-use rbac_words::{Command, Event, Name, NameSet};
+use rbac_words::{Command, Event, Name, NameSet, Separation};
 use std::alloc::{AllocError, Global};
 use std::process::Abort;
 
@@ -215,6 +215,36 @@ fn create_session_words(
     Ok(words)
 }
 
+/// A command's word, of a kind of separation.
+fn word_of<'w>(kind: Separation, word: &'w str) -> &'w str {
+    match kind {
+        Separation::Static => word,
+        Separation::Dynamic => match word {
+            "CreateSet" => "CreateSet (dynamic)",
+            "DeleteSet" => "DeleteSet (dynamic)",
+            "AddRoleMember" => "AddRoleMember (dynamic)",
+            "DeleteRoleMember" => "DeleteRoleMember (dynamic)",
+            _ => "SetCardinality (dynamic)",
+        },
+    }
+}
+
+/// The words of a set that is created.
+fn create_set_words(
+    alloc: Global,
+    kind: Separation,
+    set: &Name,
+    roles: &NameSet,
+    n: u32,
+) -> Result<String, AllocError> {
+    let mut words = words_of(alloc, word_of(kind, "CreateSet"), &[set])?;
+    for role in roles.names() {
+        words.push_str(" ")?;
+        words.push_str(text_of(role))?;
+    }
+    format!(in alloc; "{words} {n}")
+}
+
 /// A command's name, and the names in its fields from left to right.
 fn words_of(alloc: Global, command: &str, names: &[&Name]) -> Result<String, AllocError> {
     let mut words = format!(in alloc; "{command}")?;
@@ -260,6 +290,23 @@ fn command_words(alloc: Global, command: &Command) -> Result<String, AllocError>
             ascendant,
             descendant,
         } => words_of(alloc, "AddDescendant", &[ascendant, descendant]),
+        Command::CreateSet {
+            kind,
+            set,
+            roles,
+            n,
+        } => create_set_words(alloc, *kind, set, roles, *n),
+        Command::DeleteSet { kind, set } => words_of(alloc, word_of(*kind, "DeleteSet"), &[set]),
+        Command::AddRoleMember { kind, set, role } => {
+            words_of(alloc, word_of(*kind, "AddRoleMember"), &[set, role])
+        }
+        Command::DeleteRoleMember { kind, set, role } => {
+            words_of(alloc, word_of(*kind, "DeleteRoleMember"), &[set, role])
+        }
+        Command::SetCardinality { kind, set, n } => {
+            let words = words_of(alloc, word_of(*kind, "SetCardinality"), &[set])?;
+            format!(in alloc; "{words} {n}")
+        }
         Command::CreateSession {
             user,
             session,
@@ -404,6 +451,60 @@ fn commands_about_the_hierarchy(rt: HostRuntime) -> Result<(), AllocError> {
         (
             r#"{"name":"AddDescendant","ascendant":"boss","descendant":"clerk"}"#,
             "submit 1 0 0 AddDescendant boss clerk",
+        ),
+    ];
+    expect_commands(&rt, rt.alloc(), &commands)
+}
+
+#[test]
+fn commands_about_static_sets(rt: HostRuntime) -> Result<(), AllocError> {
+    let commands = [
+        (
+            r#"{"name":"CreateSsdSet","set":"duty","roles":["payer","approver","payer"],"n":2}"#,
+            "submit 1 0 0 CreateSet duty approver payer 2",
+        ),
+        (
+            r#"{"set":"duty","name":"DeleteSsdSet"}"#,
+            "submit 1 0 0 DeleteSet duty",
+        ),
+        (
+            r#"{"name":"AddSsdRoleMember","role":"payer","set":"duty"}"#,
+            "submit 1 0 0 AddRoleMember duty payer",
+        ),
+        (
+            r#"{"name":"DeleteSsdRoleMember","set":"duty","role":"payer"}"#,
+            "submit 1 0 0 DeleteRoleMember duty payer",
+        ),
+        (
+            r#"{"name":"SetSsdSetCardinality","set":"duty","n":4294967295}"#,
+            "submit 1 0 0 SetCardinality duty 4294967295",
+        ),
+    ];
+    expect_commands(&rt, rt.alloc(), &commands)
+}
+
+#[test]
+fn commands_about_dynamic_sets(rt: HostRuntime) -> Result<(), AllocError> {
+    let commands = [
+        (
+            r#"{"name":"CreateDsdSet","n":0,"roles":[],"set":"duty"}"#,
+            "submit 1 0 0 CreateSet (dynamic) duty 0",
+        ),
+        (
+            r#"{"name":"DeleteDsdSet","set":"duty"}"#,
+            "submit 1 0 0 DeleteSet (dynamic) duty",
+        ),
+        (
+            r#"{"name":"AddDsdRoleMember","set":"duty","role":"payer"}"#,
+            "submit 1 0 0 AddRoleMember (dynamic) duty payer",
+        ),
+        (
+            r#"{"name":"DeleteDsdRoleMember","set":"duty","role":"payer"}"#,
+            "submit 1 0 0 DeleteRoleMember (dynamic) duty payer",
+        ),
+        (
+            r#"{"name":"SetDsdSetCardinality","set":"duty","n":2}"#,
+            "submit 1 0 0 SetCardinality (dynamic) duty 2",
         ),
     ];
     expect_commands(&rt, rt.alloc(), &commands)

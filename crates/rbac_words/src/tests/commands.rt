@@ -1,7 +1,7 @@
 //! Commands and their copies.
 
 use super::{name, set};
-use crate::{Command, Name};
+use crate::{Command, Name, Separation};
 use std::alloc::Global;
 use std::process::Abort;
 
@@ -52,6 +52,11 @@ fn fields(command: &Command) -> (&str, [&[u8]; 3]) {
             ascendant,
             descendant,
         } => ("AddDescendant", two(ascendant, descendant)),
+        Command::CreateSet { set, .. } => ("CreateSet", one(set)),
+        Command::DeleteSet { set, .. } => ("DeleteSet", one(set)),
+        Command::AddRoleMember { set, role, .. } => ("AddRoleMember", two(set, role)),
+        Command::DeleteRoleMember { set, role, .. } => ("DeleteRoleMember", two(set, role)),
+        Command::SetCardinality { set, .. } => ("SetCardinality", one(set)),
         Command::CreateSession { user, session, .. } => ("CreateSession", two(user, session)),
         Command::DeleteSession { user, session } => ("DeleteSession", two(user, session)),
         Command::AddActiveRole {
@@ -75,12 +80,27 @@ fn fields(command: &Command) -> (&str, [&[u8]; 3]) {
 fn roles(command: &Command) -> &[Name] {
     match command {
         Command::CreateSession { roles, .. } => roles.names(),
+        Command::CreateSet { roles, .. } => roles.names(),
         _ => &[],
     }
 }
 
+// The kind of separation and the number of a command, where it has them.
+fn kind_and_number(command: &Command) -> (Option<Separation>, u32) {
+    match command {
+        Command::CreateSet { kind, n, .. } => (Some(*kind), *n),
+        Command::DeleteSet { kind, .. } => (Some(*kind), 0),
+        Command::AddRoleMember { kind, .. } => (Some(*kind), 0),
+        Command::DeleteRoleMember { kind, .. } => (Some(*kind), 0),
+        Command::SetCardinality { kind, n, .. } => (Some(*kind), *n),
+        _ => (None, 0),
+    }
+}
+
 pub fn is_same(command: &Command, other: &Command) -> bool {
-    fields(command) == fields(other) && roles(command) == roles(other)
+    fields(command) == fields(other)
+        && roles(command) == roles(other)
+        && kind_and_number(command) == kind_and_number(other)
 }
 
 pub fn grant(rt: &impl Abort, alloc: Global) -> Command {
@@ -195,6 +215,59 @@ fn copies_of_a_new_pair(rt: &impl Abort, alloc: Global) {
     );
 }
 
+fn copies_of_a_set(rt: &impl Abort, alloc: Global, kind: Separation) {
+    let named = |text: &str| name(rt, alloc, text);
+    expect_copied(
+        rt,
+        alloc,
+        Command::CreateSet {
+            kind,
+            set: named("duty"),
+            roles: set(rt, alloc, &["payer", "clerk"]),
+            n: 2,
+        },
+    );
+    expect_copied(
+        rt,
+        alloc,
+        Command::DeleteSet {
+            kind,
+            set: named("duty"),
+        },
+    );
+    expect_copied(
+        rt,
+        alloc,
+        Command::SetCardinality {
+            kind,
+            set: named("duty"),
+            n: 3,
+        },
+    );
+}
+
+fn copies_of_a_member(rt: &impl Abort, alloc: Global, kind: Separation) {
+    let named = |text: &str| name(rt, alloc, text);
+    expect_copied(
+        rt,
+        alloc,
+        Command::AddRoleMember {
+            kind,
+            set: named("duty"),
+            role: named("clerk"),
+        },
+    );
+    expect_copied(
+        rt,
+        alloc,
+        Command::DeleteRoleMember {
+            kind,
+            set: named("duty"),
+            role: named("clerk"),
+        },
+    );
+}
+
 fn copies_of_a_session(rt: &impl Abort, alloc: Global) {
     let named = |text: &str| name(rt, alloc, text);
     expect_copied(
@@ -245,6 +318,14 @@ fn copies_of_active_roles(rt: &impl Abort, alloc: Global) {
             object: named("invoice"),
         },
     );
+}
+
+#[test]
+fn a_copy_is_the_same_command_about_sets(rt: HostRuntime) {
+    for kind in [Separation::Static, Separation::Dynamic] {
+        copies_of_a_set(&rt, rt.alloc(), kind);
+        copies_of_a_member(&rt, rt.alloc(), kind);
+    }
 }
 
 #[test]

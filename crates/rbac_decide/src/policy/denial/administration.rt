@@ -1,10 +1,11 @@
 //! The first failing precondition of each command about users, roles, assignments and permissions.
-ghost use Rattle.std.specs.Prelude.{◌≡◌};
+ghost use Rattle.std.specs.Prelude.{◌≡◌, IfOk};
 ghost use Rattle.rbac_words.specs.Rows.{first_denial};
 ghost use Rattle.rbac_words.specs.declared.command.Command.TheVariants.{AddUser, DeleteUser, AddRole, DeleteRole, AssignUser, DeassignUser, GrantPermission, RevokePermission};
 
 use crate::policy::Policy;
 use rbac_words::{Denial, Name};
+use std::alloc::{AllocError, Global};
 
 const MOST_USERS: usize = 4096;
 
@@ -51,22 +52,33 @@ impl Policy {
         if !self.has_role(role) {
             return Some(Denial::NoRole);
         }
+        if self.is_constrained(role) {
+            return Some(Denial::RoleConstrained);
+        }
         None
     }
 
-    pub fn first_assign_user(&self, user: &Name, role: &Name) -> Option<Denial>
-        ensures { result ≡ first_denial (AssignUser user.now role.now) self.now }
+    pub fn first_assign_user(
+        &self,
+        alloc: Global,
+        user: &Name,
+        role: &Name,
+    ) -> Result<Option<Denial>, AllocError>
+        ensures { IfOk result (λ denial. denial ≡ first_denial (AssignUser user.now role.now) self.now) }
     {
         if !self.tables.sets.has_user(user) {
-            return Some(Denial::NoUser);
+            return Ok(Some(Denial::NoUser));
         }
         if !self.has_role(role) {
-            return Some(Denial::NoRole);
+            return Ok(Some(Denial::NoRole));
         }
         if self.tables.sets.assigned(user, role) {
-            return Some(Denial::Assigned);
+            return Ok(Some(Denial::Assigned));
         }
-        None
+        if self.assignment_violates(alloc, user, role)? {
+            return Ok(Some(Denial::SsdViolated));
+        }
+        Ok(None)
     }
 
     pub fn first_deassign_user(&self, user: &Name, role: &Name) -> Option<Denial>

@@ -1,11 +1,12 @@
 //! The first failing precondition of each command about the role hierarchy.
-ghost use Rattle.std.specs.Prelude.{◌≡◌};
+ghost use Rattle.std.specs.Prelude.{◌≡◌, IfOk};
 ghost use Rattle.rbac_words.specs.Rows.{first_denial, are_roles};
 ghost use Rattle.rbac_words.specs.declared.command.Command.TheVariants.{AddInheritance, DeleteInheritance, AddAscendant, AddDescendant};
 
 use crate::policy::Policy;
 use crate::policy::denial::administration::MOST_ROLES;
 use rbac_words::{Denial, Name};
+use std::alloc::{AllocError, Global};
 
 impl Policy {
     // Whether both are roles.
@@ -15,19 +16,27 @@ impl Policy {
         self.has_role(first) && self.has_role(second)
     }
 
-    pub fn first_add_inheritance(&self, ascendant: &Name, descendant: &Name) -> Option<Denial>
-        ensures { result ≡ first_denial (AddInheritance ascendant.now descendant.now) self.now }
+    pub fn first_add_inheritance(
+        &self,
+        alloc: Global,
+        ascendant: &Name,
+        descendant: &Name,
+    ) -> Result<Option<Denial>, AllocError>
+        ensures { IfOk result (λ denial. denial ≡ first_denial (AddInheritance ascendant.now descendant.now) self.now) }
     {
         if !self.are_roles(ascendant, descendant) {
-            return Some(Denial::NoRole);
+            return Ok(Some(Denial::NoRole));
         }
         if self.tables.hierarchy.declared(ascendant, descendant) {
-            return Some(Denial::Inherits);
+            return Ok(Some(Denial::Inherits));
         }
         if self.inherits(descendant, ascendant) {
-            return Some(Denial::Cycle);
+            return Ok(Some(Denial::Cycle));
         }
-        None
+        if self.inheritance_violates(alloc, ascendant, descendant)? {
+            return Ok(Some(Denial::SsdViolated));
+        }
+        Ok(None)
     }
 
     pub fn first_delete_inheritance(&self, ascendant: &Name, descendant: &Name) -> Option<Denial>

@@ -1,4 +1,4 @@
-use Rattle.std.proofs.Common.{◌≡◌, subst, sym, ap}
+use Rattle.std.proofs.Common.{◌≡◌, subst, sym, ap, ◌∙◌}
 use Rattle.rbac_words.specs.Sound.{IsSound}
 use Rattle.rbac_words.specs.Effect.{effect}
 use Rattle.rbac_words.proofs.SoundLemmas.{sound_effect}
@@ -8,11 +8,11 @@ use Rattle.rbac_decide.proofs.ApplyLemmas.{undenied_reply, changed}
 use Rattle.rbac_decide.proofs.policy.Policy.apply.Goals as goal
 
 -- the tables that are put in place, with the vocabulary
-put_in_place : (c : goal.After-drop-self-inside-7) → state_of c.change.new.self c.self.inside.vocabulary ≡ effect c.args.command.now c.args.self.now
+put_in_place : (c : goal.After-drop-self-inside-9) → state_of c.change.new.self c.self.inside.vocabulary ≡ effect c.args.command.now c.args.self.now
 put_in_place c =
     let v = c.self.inside.vocabulary in
     changed c.args.command.now c.args.self.now (state_of c.in_ok-next.next v) (state_of c.change.new.self v) (state_of c.self.inside.tables v)
-    c.in_default.ensures c.self.view_is (ap (λ (t : Tables). state_of t v) c.in_ok-next.ensures) (c.in_ok-change.ensures.state v)
+    (sym c.in_default.is ∙ c.in_ok-denial.ensures) c.self.view_is (ap (λ (t : Tables). state_of t v) c.in_ok-next.ensures) (c.in_ok-change.ensures.state v)
 
 pub invariant_of-self : goal.invariant_of-self
 invariant_of-self c = record {
@@ -22,7 +22,7 @@ invariant_of-self c = record {
 
 pub returns : goal.returns
 returns c = record {
-  reply = undenied_reply c.args.command.now c.args.self.now c.answer-answer.result c.in_default.ensures c.answer-answer.ensures;
+  reply = undenied_reply c.args.command.now c.args.self.now c.answer-answer.result (sym c.in_default.is ∙ c.in_ok-denial.ensures) c.answer-answer.ensures;
   effect = put_in_place c;
   unchanged = tt;
 }

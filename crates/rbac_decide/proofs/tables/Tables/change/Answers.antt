@@ -1,5 +1,5 @@
 use Rattle.std.proofs.Common.{◌∙◌, sym, ap}
-use Rattle.rbac_words.specs.Effect.{change}
+use Rattle.rbac_words.specs.Change.{change}
 use Rattle.rbac_words.specs.declared.command.Command.{Command}
 use Rattle.rbac_decide.specs.Tables.{state_of}
 use Rattle.rbac_decide.proofs.tables.Tables.change.Goals as goal

@@ -1,0 +1,271 @@
+-- What separation of duty asks of the state after a change, asked of the state before it.
+use Rattle.std.proofs.Common.{ℕ, List, [], ◌∷◌, length, count_by, Bool, true, false, not, cond, leb, ◌||◌, ◌&&◌, ◌≡◌, IsTrue, Option, Some, None, is_some, Result, Ok, Err, IfOk, refl, sym, ap, ◌∙◌, subst, ⊎_elim, inl, inr}
+use Rattle.std.proofs.lemmas.Bool.{or_cases, or_left, or_right, and_parts, and_from, false≢true}
+use Rattle.std.specs.declared.cmp.Ordering.{Ordering}
+use Rattle.std.specs.declared.cmp.Ordering.TheVariants.{Less, Equal, Greater}
+use Rattle.std.specs.List.{list_any, list_all, AllByRecursion as Each}
+use Rattle.std.specs.Ordering.{eq_by_cmp}
+use Rattle.std.specs.Option.{option_map_or}
+use Rattle.std.specs.FinMap.{IsAntisymmetric}
+use Rattle.std.specs.FinMap.Entries.{find, put, by_order}
+use Rattle.sorted_keys.specs.Keys.{has, with_key, updated}
+use Rattle.sorted_keys.proofs.Members.{has-with_key}
+use Rattle.rbac_words.specs.Name.{Name, name_cmp, pair_cmp}
+use Rattle.rbac_words.specs.State.{State, Session}
+use Rattle.rbac_words.specs.Separation.{RoleSet, is_well_sized, is_broken_by, is_broken, first_broken}
+use Rattle.rbac_words.specs.Inheritance.{Inherits}
+use Rattle.rbac_words.specs.Authorization.{IsAuthorized, is_authorized, inherits_in}
+use Rattle.rbac_words.specs.Constraints.{sets_of, with_sets, breaks_static, breaks_dynamic, is_violated, is_badly_sized}
+use Rattle.rbac_words.specs.Change.{change, with_active}
+use Rattle.rbac_words.specs.Rows.{found_and}
+use Rattle.rbac_words.specs.Sound.{IsSound, IsRoleSet}
+use Rattle.rbac_words.specs.declared.separation.Separation.{Separation}
+use Rattle.rbac_words.specs.declared.separation.Separation.TheVariants.{Static, Dynamic}
+use Rattle.rbac_words.specs.declared.command.Command.TheVariants.{AssignUser, AddInheritance, CreateSession, AddActiveRole}
+use Rattle.rbac_words.proofs.NameLemmas.{names_total, names_exact, pairs_total, pairs_exact, one_key, ties_itself, same_bits, any_member, member_any}
+use Rattle.rbac_words.proofs.InheritanceLemmas.{joined, inherits_iff, inherits_still, inherits_over}
+use Rattle.rbac_words.proofs.AuthorizationLemmas.{is_authorized_iff}
+use Rattle.rbac_words.proofs.SoundParts.{still}
+use Rattle.rbac_words.proofs.SoundSeparation.{is_false, none_passes, passes_none}
+use Rattle.rbac_decide.specs.Breaking.{breaks_with, breaks_below, breaks_set}
+use Rattle.rbac_decide.proofs.AuthorizationLemmas.{any-same}
+
+-- ---- Sets
+
+-- tests that agree break the same sets
+count_same : {X : Type 0} (p q : X → Bool) → ((x : X) → p x ≡ q x) → (xs : List X) → count_by p xs ≡ count_by q xs
+count_same p q same xs = ap (λ t. count_by t xs) (λ i x. same x i)
+
+pub breaks_same : (p q : Name → Bool) → ((r : Name) → p r ≡ q r) → (sets : List (Name × RoleSet)) → list_any (λ e. is_broken_by p e.1) sets ≡ list_any (λ e. is_broken_by q e.1) sets
+breaks_same p q same sets = ap (λ t. list_any (λ e. is_broken_by t e.1) sets) (λ i r. same r i)
+
+-- a first broken set is there where some set is broken
+pub over_tells : (roles : List Name) (sets : List (Name × RoleSet)) → is_some (first_broken roles sets) ≡ list_any (λ e. is_broken roles e.1) sets
+over_tells roles [] = refl
+over_tells roles (e ∷ es) = go (is_broken roles e.1) (over_tells roles es)
+  where
+    go : (b : Bool) → is_some (first_broken roles es) ≡ list_any (λ x. is_broken roles x.1) es → is_some (cond b (Some e.0) (first_broken roles es)) ≡ (b || list_any (λ x. is_broken roles x.1) es)
+    go true rest = refl
+    go false rest = rest
+
+-- what a test of a result says, it says of an equal
+pub if_same : {A E X : Type 0} (r : Result A E) (x y : X) (f : A → X) → y ≡ x → IfOk r (λ a. f a ≡ x) → IfOk r (λ a. f a ≡ y)
+if_same (Ok a) x y f e h = h ∙ sym e
+if_same (Err b) x y f e h = tt
+
+-- ---- One entry of a map
+
+module _ {K X : Type 0} (R : K → K → Ordering) (p : X → Bool) where
+  -- where no value passes, some passes after one is put exactly where that one does
+  any_put : (k : K) (v : X) (es : List (K × X)) → list_any (λ e. p e.1) es ≡ false → list_any (λ e. p e.1) (put R k v es) ≡ p v
+  any_put k v [] none = or_none (p v)
+    where
+      or_none : (b : Bool) → (b || false) ≡ b
+      or_none true = refl
+      or_none false = refl
+  any_put k v (x ∷ xs) none = go (R k x.0) (any_put k v xs tail)
+    where
+      head : p x.1 ≡ false
+      head = is_false (p x.1) (λ t. false≢true (sym none ∙ or_left (p x.1) (list_any (λ e. p e.1) xs) t))
+
+      tail : list_any (λ e. p e.1) xs ≡ false
+      tail = is_false (list_any (λ e. p e.1) xs) (λ t. false≢true (sym none ∙ or_right (p x.1) (list_any (λ e. p e.1) xs) t))
+
+      with_rest : (b c : Bool) → c ≡ false → (b || c) ≡ b
+      with_rest true c e = refl
+      with_rest false c e = e
+
+      go : (r : Ordering) → list_any (λ e. p e.1) (put R k v xs) ≡ p v → list_any (λ e. p e.1) (by_order r ((k, v) ∷ x ∷ xs) ((x.0, v) ∷ xs) (x ∷ put R k v xs)) ≡ p v
+      go Less rest = with_rest (p v) (list_any (λ e. p e.1) (x ∷ xs)) none
+      go Equal rest = with_rest (p v) (list_any (λ e. p e.1) xs) tail
+      go Greater rest = (λ i. head i || rest i)
+
+  -- where all values pass, all do after one is put exactly where that one does
+  all_put : (k : K) (v : X) (es : List (K × X)) → list_all (λ e. p e.1) es ≡ true → list_all (λ e. p e.1) (put R k v es) ≡ p v
+  all_put k v [] all = and_all (p v)
+    where
+      and_all : (b : Bool) → (b && true) ≡ b
+      and_all true = refl
+      and_all false = refl
+  all_put k v (x ∷ xs) all = go (R k x.0) (all_put k v xs (and_parts _ _ all).1)
+    where
+      with_rest : (b c : Bool) → c ≡ true → (b && c) ≡ b
+      with_rest true c e = e
+      with_rest false c e = refl
+
+      both : (p x.1 ≡ true) × (list_all (λ e. p e.1) xs ≡ true)
+      both = and_parts (p x.1) (list_all (λ e. p e.1) xs) all
+
+      go : (r : Ordering) → list_all (λ e. p e.1) (put R k v xs) ≡ p v → list_all (λ e. p e.1) (by_order r ((k, v) ∷ x ∷ xs) ((x.0, v) ∷ xs) (x ∷ put R k v xs)) ≡ p v
+      go Less rest = with_rest (p v) (list_all (λ e. p e.1) (x ∷ xs)) all
+      go Equal rest = with_rest (p v) (list_all (λ e. p e.1) xs) both.1
+      go Greater rest = (λ i. both.0 i && rest i)
+
+-- where a key is found, a change of its value puts the changed one
+put_found : {K X : Type 0} (R : K → K → Ordering) (k : K) (f : X → X) (es : List (K × X)) (v : X) → find R k es ≡ Some v → updated R k f es ≡ put R k (f v) es
+put_found R k f es v found = ap (λ o. option_map_or (λ w. put R k (f w) es) o es) found
+
+-- ---- The sets of a kind
+
+module _ (kind : Separation) (set : Name) (new : RoleSet) (s : State) (h : IsSound s) where
+  pub put_violated : is_violated kind (with_sets kind (put name_cmp set new (sets_of kind s)) s) ≡ breaks_set kind s new
+  put_violated = elim kind as (λ k. is_violated k (with_sets k (put name_cmp set new (sets_of k s)) s) ≡ breaks_set k s new) [
+    | Static ↦ each (is_authorized s) s.static_sets s.users h.separation.static
+    | Dynamic ↦ each (λ (x : Name × Session) r. has name_cmp r x.1.active) s.dynamic_sets s.sessions h.separation.dynamic
+  ]
+    where
+      each : {X : Type 0} (test : X → Name → Bool) (sets : List (Name × RoleSet)) (xs : List X) → list_any (λ x. list_any (λ e. is_broken_by (test x) e.1) sets) xs ≡ false
+          → list_any (λ x. list_any (λ e. is_broken_by (test x) e.1) (put name_cmp set new sets)) xs ≡ list_any (λ x. is_broken_by (test x) new) xs
+      each test sets [] none = refl
+      each test sets (x ∷ xs) none = (λ i.
+          any_put name_cmp (is_broken_by (test x)) set new sets (is_false _ (λ t. false≢true (sym none ∙ or_left _ _ t))) i
+          || each test sets xs (is_false _ (λ t. false≢true (sym none ∙ or_right _ _ t))) i)
+
+  pub put_sized : is_badly_sized kind (with_sets kind (put name_cmp set new (sets_of kind s)) s) ≡ not (is_well_sized new)
+  put_sized = elim kind as (λ k. is_badly_sized k (with_sets k (put name_cmp set new (sets_of k s)) s) ≡ not (is_well_sized new)) [
+    | Static ↦ ap not (all_put name_cmp is_well_sized set new s.static_sets (all_sized s.roles s.static_sets h.separation.static_sets.each))
+    | Dynamic ↦ ap not (all_put name_cmp is_well_sized set new s.dynamic_sets (all_sized s.roles s.dynamic_sets h.separation.dynamic_sets.each))
+  ]
+    where
+      all_sized : (roles : List Name) (sets : List (Name × RoleSet)) → Each (λ e. IsRoleSet roles e.1) sets → list_all (λ e. is_well_sized e.1) sets ≡ true
+      all_sized roles [] all = refl
+      all_sized roles (e ∷ es) all = and_from _ _ all.0.sized (all_sized roles es all.1)
+
+some_of : {X : Type 0} (o : Option X) → is_some o ≡ true → (x : X) × (o ≡ Some x)
+some_of None e = absurd (false≢true e)
+some_of (Some x) e = (x, refl)
+
+-- the same where a set that is found is changed
+module _ (kind : Separation) (set : Name) (f : RoleSet → RoleSet) (s : State) (h : IsSound s) (is : is_some (find name_cmp set (sets_of kind s)) ≡ true) where
+  there : (x : RoleSet) × (find name_cmp set (sets_of kind s) ≡ Some x)
+  there = some_of (find name_cmp set (sets_of kind s)) is
+
+  old : RoleSet
+  old = there.0
+
+  found : find name_cmp set (sets_of kind s) ≡ Some old
+  unfolding old
+  found = there.1
+
+  pub updated_violated : is_violated kind (with_sets kind (updated name_cmp set f (sets_of kind s)) s) ≡ found_and (λ x. breaks_set kind s (f x)) (find name_cmp set (sets_of kind s))
+  updated_violated =
+      ap (λ sets. is_violated kind (with_sets kind sets s)) (put_found name_cmp set f (sets_of kind s) old found)
+      ∙ put_violated kind set (f old) s h
+      ∙ sym (ap (found_and (λ x. breaks_set kind s (f x))) found)
+
+  pub updated_sized : is_badly_sized kind (with_sets kind (updated name_cmp set f (sets_of kind s)) s) ≡ not (found_and (λ x. is_well_sized (f x)) (find name_cmp set (sets_of kind s)))
+  updated_sized =
+      ap (λ sets. is_badly_sized kind (with_sets kind sets s)) (put_found name_cmp set f (sets_of kind s) old found)
+      ∙ put_sized kind set (f old) s h
+      ∙ ap not (sym (ap (found_and (λ x. is_well_sized (f x))) found))
+
+-- ---- Sessions
+
+pub created_violated : (user session : Name) (roles : List Name) (s : State) → IsSound s → is_violated Dynamic (change (CreateSession user session roles) s) ≡ breaks_dynamic s (record { owner = user; active = roles })
+created_violated user session roles s h = any_put name_cmp (breaks_dynamic s) session (record { owner = user; active = roles }) s.sessions h.separation.dynamic
+
+pub activated_violated : (user session role : Name) (s : State) → IsSound s → is_some (find name_cmp session s.sessions) ≡ true
+    → is_violated Dynamic (change (AddActiveRole user session role) s) ≡ found_and (λ x. breaks_dynamic s (with_active role x)) (find name_cmp session s.sessions)
+activated_violated user session role s h is =
+    let old = some_of (find name_cmp session s.sessions) is in
+    ap (list_any (λ e. breaks_dynamic s e.1)) (put_found name_cmp session (with_active role) s.sessions old.0 old.1)
+    ∙ any_put name_cmp (breaks_dynamic s) session (with_active role old.0) s.sessions h.separation.dynamic
+    ∙ sym (ap (found_and (λ x. breaks_dynamic s (with_active role x))) old.1)
+
+-- ---- Assignments and pairs
+
+-- a user that is one of the users
+any_one : (p : Name → Bool) (xs : List Name) (k : Name) → has name_cmp k xs ≡ true → ((x : Name) → has name_cmp x xs ≡ true → eq_by_cmp name_cmp k x ≡ false → p x ≡ false) → list_any p xs ≡ p k
+any_one p xs k is others = same_bits _ _
+    (λ some. let found = any_member names_total names_exact p xs some in either found.0 found.1 found.2 (eq_by_cmp name_cmp k found.0) refl)
+    (λ e. member_any names_total names_exact p xs k is e)
+  where
+    either : (x : Name) → has name_cmp x xs ≡ true → p x ≡ true → (b : Bool) → eq_by_cmp name_cmp k x ≡ b → p k ≡ true
+    either x m e true same = subst (λ z. p z ≡ true) (sym (one_key names_exact k x same)) e
+    either x m e false apart = absurd (false≢true (sym (others x m apart) ∙ e))
+
+-- no user of a sound policy breaks a static set
+unbroken : (s : State) → IsSound s → (user : Name) → has name_cmp user s.users ≡ true → breaks_static s user ≡ false
+unbroken s h user is = is_false _ (λ e. false≢true (sym h.separation.static ∙ member_any names_total names_exact (breaks_static s) s.users user is e))
+
+module _ (user role : Name) (s : State) where
+  abbrev assigned_state : State
+  assigned_state = record s { assigned = with_key pair_cmp (user, role) s.assigned }
+
+  -- with one more assignment the user is authorized for what the role inherits besides
+  user_gains : (r : Name) → is_authorized assigned_state user r ≡ (inherits_in s role r || is_authorized s user r)
+  user_gains r = same_bits _ _
+      (λ e. let a = (is_authorized_iff assigned_state user r).0 e in ⊎_elim
+      (λ same. or_left _ _ ((inherits_iff s.roles s.declared role r).1 (subst (λ q. Inherits s.roles s.declared q r) (ap (λ p. p.1) (one_key pairs_exact (user, a.0) (user, role) same)) a.2)))
+      (λ was. or_right _ _ ((is_authorized_iff s user r).1 (a.0, was, a.2)))
+      (or_cases _ _ (sym (has-with_key pairs_total (user, role) s.assigned (user, a.0)) ∙ a.1)))
+      (λ e. ⊎_elim
+      (λ i. (is_authorized_iff assigned_state user r).1 (role, has-with_key pairs_total (user, role) s.assigned (user, role) ∙ or_left _ _ (ties_itself pairs_total (user, role)), (inherits_iff s.roles s.declared role r).0 i))
+      (λ was. let a = (is_authorized_iff s user r).0 was in (is_authorized_iff assigned_state user r).1 (a.0, still pairs_total (user, role) s.assigned (user, a.0) a.1, a.2))
+      (or_cases _ _ e))
+
+  -- and nobody else
+  others_gain_nothing : (other : Name) → eq_by_cmp name_cmp user other ≡ false → (r : Name) → is_authorized assigned_state other r ≡ is_authorized s other r
+  others_gain_nothing other apart r = same_bits _ _
+      (λ e. let a = (is_authorized_iff assigned_state other r).0 e in ⊎_elim
+      (λ same. let one = one_key pairs_exact (other, a.0) (user, role) same in absurd (false≢true (sym apart ∙ subst (λ z. eq_by_cmp name_cmp user z ≡ true) (sym (ap (λ p. p.0) one)) (ties_itself names_total user))))
+      (λ was. (is_authorized_iff s other r).1 (a.0, was, a.2))
+      (or_cases _ _ (sym (has-with_key pairs_total (user, role) s.assigned (other, a.0)) ∙ a.1)))
+      (λ e. let a = (is_authorized_iff s other r).0 e in (is_authorized_iff assigned_state other r).1 (a.0, still pairs_total (user, role) s.assigned (other, a.0) a.1, a.2))
+
+  pub assigned_violated : IsSound s → has name_cmp user s.users ≡ true → is_violated Static (change (AssignUser user role) s) ≡ breaks_with s role user
+  assigned_violated h is =
+      any_one (breaks_static assigned_state) s.users user is
+      (λ other m apart. breaks_same (is_authorized assigned_state other) (is_authorized s other) (others_gain_nothing other apart) s.static_sets ∙ unbroken s h other m)
+      ∙ breaks_same (is_authorized assigned_state user) (λ r. inherits_in s role r || is_authorized s user r) user_gains s.static_sets
+
+module _ (a d : Name) (s : State) (is_a : has name_cmp a s.roles ≡ true) (is_d : has name_cmp d s.roles ≡ true) where
+  abbrev declared_state : State
+  declared_state = record s { declared = with_key pair_cmp (a, d) s.declared }
+
+  -- with one more pair, who is authorized for the ascendant gains what the descendant inherits
+  pair_gives : (user r : Name) → is_authorized declared_state user r ≡ (is_authorized s user r || (is_authorized s user a && inherits_in s d r))
+  pair_gives user r = same_bits _ _
+      (λ e. let x = (is_authorized_iff declared_state user r).0 e in ⊎_elim
+      (λ direct. or_left _ _ ((is_authorized_iff s user r).1 (x.0, x.1, direct)))
+      (λ over. or_right _ _ (and_from _ _ ((is_authorized_iff s user a).1 (x.0, x.1, over.0)) ((inherits_iff s.roles s.declared d r).1 over.1)))
+      (inherits_over s.roles s.declared a d x.0 r x.2))
+      (λ e. ⊎_elim
+      (λ was. let x = (is_authorized_iff s user r).0 was in (is_authorized_iff declared_state user r).1 (x.0, x.1, on x.0 r x.2))
+      (λ both.
+      let parts = and_parts _ _ both in
+      let x = (is_authorized_iff s user a).0 parts.0 in
+      let pair : Inherits s.roles declared_state.declared a d = (d ∷ [], (is_a, has-with_key pairs_total (a, d) s.declared (a, d) ∙ or_left _ _ (ties_itself pairs_total (a, d)), (is_d, refl))) in
+      let below = on d r ((inherits_iff s.roles s.declared d r).0 parts.1) in
+      (is_authorized_iff declared_state user r).1 (x.0, x.1, joined s.roles declared_state.declared x.0 a r (on x.0 a x.2) (joined s.roles declared_state.declared a d r pair below)))
+      (or_cases _ _ e))
+    where
+      on : (r q : Name) → Inherits s.roles s.declared r q → Inherits s.roles declared_state.declared r q
+      on r q i = inherits_still s.roles s.roles s.declared declared_state.declared (λ x m. m) (still pairs_total (a, d) s.declared) r q i
+
+  below_one : IsSound s → (user : Name) → has name_cmp user s.users ≡ true → breaks_static declared_state user ≡ (is_authorized s user a && breaks_with s d user)
+  below_one h user is = go (is_authorized s user a) refl
+    where
+      swap : (x y : Bool) → (x || (true && y)) ≡ (y || x)
+      swap true true = refl
+      swap true false = refl
+      swap false true = refl
+      swap false false = refl
+
+      left : (x y : Bool) → (x || (false && y)) ≡ x
+      left true y = refl
+      left false y = refl
+
+      go : (b : Bool) → is_authorized s user a ≡ b → breaks_static declared_state user ≡ (b && breaks_with s d user)
+      go true e = breaks_same (is_authorized declared_state user) (λ r. inherits_in s d r || is_authorized s user r)
+          (λ r. pair_gives user r ∙ ap (λ b. is_authorized s user r || (b && inherits_in s d r)) e ∙ swap (is_authorized s user r) (inherits_in s d r)) s.static_sets
+      go false e = breaks_same (is_authorized declared_state user) (is_authorized s user)
+          (λ r. pair_gives user r ∙ ap (λ b. is_authorized s user r || (b && inherits_in s d r)) e ∙ left (is_authorized s user r) (inherits_in s d r)) s.static_sets
+          ∙ unbroken s h user is
+
+  pub declared_violated : IsSound s → is_violated Static (change (AddInheritance a d) s) ≡ breaks_below s a d
+  declared_violated h = members_same (breaks_static declared_state) (λ user. is_authorized s user a && breaks_with s d user) s.users (below_one h)
+    where
+      members_same : (p q : Name → Bool) (xs : List Name) → ((x : Name) → has name_cmp x xs ≡ true → p x ≡ q x) → list_any p xs ≡ list_any q xs
+      members_same p q [] same = refl
+      members_same p q (x ∷ xs) same = (λ i. same x (or_left _ _ (ties_itself names_total x)) i || members_same p q xs (λ y m. same y (or_right _ _ m)) i)

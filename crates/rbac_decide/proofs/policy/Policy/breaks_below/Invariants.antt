@@ -1,0 +1,11 @@
+use Rattle.std.proofs.Common.{◌≡◌, ◌&&◌, drop}
+use Rattle.std.specs.List.{list_any}
+use Rattle.rbac_words.specs.Name.{Name}
+use Rattle.rbac_words.specs.Authorization.{is_authorized}
+use Rattle.rbac_decide.specs.Breaking.{breaks_with}
+use Rattle.rbac_decide.proofs.policy.Policy.breaks_below.Given as goal
+
+abbrev pub invariant-loop-user : goal.invariant-loop-user
+invariant-loop-user l =
+    list_any (λ (user : Name). is_authorized l.self user l.ascendant && breaks_with l.self l.descendant user) l.user-items
+    ≡ list_any (λ (user : Name). is_authorized l.self user l.ascendant && breaks_with l.self l.descendant user) (drop l.user-index l.user-items)

@@ -1,0 +1,22 @@
+-- What would break separation of duty, asked of the state before the change.
+use Rattle.std.specs.Prelude.{List, Bool, ◌||◌, ◌&&◌}
+use Rattle.std.specs.List.{list_any}
+use Rattle.rbac_words.specs.Name.{Name}
+use Rattle.rbac_words.specs.State.{State}
+use Rattle.rbac_words.specs.Separation.{RoleSet, is_broken_by, is_broken}
+use Rattle.rbac_words.specs.Authorization.{inherits_in, is_authorized}
+use Rattle.rbac_words.specs.declared.separation.Separation.{Separation}
+use Rattle.rbac_words.specs.declared.separation.Separation.TheVariants.{Static, Dynamic}
+
+-- the user would break a static set with this role and what it inherits besides
+abbrev pub breaks_with : State → Name → Name → Bool
+breaks_with s role user = list_any (λ e. is_broken_by (λ r. inherits_in s role r || is_authorized s user r) e.1) s.static_sets
+
+-- some user who is authorized for the ascendant would break a static set with the descendant
+abbrev pub breaks_below : State → Name → Name → Bool
+breaks_below s ascendant descendant = list_any (λ user. is_authorized s user ascendant && breaks_with s descendant user) s.users
+
+-- some user, or some session, would break the set
+abbrev pub breaks_set : Separation → State → RoleSet → Bool
+breaks_set Static s set = list_any (λ user. is_broken_by (is_authorized s user) set) s.users
+breaks_set Dynamic s set = list_any (λ x. is_broken x.1.active set) s.sessions

@@ -1,0 +1,249 @@
+//! What separation of duty asks: the sets of a kind, and who would break one.
+ghost use Rattle.std.specs.Prelude.{◌≡◌, ◌||◌, ◌&&◌, nat_le, length, is_some, IfOk};
+ghost use Rattle.sorted_keys.specs.Keys.{without};
+ghost use Rattle.std.specs.List.{list_any};
+ghost use Rattle.std.specs.Option.{option_copied};
+ghost use Rattle.std.specs.FinMap.Entries.{find};
+ghost use Rattle.rbac_words.specs.Name.{Name as NameValue, name_cmp};
+ghost use Rattle.rbac_words.specs.Separation.{first_broken, is_well_sized, is_constrained, is_broken_by};
+ghost use Rattle.rbac_words.specs.Change.{with_member, without_member, with_cardinality, with_active};
+ghost use Rattle.rbac_words.specs.Authorization.{is_authorized as is_authorized_in};
+ghost use Rattle.rbac_words.specs.Constraints.{sets_of, breaks_dynamic};
+ghost use Rattle.rbac_words.specs.Rows.{found_and, is_set, is_member};
+ghost use Rattle.rbac_words.specs.declared.separation.Separation.TheVariants.{Static, Dynamic};
+ghost use Rattle.rbac_decide.specs.Breaking.{breaks_with, breaks_below, breaks_set};
+
+use crate::authorization::{authorized_with, count_authorized};
+use crate::breaking::Breaking;
+use crate::policy::Policy;
+use rbac_separation::{RoleSet, SetTable};
+use rbac_words::{Name, NameSet, Separation};
+use std::alloc::{AllocError, Global};
+
+/// Whether a set of so many roles may have this number.
+pub fn is_well_sized(n: u32, roles: usize) -> bool
+    ensures { result ≡ (nat_le 2 n && nat_le n roles) }
+{
+    2 <= n && n as usize <= roles
+}
+
+// How many of the roles are others than this one.
+fn count_others(roles: &[Name], role: &Name) -> usize
+    ensures { result ≡ length (without name_cmp role.now roles.now) }
+{
+    roles.iter().filter(|other| role.cmp(other).is_ne()).count()
+}
+
+// Whether the roles break some of the sets.
+fn is_over(sets: &SetTable, roles: &NameSet) -> bool
+    ensures { result ≡ is_some (first_broken roles.now sets.now.content) }
+{
+    sets.over(roles).is_some()
+}
+
+impl Policy {
+    // The sets of a kind.
+    fn sets(&self, kind: Separation) -> &SetTable
+        ensures { result.now.content ≡ sets_of kind self.now }
+    {
+        match kind {
+            Separation::Static => &self.tables.static_sets,
+            Separation::Dynamic => &self.tables.dynamic_sets,
+        }
+    }
+
+    /// How many sets of a kind there are.
+    pub fn set_count(&self, kind: Separation) -> usize
+        ensures { result ≡ length (sets_of kind self.now) }
+    {
+        self.sets(kind).len()
+    }
+
+    /// Whether there is a set of this name of the kind.
+    pub fn is_set(&self, kind: Separation, set: &Name) -> bool
+        ensures { result ≡ is_set kind self.now set.now }
+    {
+        self.sets(kind).contains(set)
+    }
+
+    /// The set of this name of the kind.
+    pub fn set(&self, kind: Separation, set: &Name) -> Option<&RoleSet>
+        ensures { option_copied result ≡ find name_cmp set.now (sets_of kind self.now) }
+    {
+        self.sets(kind).get(set)
+    }
+
+    /// Whether the role is in the set of the kind.
+    pub fn is_member(&self, kind: Separation, set: &Name, role: &Name) -> bool
+        ensures { result ≡ is_member kind self.now set.now role.now }
+    {
+        match self.set(kind, set) {
+            Some(set) => set.roles.contains(role),
+            None => false,
+        }
+    }
+
+    /// Whether the role is in a set of either kind.
+    pub fn is_constrained(&self, role: &Name) -> bool
+        ensures { result ≡ (is_constrained role.now self.now.static_sets || is_constrained role.now self.now.dynamic_sets) }
+    {
+        self.tables.static_sets.holds_role(role) || self.tables.dynamic_sets.holds_role(role)
+    }
+
+    /// Whether the user would break a static set with this role, and what it inherits, besides.
+    pub fn breaks_with(&self, alloc: Global, role: &Name, user: &Name) -> Result<bool, AllocError>
+        ensures { IfOk result (λ breaks. breaks ≡ breaks_with self.now role.now user.now) }
+    {
+        let roles = authorized_with(alloc, &self.tables.sets, &self.tables.hierarchy, user, role)?;
+        Ok(is_over(&self.tables.static_sets, &roles))
+    }
+
+    // Whether the user is authorized for the ascendant, and would break a static set with the descendant.
+    fn breaks_through(
+        &self,
+        alloc: Global,
+        ascendant: &Name,
+        descendant: &Name,
+        user: &Name,
+    ) -> Result<bool, AllocError>
+        ensures { IfOk result (λ breaks. breaks ≡ (is_authorized_in self.now user.now ascendant.now && breaks_with self.now descendant.now user.now)) }
+    {
+        if !self.is_authorized(user, ascendant) {
+            return Ok(false);
+        }
+        self.breaks_with(alloc, descendant, user)
+    }
+
+    /// Whether some user who is authorized for the ascendant would break a static set with the descendant.
+    pub fn breaks_below(
+        &self,
+        alloc: Global,
+        ascendant: &Name,
+        descendant: &Name,
+    ) -> Result<bool, AllocError>
+        ensures { IfOk result (λ breaks. breaks ≡ breaks_below self.now ascendant.now descendant.now) }
+    {
+        for user in self.tables.sets.users() {
+            if self.breaks_through(alloc, ascendant, descendant, user)? {
+                return Ok(true);
+            }
+        }
+        Ok(false)
+    }
+
+    /// Whether as many of the active roles are in some dynamic set as its number.
+    pub fn breaks_dynamic(&self, active: &NameSet) -> bool
+        ensures { (owner : NameValue) → result ≡ breaks_dynamic self.now (record { owner = owner; active = active.now }) }
+    {
+        is_over(&self.tables.dynamic_sets, active)
+    }
+
+    // Whether the user is authorized for as many of the roles as the number.
+    fn user_breaks(&self, user: &Name, roles: &NameSet, n: u32) -> bool
+        ensures { result ≡ is_broken_by (is_authorized_in self.now user.now) (record { roles = roles.now; cardinality = n }) }
+    {
+        count_authorized(
+            &self.tables.sets,
+            &self.tables.hierarchy,
+            user,
+            roles.names(),
+        ) >= n as usize
+    }
+
+    // Whether some user would break the static set.
+    fn some_user_breaks(&self, roles: &NameSet, n: u32) -> bool
+        ensures { result ≡ breaks_set Static self.now (record { roles = roles.now; cardinality = n }) }
+    {
+        self.tables
+            .sets
+            .users()
+            .iter()
+            .any(|user| self.user_breaks(user, roles, n))
+    }
+
+    // Whether some session would break the dynamic set.
+    fn some_session_breaks(&self, roles: &NameSet, n: u32) -> bool
+        ensures { result ≡ breaks_set Dynamic self.now (record { roles = roles.now; cardinality = n }) }
+    {
+        self.tables.sessions.any(&Breaking { roles, n })
+    }
+
+    /// Whether some user, or some session, would break a set of these roles with this number.
+    pub fn breaks_set(&self, kind: Separation, roles: &NameSet, n: u32) -> bool
+        ensures { result ≡ breaks_set kind self.now (record { roles = roles.now; cardinality = n }) }
+    {
+        match kind {
+            Separation::Static => self.some_user_breaks(roles, n),
+            Separation::Dynamic => self.some_session_breaks(roles, n),
+        }
+    }
+
+    /// Whether some user, or some session, would break the set with this role besides.
+    pub fn breaks_with_member(
+        &self,
+        alloc: Global,
+        kind: Separation,
+        set: &Name,
+        role: &Name,
+    ) -> Result<bool, AllocError>
+        ensures { IfOk result (λ breaks. breaks ≡ found_and (λ x. breaks_set kind self.now (with_member role.now x)) (find name_cmp set.now (sets_of kind self.now))) }
+    {
+        match self.set(kind, set) {
+            Some(set) => {
+                let mut roles = set.roles.copy(alloc)?;
+                roles.add(role.copy(alloc)?)?;
+                Ok(self.breaks_set(kind, &roles, set.cardinality))
+            }
+            None => Ok(false),
+        }
+    }
+
+    /// Whether the set may have its number without the role.
+    pub fn is_well_sized_without(&self, kind: Separation, set: &Name, role: &Name) -> bool
+        ensures { result ≡ found_and (λ x. is_well_sized (without_member role.now x)) (find name_cmp set.now (sets_of kind self.now)) }
+    {
+        match self.set(kind, set) {
+            Some(set) => is_well_sized(set.cardinality, count_others(set.roles.names(), role)),
+            None => false,
+        }
+    }
+
+    /// Whether the set may have this number.
+    pub fn is_well_sized_with(&self, kind: Separation, set: &Name, n: u32) -> bool
+        ensures { result ≡ found_and (λ x. is_well_sized (with_cardinality n x)) (find name_cmp set.now (sets_of kind self.now)) }
+    {
+        match self.set(kind, set) {
+            Some(set) => is_well_sized(n, set.roles.len()),
+            None => false,
+        }
+    }
+
+    /// Whether some user, or some session, would break the set with this number.
+    pub fn breaks_with_cardinality(&self, kind: Separation, set: &Name, n: u32) -> bool
+        ensures { result ≡ found_and (λ x. breaks_set kind self.now (with_cardinality n x)) (find name_cmp set.now (sets_of kind self.now)) }
+    {
+        match self.set(kind, set) {
+            Some(set) => self.breaks_set(kind, &set.roles, n),
+            None => false,
+        }
+    }
+
+    /// Whether as many roles of some dynamic set as its number would be active in the session with this role besides.
+    pub fn breaks_active(
+        &self,
+        alloc: Global,
+        session: &Name,
+        role: &Name,
+    ) -> Result<bool, AllocError>
+        ensures { IfOk result (λ breaks. breaks ≡ found_and (λ x. breaks_dynamic self.now (with_active role.now x)) (find name_cmp session.now self.now.sessions)) }
+    {
+        match self.session(session) {
+            Some(session) => {
+                let mut active = session.active.copy(alloc)?;
+                active.add(role.copy(alloc)?)?;
+                Ok(self.breaks_dynamic(&active))
+            }
+            None => Ok(false),
+        }
+    }
+}

@@ -1,0 +1,82 @@
+//! The readers of the commands about sets of separation, each for both kinds.
+ghost use Rattle.serde_json.specs.View.{members_view};
+ghost use Rattle.rbac_lines.specs.Fields.{Reads, by_word};
+ghost use Rattle.rbac_lines.specs.Command.{separation_commands, create_set, delete_set, add_role_member, delete_role_member, set_cardinality};
+
+use crate::reading::commands::{one_name, two_names};
+use crate::reading::fields::{Object, name_in, names_in, only_keys, whole_in};
+use crate::refusal::LineRefusal;
+use rbac_words::{Command, Separation};
+use std::alloc::Global;
+
+/// Reads a command object of this name, where it is about a set of separation.
+pub fn separation_command(
+    alloc: Global,
+    fields: &Object,
+    name: &str,
+) -> Result<Command, LineRefusal>
+    ensures { Reads (by_word separation_commands name.now (members_view fields.now.entries)) result }
+{
+    match name {
+        "CreateSsdSet" => create_set(alloc, fields, Separation::Static),
+        "DeleteSsdSet" => delete_set(alloc, fields, Separation::Static),
+        "AddSsdRoleMember" => add_role_member(alloc, fields, Separation::Static),
+        "DeleteSsdRoleMember" => delete_role_member(alloc, fields, Separation::Static),
+        "SetSsdSetCardinality" => set_cardinality(alloc, fields, Separation::Static),
+        "CreateDsdSet" => create_set(alloc, fields, Separation::Dynamic),
+        "DeleteDsdSet" => delete_set(alloc, fields, Separation::Dynamic),
+        "AddDsdRoleMember" => add_role_member(alloc, fields, Separation::Dynamic),
+        "DeleteDsdRoleMember" => delete_role_member(alloc, fields, Separation::Dynamic),
+        "SetDsdSetCardinality" => set_cardinality(alloc, fields, Separation::Dynamic),
+        _ => Err(LineRefusal::UnknownWord),
+    }
+}
+
+fn create_set(alloc: Global, fields: &Object, kind: Separation) -> Result<Command, LineRefusal>
+    ensures { Reads (create_set kind (members_view fields.now.entries)) result }
+{
+    let set = name_in(alloc, fields, "set")?;
+    let roles = names_in(alloc, fields, "roles")?;
+    let n = whole_in(fields, "n")?;
+    only_keys(fields, &["name", "set", "roles", "n"])?;
+    Ok(Command::CreateSet {
+        kind,
+        set,
+        roles,
+        n,
+    })
+}
+
+fn delete_set(alloc: Global, fields: &Object, kind: Separation) -> Result<Command, LineRefusal>
+    ensures { Reads (delete_set kind (members_view fields.now.entries)) result }
+{
+    let set = one_name(alloc, fields, "set")?;
+    Ok(Command::DeleteSet { kind, set })
+}
+
+fn add_role_member(alloc: Global, fields: &Object, kind: Separation) -> Result<Command, LineRefusal>
+    ensures { Reads (add_role_member kind (members_view fields.now.entries)) result }
+{
+    let (set, role) = two_names(alloc, fields, "set", "role")?;
+    Ok(Command::AddRoleMember { kind, set, role })
+}
+
+fn delete_role_member(
+    alloc: Global,
+    fields: &Object,
+    kind: Separation,
+) -> Result<Command, LineRefusal>
+    ensures { Reads (delete_role_member kind (members_view fields.now.entries)) result }
+{
+    let (set, role) = two_names(alloc, fields, "set", "role")?;
+    Ok(Command::DeleteRoleMember { kind, set, role })
+}
+
+fn set_cardinality(alloc: Global, fields: &Object, kind: Separation) -> Result<Command, LineRefusal>
+    ensures { Reads (set_cardinality kind (members_view fields.now.entries)) result }
+{
+    let set = name_in(alloc, fields, "set")?;
+    let n = whole_in(fields, "n")?;
+    only_keys(fields, &["name", "set", "n"])?;
+    Ok(Command::SetCardinality { kind, set, n })
+}

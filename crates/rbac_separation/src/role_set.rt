@@ -1,0 +1,63 @@
+//! A set of roles and its number.
+ghost use Rattle.std.specs.Prelude.{◌≡◌, ◌↔◌, IsTrue, IfOk, count_by};
+ghost use Rattle.sorted_keys.specs.Keys.{has};
+ghost use Rattle.rbac_words.specs.Name.{name_cmp};
+ghost use Rattle.rbac_words.specs.Separation.{is_broken};
+
+use rbac_words::{Name, NameSet};
+use sorted_keys::{Duplicate, Same};
+use std::alloc::{AllocError, Global};
+use std::marker::Model;
+
+/// Roles of which fewer than a number may come together.
+#[derive(Drop)]
+pub struct RoleSet {
+    pub roles: NameSet,
+    pub cardinality: u32,
+}
+
+impl Model for RoleSet {
+    ghost use Rattle.rbac_words.specs.Separation.{RoleSet as RoleSetValue};
+
+    ghost Value = { RoleSetValue };
+
+    ghost view = { λ s. record { roles = s.roles; cardinality = s.cardinality } };
+}
+
+// How many of these names are in the set.
+fn count_among(names: &[Name], set: &NameSet) -> usize
+    ensures { result ≡ count_by (λ n. has name_cmp n set.now) names.now }
+{
+    names.iter().filter(|name| set.contains(name)).count()
+}
+
+impl RoleSet {
+    // How many of its roles are among these.
+    fn count_among(&self, roles: &NameSet) -> usize
+        ensures { result ≡ count_by (λ r. has name_cmp r roles.now) self.now.roles }
+    {
+        count_among(self.roles.names(), roles)
+    }
+
+    // Whether its number of its roles, or more, are among these.
+    pub(crate) fn is_broken_by(&self, roles: &NameSet) -> bool
+        ensures { result ≡ is_broken roles.now self.now }
+    {
+        self.cardinality as usize <= self.count_among(roles)
+    }
+}
+
+impl Duplicate for RoleSet {
+    fn duplicate(&self, alloc: Global) -> Result<RoleSet, AllocError> {
+        Ok(RoleSet {
+            roles: self.roles.copy(alloc)?,
+            cardinality: self.cardinality,
+        })
+    }
+}
+
+impl Same for RoleSet {
+    fn same(&self, other: &RoleSet) -> bool {
+        self.cardinality == other.cardinality && self.roles.same(&other.roles)
+    }
+}

@@ -1,0 +1,253 @@
+//! Each public call with ample memory. What is expected was written by hand.
+
+use crate::{RoleSet, SetTable};
+use rbac_words::{Name, NameSet};
+use sorted_keys::{Duplicate, Same};
+use std::alloc::Global;
+use std::process::Abort;
+use std::test::Fail;
+
+fn name(rt: &impl Abort, alloc: Global, text: &str) -> Name {
+    Name::read(alloc, text.as_bytes()).expect(rt, "a name")
+}
+
+fn roles(rt: &impl Abort, alloc: Global, texts: &[&str]) -> NameSet {
+    let mut roles = NameSet::new(alloc);
+    for text in texts {
+        roles.add(name(rt, alloc, text)).expect(rt, "memory");
+    }
+    roles
+}
+
+fn create(rt: &impl Abort, alloc: Global, sets: &mut SetTable, set: &str, texts: &[&str]) {
+    let set = name(rt, alloc, set);
+    let roles = roles(rt, alloc, texts);
+    sets.create(set, roles, 2).expect(rt, "memory");
+}
+
+fn add(rt: &impl Abort, alloc: Global, sets: &mut SetTable, set: &str, role: &str) {
+    let set = name(rt, alloc, set);
+    let role = name(rt, alloc, role);
+    sets.add_member(&set, role).expect(rt, "memory");
+}
+
+// The set d of two of a, b and c.
+fn one_set(rt: &impl Abort, alloc: Global) -> SetTable {
+    let mut sets = SetTable::empty(alloc);
+    create(rt, alloc, &mut sets, "d", &["a", "b"]);
+    add(rt, alloc, &mut sets, "d", "c");
+    sets
+}
+
+// d as it is above, and e of two of a and c.
+fn two_sets(rt: &impl Abort, alloc: Global) -> SetTable {
+    let mut sets = one_set(rt, alloc);
+    create(rt, alloc, &mut sets, "e", &["c", "a"]);
+    sets
+}
+
+fn assert_names(rt: &impl Abort, names: &NameSet, texts: &[&str]) {
+    assert_eq!(rt; names.len(), texts.len());
+    for (name, text) in names.names().iter().zip(texts) {
+        assert_eq!(rt; name.as_bytes(), text.as_bytes());
+    }
+}
+
+fn assert_roles(rt: &impl Abort, alloc: Global, sets: &SetTable, set: &str, texts: &[&str]) {
+    let set = name(rt, alloc, set);
+    assert_names(rt, sets.roles(&set).expect(rt, "a set"), texts);
+}
+
+fn assert_cardinality(rt: &impl Abort, alloc: Global, sets: &SetTable, set: &str, number: u32) {
+    let set = name(rt, alloc, set);
+    assert_eq!(rt; sets.cardinality(&set).expect(rt, "a set"), number);
+}
+
+fn assert_contains(rt: &impl Abort, alloc: Global, sets: &SetTable, set: &str, is: bool) {
+    assert_eq!(rt; sets.contains(&name(rt, alloc, set)), is);
+}
+
+fn assert_over(rt: &impl Abort, alloc: Global, sets: &SetTable, texts: &[&str], set: &str) {
+    let roles = roles(rt, alloc, texts);
+    let over = sets.over(&roles).expect(rt, "a set");
+    assert_eq!(rt; over.as_bytes(), set.as_bytes());
+}
+
+fn assert_none_over(rt: &impl Abort, alloc: Global, sets: &SetTable, texts: &[&str]) {
+    let roles = roles(rt, alloc, texts);
+    assert!(rt; sets.over(&roles).is_none());
+}
+
+fn assert_holds(rt: &impl Abort, alloc: Global, sets: &SetTable, role: &str, is: bool) {
+    assert_eq!(rt; sets.holds_role(&name(rt, alloc, role)), is);
+}
+
+#[test]
+fn an_empty_table_has_no_sets(rt: HostRuntime) -> Result<(), Fail> {
+    let alloc = rt.alloc();
+    let sets = SetTable::empty(alloc);
+    assert_eq!(rt; sets.len(), 0);
+    assert_contains(&rt, alloc, &sets, "d", false);
+    assert_none_over(&rt, alloc, &sets, &["a", "b"]);
+    Ok(())
+}
+
+#[test]
+fn a_set_has_its_roles_and_its_number(rt: HostRuntime) -> Result<(), Fail> {
+    let alloc = rt.alloc();
+    let sets = two_sets(&rt, alloc);
+    assert_eq!(rt; sets.len(), 2);
+    assert_contains(&rt, alloc, &sets, "e", true);
+    assert_roles(&rt, alloc, &sets, "d", &["a", "b", "c"]);
+    assert_roles(&rt, alloc, &sets, "e", &["a", "c"]);
+    assert_cardinality(&rt, alloc, &sets, "d", 2);
+    Ok(())
+}
+
+#[test]
+fn a_set_is_lent(rt: HostRuntime) -> Result<(), Fail> {
+    let alloc = rt.alloc();
+    let sets = two_sets(&rt, alloc);
+    let set = sets.get(&name(&rt, alloc, "e")).expect(&rt, "a set");
+    assert_eq!(rt; set.cardinality, 2);
+    assert_names(&rt, &set.roles, &["a", "c"]);
+    assert!(rt; sets.get(&name(&rt, alloc, "a")).is_none());
+    Ok(())
+}
+
+#[test]
+fn a_set_that_is_not_there_has_neither(rt: HostRuntime) -> Result<(), Fail> {
+    let alloc = rt.alloc();
+    let sets = two_sets(&rt, alloc);
+    let other = name(&rt, alloc, "f");
+    assert!(rt; !sets.contains(&other));
+    assert!(rt; sets.roles(&other).is_none());
+    assert!(rt; sets.cardinality(&other).is_none());
+    Ok(())
+}
+
+#[test]
+fn the_names_come_in_order(rt: HostRuntime) -> Result<(), Fail> {
+    let alloc = rt.alloc();
+    let mut sets = two_sets(&rt, alloc);
+    create(&rt, alloc, &mut sets, "c", &["a"]);
+    assert_names(&rt, &sets.names(alloc)?, &["c", "d", "e"]);
+    Ok(())
+}
+
+#[test]
+fn as_many_roles_as_the_number_are_over(rt: HostRuntime) -> Result<(), Fail> {
+    let alloc = rt.alloc();
+    let sets = one_set(&rt, alloc);
+    assert_over(&rt, alloc, &sets, &["a", "c"], "d");
+    assert_over(&rt, alloc, &sets, &["a", "b", "c"], "d");
+    assert_none_over(&rt, alloc, &sets, &["a"]);
+    assert_none_over(&rt, alloc, &sets, &["a", "y", "z"]);
+    Ok(())
+}
+
+#[test]
+fn the_first_set_by_name_is_told(rt: HostRuntime) -> Result<(), Fail> {
+    let alloc = rt.alloc();
+    let mut sets = two_sets(&rt, alloc);
+    assert_over(&rt, alloc, &sets, &["a", "c"], "d");
+    sets.delete(&name(&rt, alloc, "d"));
+    assert_over(&rt, alloc, &sets, &["a", "c"], "e");
+    assert_none_over(&rt, alloc, &sets, &["a", "b"]);
+    Ok(())
+}
+
+#[test]
+fn a_greater_number_lets_more_roles_come_together(rt: HostRuntime) -> Result<(), Fail> {
+    let alloc = rt.alloc();
+    let mut sets = one_set(&rt, alloc);
+    assert_over(&rt, alloc, &sets, &["a", "b"], "d");
+    sets.set_cardinality(&name(&rt, alloc, "d"), 3);
+    assert_cardinality(&rt, alloc, &sets, "d", 3);
+    assert_none_over(&rt, alloc, &sets, &["a", "b"]);
+    assert_over(&rt, alloc, &sets, &["a", "b", "c"], "d");
+    Ok(())
+}
+
+#[test]
+fn a_role_of_any_set_is_held(rt: HostRuntime) -> Result<(), Fail> {
+    let alloc = rt.alloc();
+    let mut sets = two_sets(&rt, alloc);
+    add(&rt, alloc, &mut sets, "e", "g");
+    assert_holds(&rt, alloc, &sets, "a", true);
+    assert_holds(&rt, alloc, &sets, "g", true);
+    assert_holds(&rt, alloc, &sets, "z", false);
+    Ok(())
+}
+
+#[test]
+fn a_role_is_taken_out(rt: HostRuntime) -> Result<(), Fail> {
+    let alloc = rt.alloc();
+    let mut sets = two_sets(&rt, alloc);
+    sets.remove_member(&name(&rt, alloc, "d"), &name(&rt, alloc, "c"));
+    assert_roles(&rt, alloc, &sets, "d", &["a", "b"]);
+    assert_roles(&rt, alloc, &sets, "e", &["a", "c"]);
+    assert_over(&rt, alloc, &sets, &["a", "c"], "e");
+    Ok(())
+}
+
+#[test]
+fn a_set_of_the_same_name_is_replaced(rt: HostRuntime) -> Result<(), Fail> {
+    let alloc = rt.alloc();
+    let mut sets = two_sets(&rt, alloc);
+    let roles = roles(&rt, alloc, &["z", "y"]);
+    sets.create(name(&rt, alloc, "d"), roles, 5)?;
+    assert_eq!(rt; sets.len(), 2);
+    assert_roles(&rt, alloc, &sets, "d", &["y", "z"]);
+    assert_cardinality(&rt, alloc, &sets, "d", 5);
+    Ok(())
+}
+
+#[test]
+fn a_change_of_a_set_that_is_not_there_changes_nothing(rt: HostRuntime) -> Result<(), Fail> {
+    let alloc = rt.alloc();
+    let sets = two_sets(&rt, alloc);
+    let mut copy = sets.copy(alloc)?;
+    let other = name(&rt, alloc, "f");
+    add(&rt, alloc, &mut copy, "f", "a");
+    copy.remove_member(&other, &name(&rt, alloc, "a"));
+    copy.set_cardinality(&other, 3);
+    copy.delete(&other);
+    assert!(rt; copy.same(&sets));
+    Ok(())
+}
+
+#[test]
+fn a_copy_is_the_same_until_a_number_changes(rt: HostRuntime) -> Result<(), Fail> {
+    let alloc = rt.alloc();
+    let sets = two_sets(&rt, alloc);
+    let mut copy = sets.copy(alloc)?;
+    assert!(rt; copy.same(&sets));
+    copy.set_cardinality(&name(&rt, alloc, "e"), 3);
+    assert!(rt; !copy.same(&sets));
+    Ok(())
+}
+
+#[test]
+fn a_copy_is_the_same_until_roles_change(rt: HostRuntime) -> Result<(), Fail> {
+    let alloc = rt.alloc();
+    let sets = two_sets(&rt, alloc);
+    let mut copy = sets.copy(alloc)?;
+    add(&rt, alloc, &mut copy, "e", "b");
+    assert!(rt; !copy.same(&sets));
+    Ok(())
+}
+
+#[test]
+fn one_set_is_copied_and_compared(rt: HostRuntime) -> Result<(), Fail> {
+    let alloc = rt.alloc();
+    let set = RoleSet {
+        roles: roles(&rt, alloc, &["a", "b"]),
+        cardinality: 2,
+    };
+    let mut copy = set.duplicate(alloc)?;
+    assert!(rt; copy.same(&set));
+    copy.cardinality = 3;
+    assert!(rt; !copy.same(&set));
+    Ok(())
+}
