@@ -58,13 +58,6 @@ module _ (declared : List (Name × Name)) (rows : List (Name × List Name)) (rig
   pub row_tells : (r q : Name) (names : List Name) (answer : Bool) → Some names ≡ find name_cmp r rows → answer ≡ has name_cmp q names → answer ≡ inherits (roles_in rows) declared r q
   row_tells r q names answer e told = told ∙ ap (has name_cmp q) (row_found r names e) ∙ has_juniors (roles_in rows) declared r q
 
-  -- the roles above a role are its seniors
-  pub seniors_above : (q : Name) → roles_in (filter (λ e. has name_cmp q e.1) rows) ≡ seniors (roles_in rows) declared q
-  seniors_above q =
-      ap (λ t. roles_in (filter (λ e. has name_cmp q e.1) t)) right.juniors
-      ∙ keys_of_kept (juniors (roles_in rows) declared) (λ e. has name_cmp q e.1) (roles_in rows)
-      ∙ filter_agree (λ r. has name_cmp q (juniors (roles_in rows) declared r)) (λ r. inherits (roles_in rows) declared r q) (λ r. has_juniors (roles_in rows) declared r q) (roles_in rows)
-
   -- one role more, with itself alone in its row
   pub role_added : (role : Name) (rows_then : List (Name × List Name)) → has name_cmp role (roles_in rows) ≡ false → rows_then ≡ put name_cmp role (role ∷ []) rows
       → rows_then ≡ rows_over (with_key name_cmp role (roles_in rows)) declared
@@ -118,6 +111,14 @@ key_more p es i e names sorted lt is passes so_far =
     ∙ ap (λ (x : Name × List Name). with_key name_cmp x.0 (roles_in (filter p (take i es)))) is
     ∙ key_kept names_total p es i e sorted lt (ap p (sym is) ∙ passes)
     ∙ ap (λ n. roles_in (filter p (take n es))) (sym (add-one i))
+
+-- the keys that pass are those of the entries whose keys do
+pub keys_where : (p : Name → Bool) (es : List (Name × List Name)) → roles_in (filter (λ e. p e.0) es) ≡ filter p (roles_in es)
+keys_where p [] = refl
+keys_where p (e ∷ es) = elim (p e.0) as (λ b. roles_in (cond b (e ∷ filter (λ x. p x.0) es) (filter (λ x. p x.0) es)) ≡ cond b (e.0 ∷ filter p (roles_in es)) (filter p (roles_in es))) [
+  | true ↦ ap (λ t. e.0 ∷ t) (keys_where p es)
+  | false ↦ keys_where p es
+]
 
 -- or one that does not
 pub key_less : (p : Name × List Name → Bool) (es : List (Name × List Name)) (i : ℕ) (e : Name × List Name) (names : List Name)

@@ -1,18 +1,31 @@
 //! The roles and the declared pairs of roles.
-ghost use Rattle.std.specs.Prelude.{◌≡◌, ◌↔◌, IsTrue, IfOk, OnOk, OnErr};
+ghost use Rattle.std.specs.Prelude.{◌≡◌, ◌↔◌, ◌||◌, IsTrue, IfOk, OnOk, OnErr, filter};
+ghost use Rattle.std.specs.List.Sorted.{IsStrictlySortedBy};
 ghost use Rattle.sorted_keys.specs.Keys.{has, with_key, without};
 ghost use Rattle.rbac_words.specs.Inheritance.{Inherits, inherits, juniors, seniors};
-ghost use Rattle.rbac_words.specs.Name.{name_cmp, pair_cmp};
+ghost use Rattle.rbac_words.specs.Name.{Name as NameValue, name_cmp, pair_cmp};
 ghost use Rattle.rbac_words.specs.Relations.{without_pairs_of};
 ghost use Rattle.rbac_hierarchy.specs.Order.{no_order};
 ghost use Rattle.rbac_hierarchy.specs.Rows.{RangesOver};
 
 use crate::removal::OtherPairs;
-use crate::rows::{lone_row, renewed_rows, roles_above};
+use crate::rows::{lone_row, renewed_rows, roles_where};
+use crate::seniors::SeniorsOf;
 use rbac_words::{Name, NameSet};
-use sorted_keys::{PairProbe, SortedMap, SortedSet};
+use sorted_keys::{KeyTest, PairProbe, SortedMap, SortedSet};
 use std::alloc::{AllocError, Global};
 use std::marker::Model;
+
+// The names, and copies of these.
+fn with_all(alloc: Global, names: NameSet, added: &[Name]) -> Result<NameSet, AllocError>
+    ensures { IfOk result (λ more. (r : NameValue) → has name_cmp r more ≡ (has name_cmp r names || has name_cmp r added.now)) }
+{
+    let mut more = names;
+    for name in added {
+        more.add_copy(alloc, name)?;
+    }
+    Ok(more)
+}
 
 /// The roles and the declared pairs of roles (RH).
 ///
@@ -155,11 +168,48 @@ impl Hierarchy {
         }
     }
 
+    /// The names, and the roles that the role inherits, itself among them.
+    pub fn with_juniors(
+        &self,
+        alloc: Global,
+        names: NameSet,
+        role: &Name,
+    ) -> Result<NameSet, AllocError>
+        ensures { let h = self.now.content in IfOk result (λ more. (r : NameValue) → has name_cmp r more ≡ (has name_cmp r names || inherits h.roles h.declared role.now r)) }
+    {
+        match self.juniors.get(role) {
+            Some(juniors) => with_all(alloc, names, juniors.names()),
+            None => Ok(names),
+        }
+    }
+
+    /// The roles that pass a test.
+    pub fn roles_where<T: KeyTest<Name>>(
+        &self,
+        alloc: Global,
+        test: &T,
+    ) -> Result<NameSet, AllocError>
+        ensures { IfOk result (λ roles. roles ≡ filter (T.passes test.now) self.now.content.roles) }
+    {
+        roles_where(alloc, self.juniors.entries(), test)
+    }
+
     /// The roles that inherit the role, itself among them.
     pub fn seniors(&self, alloc: Global, role: &Name) -> Result<NameSet, AllocError>
         ensures { let h = self.now.content in IfOk result (λ names. names ≡ seniors h.roles h.declared role.now) }
     {
-        roles_above(alloc, self.juniors.entries(), role)
+        let seniors = SeniorsOf {
+            hierarchy: self,
+            role,
+        };
+        self.roles_where(alloc, &seniors)
+    }
+
+    /// The roles of each hierarchy are in order and without repeats.
+    pub fn invariants(&self)
+        ensures in_order { IsStrictlySortedBy name_cmp self.now.content.roles }
+    {
+        let _juniors = &self.juniors;
     }
 
     /// An equal hierarchy.

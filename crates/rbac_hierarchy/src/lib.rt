@@ -4,9 +4,11 @@
 mod hierarchy;
 mod removal;
 mod rows;
+mod seniors;
 mod walk;
 
 pub use hierarchy::Hierarchy;
+pub use seniors::SeniorsOf;
 
 #[cfg(test)]
 mod tests;

@@ -1,13 +1,13 @@
 //! The rows of juniors.
 ghost use Rattle.std.specs.Prelude.{◌≡◌, ◌∷◌, [], filter, IfOk};
 ghost use Rattle.std.specs.List.Sorted.{IsStrictlySortedBy};
-ghost use Rattle.sorted_keys.specs.Keys.{has, by_key};
+ghost use Rattle.sorted_keys.specs.Keys.{by_key};
 ghost use Rattle.rbac_words.specs.Name.{name_cmp};
 ghost use Rattle.rbac_hierarchy.specs.Rows.{RangesOver, roles_in, rows_over};
 
 use crate::walk::walk;
 use rbac_words::{Name, NameSet};
-use sorted_keys::{SortedMap, SortedSet};
+use sorted_keys::{KeyTest, SortedMap, SortedSet};
 use std::alloc::{AllocError, Global};
 
 /// The rows of the same roles over these pairs.
@@ -28,19 +28,19 @@ pub fn renewed_rows(
     Ok(renewed)
 }
 
-/// The roles in whose rows the name is.
-pub fn roles_above(
+/// The roles of the rows that pass a test.
+pub fn roles_where<T: KeyTest<Name>>(
     alloc: Global,
     rows: &[(Name, NameSet)],
-    name: &Name,
+    test: &T,
 ) -> Result<NameSet, AllocError>
     requires { IsStrictlySortedBy (by_key name_cmp) rows.now }
-    ensures { IfOk result (λ roles. roles ≡ roles_in (filter (λ e. has name_cmp name.now e.1) rows.now)) }
+    ensures { IfOk result (λ roles. roles ≡ filter (T.passes test.now) (roles_in rows.now)) }
 {
     let mut roles = NameSet::new(alloc);
     for entry in rows {
-        if entry.1.contains(name) {
-            roles.add(entry.0.copy(alloc)?)?;
+        if test.test(&entry.0) {
+            roles.add_copy(alloc, &entry.0)?;
         }
     }
     Ok(roles)

@@ -1,5 +1,5 @@
 //! Each public call with ample memory. What is expected was written by hand.
-use crate::Hierarchy;
+use crate::{Hierarchy, SeniorsOf};
 use rbac_words::{Name, NameSet};
 use std::alloc::{AllocError, Global};
 use std::process::Abort;
@@ -176,6 +176,33 @@ fn juniors_and_seniors_are_listed(rt: HostRuntime) -> Result<(), Fail> {
     assert_seniors(&rt, alloc, &hierarchy, "c", &["a", "b", "c", "d"]);
     assert_seniors(&rt, alloc, &hierarchy, "a", &["a"]);
     assert_seniors(&rt, alloc, &hierarchy, "z", &[]);
+    Ok(())
+}
+
+#[test]
+fn juniors_are_added_to_names(rt: HostRuntime) -> Result<(), Fail> {
+    let alloc = rt.alloc();
+    let hierarchy = hierarchy_of(&rt, alloc, &[("b", "c"), ("a", "b"), ("d", "c")]);
+    let names = hierarchy.juniors(alloc, &name(&rt, alloc, "d"))?;
+    let names = hierarchy.with_juniors(alloc, names, &name(&rt, alloc, "b"))?;
+    assert_names(&rt, &names, &["b", "c", "d"]);
+    let names = hierarchy.with_juniors(alloc, names, &name(&rt, alloc, "z"))?;
+    assert_names(&rt, &names, &["b", "c", "d"]);
+    Ok(())
+}
+
+// The roles that inherit a role, by their test.
+fn roles_above(alloc: Global, hierarchy: &Hierarchy, role: &Name) -> Result<NameSet, AllocError> {
+    hierarchy.roles_where(alloc, &SeniorsOf { hierarchy, role })
+}
+
+#[test]
+fn roles_that_pass_are_listed(rt: HostRuntime) -> Result<(), Fail> {
+    let alloc = rt.alloc();
+    let hierarchy = hierarchy_of(&rt, alloc, &[("b", "c"), ("a", "b"), ("d", "c")]);
+    hierarchy.invariants();
+    let roles = roles_above(alloc, &hierarchy, &name(&rt, alloc, "b"))?;
+    assert_names(&rt, &roles, &["a", "b"]);
     Ok(())
 }
 

@@ -1,10 +1,11 @@
 //! The users and roles of a policy, the pairs of both (UA) and the permissions that are granted to roles (PA).
 #![tactic(auto)]
 
-mod gathering;
+mod assigned;
 mod removal;
 mod role_sets;
 
+pub use assigned::{RolesOf, UsersOf};
 pub use role_sets::RoleSets;
 
 #[cfg(test)]

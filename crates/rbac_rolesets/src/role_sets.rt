@@ -6,10 +6,10 @@ ghost use Rattle.rbac_words.specs.Name.{name_cmp, pair_cmp, grant_cmp};
 ghost use Rattle.rbac_words.specs.Relations.{begins_with, users_of, roles_of, without_user, without_role};
 ghost use Rattle.rbac_rolesets.specs.Sets.{Sets, no_sets};
 
-use crate::gathering::{RolesOf, UsersOf, gather};
+use crate::assigned::{RolesOf, UsersOf};
 use crate::removal::{OtherRoles, OtherUsers};
 use rbac_words::{Name, NameSet};
-use sorted_keys::{PairProbe, SortedSet};
+use sorted_keys::{KeyTest, PairProbe, SortedSet};
 use std::alloc::{AllocError, Global};
 use std::marker::Model;
 
@@ -119,18 +119,30 @@ impl RoleSets {
         })
     }
 
+    /// The users that pass a test.
+    pub fn users_where<T: KeyTest<Name>>(
+        &self,
+        alloc: Global,
+        test: &T,
+    ) -> Result<NameSet, AllocError>
+        ensures { IfOk result (λ users. users ≡ filter (T.passes test.now) self.now.content.users) }
+    {
+        Ok(NameSet::of(self.users.copy_where(alloc, test)?))
+    }
+
     /// The users that the role is assigned to.
     pub fn users_of(&self, alloc: Global, role: &Name) -> Result<NameSet, AllocError>
-        ensures { IfOk result (λ users. users ≡ users_of role.now self.now.content.assigned) }
+        ensures { let s = self.now.content in IfOk result (λ users. users ≡ users_of role.now s.users s.assigned) }
     {
-        gather(alloc, self.assigned.keys(), &UsersOf { role })
+        self.users_where(alloc, &UsersOf { sets: self, role })
     }
 
     /// The roles that are assigned to the user.
     pub fn roles_of(&self, alloc: Global, user: &Name) -> Result<NameSet, AllocError>
-        ensures { IfOk result (λ roles. roles ≡ roles_of user.now self.now.content.assigned) }
+        ensures { let s = self.now.content in IfOk result (λ roles. roles ≡ roles_of user.now s.roles s.assigned) }
     {
-        gather(alloc, self.assigned.keys(), &RolesOf { user })
+        let assigned = RolesOf { sets: self, user };
+        Ok(NameSet::of(self.roles.copy_where(alloc, &assigned)?))
     }
 
     /// Adds a user. Where it is there, nothing changes.

@@ -1,7 +1,7 @@
 //! Each public call with ample memory. What is expected was written by hand.
-use crate::RoleSets;
+use crate::{RoleSets, UsersOf};
 use rbac_words::{Name, NameSet};
-use std::alloc::Global;
+use std::alloc::{AllocError, Global};
 use std::process::Abort;
 use std::test::Fail;
 
@@ -138,6 +138,22 @@ fn users_and_roles_are_gathered(rt: HostRuntime) -> Result<(), Fail> {
     assert_roles(&rt, alloc, &sets, "bob", &["clerk", "payer"]);
     assert_roles(&rt, alloc, &sets, "alice", &["clerk"]);
     assert_roles(&rt, alloc, &sets, "clerk", &[]);
+    Ok(())
+}
+
+// The users of a role, by their test.
+fn users_with(alloc: Global, sets: &RoleSets, role: &Name) -> Result<NameSet, AllocError> {
+    sets.users_where(alloc, &UsersOf { sets, role })
+}
+
+#[test]
+fn users_that_pass_are_gathered(rt: HostRuntime) -> Result<(), Fail> {
+    let alloc = rt.alloc();
+    let sets = small_office(&rt, alloc);
+    let payers = users_with(alloc, &sets, &name(&rt, alloc, "payer"))?;
+    assert_names(&rt, &payers, &["bob"]);
+    let clerks = users_with(alloc, &sets, &name(&rt, alloc, "clerk"))?;
+    assert_names(&rt, &clerks, &["alice", "bob"]);
     Ok(())
 }
 

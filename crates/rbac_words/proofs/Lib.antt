@@ -5,6 +5,7 @@ pub mod MessageLemmas
 pub mod NameLemmas
 pub mod PurgeLemmas
 pub mod ReplayLemmas
+pub mod ReviewLemmas
 pub mod SoundParts
 pub mod SoundSeparation
 pub mod SoundSets

@@ -23,7 +23,7 @@ use Rattle.rbac_words.specs.Change.{change, end_sessions, ended_where, with_acti
 use Rattle.rbac_words.specs.Effect.{effect, effect_unless}
 use Rattle.rbac_words.specs.Sound.{IsSessionSound, AreRoleSets, IsSound}
 use Rattle.rbac_words.specs.declared.command.Command.{Command}
-use Rattle.rbac_words.specs.declared.command.Command.TheVariants.{AddUser, DeleteUser, AddRole, DeleteRole, AssignUser, DeassignUser, GrantPermission, RevokePermission, AddInheritance, DeleteInheritance, AddAscendant, AddDescendant, CreateSet, DeleteSet, AddRoleMember, DeleteRoleMember, SetCardinality, CreateSession, DeleteSession, AddActiveRole, DropActiveRole, CheckAccess}
+use Rattle.rbac_words.specs.declared.command.Command.TheVariants.{AddUser, DeleteUser, AddRole, DeleteRole, AssignUser, DeassignUser, GrantPermission, RevokePermission, AddInheritance, DeleteInheritance, AddAscendant, AddDescendant, CreateSet, DeleteSet, AddRoleMember, DeleteRoleMember, SetCardinality, CreateSession, DeleteSession, AddActiveRole, DropActiveRole, CheckAccess, Review as ReviewCommand}
 use Rattle.rbac_words.specs.declared.answer.Denial.{Denial}
 use Rattle.rbac_words.proofs.NameLemmas.{names_total, names_exact, pairs_total, pairs_exact, grants_total, grants_exact, one_key, all_member}
 use Rattle.rbac_words.proofs.StampLemmas.{Each-weaker}
@@ -324,6 +324,7 @@ sound_change (DeleteSession user session) s none h = sound_delete_session sessio
 sound_change (AddActiveRole user session role) s none h = sound_add_active_role user session role s none h
 sound_change (DropActiveRole user session role) s none h = sound_drop_active_role session role s h
 sound_change (CheckAccess session operation object) s none h = h
+sound_change (ReviewCommand review) s none h = h
 
 pub sound_effect : (c : Command) (s : State) → IsSound s → IsSound (effect c s)
 sound_effect c s h = go (first_denial c s) refl

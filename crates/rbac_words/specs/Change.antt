@@ -11,7 +11,7 @@ use Rattle.rbac_words.specs.Relations.{without_user, without_role, without_pairs
 use Rattle.rbac_words.specs.Authorization.{purge}
 use Rattle.rbac_words.specs.Constraints.{sets_of, with_sets}
 use Rattle.rbac_words.specs.declared.command.Command.{Command}
-use Rattle.rbac_words.specs.declared.command.Command.TheVariants.{AddUser, DeleteUser, AddRole, DeleteRole, AssignUser, DeassignUser, GrantPermission, RevokePermission, AddInheritance, DeleteInheritance, AddAscendant, AddDescendant, CreateSet, DeleteSet, AddRoleMember, DeleteRoleMember, SetCardinality, CreateSession, DeleteSession, AddActiveRole, DropActiveRole, CheckAccess}
+use Rattle.rbac_words.specs.declared.command.Command.TheVariants.{AddUser, DeleteUser, AddRole, DeleteRole, AssignUser, DeassignUser, GrantPermission, RevokePermission, AddInheritance, DeleteInheritance, AddAscendant, AddDescendant, CreateSet, DeleteSet, AddRoleMember, DeleteRoleMember, SetCardinality, CreateSession, DeleteSession, AddActiveRole, DropActiveRole, CheckAccess, Review as ReviewCommand}
 
 -- a session with one more active role, or with one fewer
 abbrev pub with_active : Name → Session → Session
@@ -71,3 +71,4 @@ change (DeleteSession user session) s = record s { sessions = without_key name_c
 change (AddActiveRole user session role) s = record s { sessions = updated name_cmp session (with_active role) s.sessions }
 change (DropActiveRole user session role) s = record s { sessions = updated name_cmp session (without_active role) s.sessions }
 change (CheckAccess session operation object) s = s
+change (ReviewCommand review) s = s

@@ -5,9 +5,10 @@ use Rattle.rbac_words.specs.Name.{Permission, name_cmp}
 use Rattle.rbac_words.specs.State.{State, Session}
 use Rattle.rbac_words.specs.Authorization.{holds}
 use Rattle.rbac_words.specs.Change.{change}
+use Rattle.rbac_words.specs.Reviews.{review_answer}
 use Rattle.rbac_words.specs.Rows.{found_and, first_denial}
 use Rattle.rbac_words.specs.declared.command.Command.{Command}
-use Rattle.rbac_words.specs.declared.command.Command.TheVariants.{CheckAccess}
+use Rattle.rbac_words.specs.declared.command.Command.TheVariants.{CheckAccess, Review as ReviewCommand}
 use Rattle.rbac_words.specs.declared.answer.Denial.{Denial}
 use Rattle.rbac_words.specs.declared.answer.Answer.{Answer}
 use Rattle.rbac_words.specs.declared.answer.Answer.TheVariants.{Done, Granted, Refused, Denied}
@@ -19,6 +20,7 @@ session_holds session s permission = found_and (λ x. holds s x permission) sess
 -- the answer to a command that is not denied
 abbrev pub answer : Command → State → Answer
 answer (CheckAccess session operation object) s = if session_holds (find name_cmp session s.sessions) s (operation, object) then Granted else Refused
+answer (ReviewCommand review) s = review_answer review s
 answer c s = Done
 
 abbrev pub effect_unless : Option Denial → Command → State → State

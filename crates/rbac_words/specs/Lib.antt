@@ -12,6 +12,7 @@ pub mod Message
 pub mod Name
 pub mod Relations
 pub mod Replay
+pub mod Reviews
 pub mod Right
 pub mod Rows
 pub mod Separation

@@ -14,7 +14,9 @@ use Rattle.rbac_words.specs.Change.{change}
 use Rattle.rbac_words.specs.declared.separation.Separation.{Separation}
 use Rattle.rbac_words.specs.declared.separation.Separation.TheVariants.{Static, Dynamic}
 use Rattle.rbac_words.specs.declared.command.Command.{Command}
-use Rattle.rbac_words.specs.declared.command.Command.TheVariants.{AddUser, DeleteUser, AddRole, DeleteRole, AssignUser, DeassignUser, GrantPermission, RevokePermission, AddInheritance, DeleteInheritance, AddAscendant, AddDescendant, CreateSet, DeleteSet, AddRoleMember, DeleteRoleMember, SetCardinality, CreateSession, DeleteSession, AddActiveRole, DropActiveRole, CheckAccess}
+use Rattle.rbac_words.specs.declared.command.Command.TheVariants.{AddUser, DeleteUser, AddRole, DeleteRole, AssignUser, DeassignUser, GrantPermission, RevokePermission, AddInheritance, DeleteInheritance, AddAscendant, AddDescendant, CreateSet, DeleteSet, AddRoleMember, DeleteRoleMember, SetCardinality, CreateSession, DeleteSession, AddActiveRole, DropActiveRole, CheckAccess, Review as ReviewCommand}
+use Rattle.rbac_words.specs.declared.review.Review.{Review}
+use Rattle.rbac_words.specs.declared.review.Review.TheVariants.{AssignedUsers, AssignedRoles, AuthorizedUsers, AuthorizedRoles, RolePermissions, UserPermissions, SessionRoles, SessionPermissions, RoleOperationsOnObject, UserOperationsOnObject, RoleSets, RoleSetRoles, RoleSetCardinality}
 use Rattle.rbac_words.specs.declared.answer.Denial.{Denial}
 use Rattle.rbac_words.specs.declared.answer.Denial.TheVariants.{UserExists, NoUser, RoleExists, NoRole, Assigned, NotAssigned, NoPermission, NotGranted, SessionExists, NoSession, NotOwner, NotAuthorized, RoleActive, RoleNotActive, Inherits, NoInheritance, Cycle, SsdViolated, DsdViolated, SetExists, NoSet, BadCardinality, InSet, NotInSet, RoleConstrained, Limit, NoOperation, NoObject}
 
@@ -60,6 +62,48 @@ is_member kind s set role = found_and (λ x. has name_cmp role x.roles) (find na
 -- whether both are roles
 abbrev pub are_roles : State → Name → Name → Bool
 are_roles s first second = has name_cmp first s.roles && has name_cmp second s.roles
+
+-- the preconditions of a review, from left to right (ANSI INCITS 359-2004, 6.1.3, 6.1.4 and the review functions of 6.2 to 6.4)
+abbrev pub review_preconditions : Review → State → List Precondition
+review_preconditions (AssignedUsers role) s =
+    (NoRole when not (has name_cmp role s.roles))
+    ∷ []
+review_preconditions (AssignedRoles user) s =
+    (NoUser when not (has name_cmp user s.users))
+    ∷ []
+review_preconditions (AuthorizedUsers role) s =
+    (NoRole when not (has name_cmp role s.roles))
+    ∷ []
+review_preconditions (AuthorizedRoles user) s =
+    (NoUser when not (has name_cmp user s.users))
+    ∷ []
+review_preconditions (RolePermissions role) s =
+    (NoRole when not (has name_cmp role s.roles))
+    ∷ []
+review_preconditions (UserPermissions user) s =
+    (NoUser when not (has name_cmp user s.users))
+    ∷ []
+review_preconditions (SessionRoles session) s =
+    (NoSession when not (is_session s session))
+    ∷ []
+review_preconditions (SessionPermissions session) s =
+    (NoSession when not (is_session s session))
+    ∷ []
+review_preconditions (RoleOperationsOnObject role object) s =
+    (NoRole when not (has name_cmp role s.roles))
+    ∷ (NoObject when not (has name_cmp object s.objects))
+    ∷ []
+review_preconditions (UserOperationsOnObject user object) s =
+    (NoUser when not (has name_cmp user s.users))
+    ∷ (NoObject when not (has name_cmp object s.objects))
+    ∷ []
+review_preconditions (RoleSets kind) s = []
+review_preconditions (RoleSetRoles kind set) s =
+    (NoSet when not (is_set kind s set))
+    ∷ []
+review_preconditions (RoleSetCardinality kind set) s =
+    (NoSet when not (is_set kind s set))
+    ∷ []
 
 -- the preconditions of a command, from left to right (ANSI INCITS 359-2004, 6.1.1, 6.1.2 and 6.2 to 6.4; their names, their
 -- order and the limits are this project's own). What separation asks, and the size of a set, is tried on the state that the
@@ -179,6 +223,7 @@ preconditions (CheckAccess session operation object) s =
     ∷ (NoOperation when not (has name_cmp operation s.operations))
     ∷ (NoObject when not (has name_cmp object s.objects))
     ∷ []
+preconditions (ReviewCommand review) s = review_preconditions review s
 
 -- the first failing precondition
 abbrev pub first_denial : Command → State → Option Denial

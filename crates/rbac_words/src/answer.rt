@@ -1,6 +1,11 @@
 //! What a command is answered, and why a command is denied.
-ghost use Rattle.std.specs.Prelude.{◌≡◌};
+ghost use Rattle.std.specs.Prelude.{◌≡◌, ◌↔◌, IsTrue, IfOk};
 ghost use Rattle.rbac_words.specs.Denials.{denial_number, denial_word};
+
+use crate::name_set::NameSet;
+use crate::permission_set::PermissionSet;
+use sorted_keys::Same;
+use std::alloc::{AllocError, Global};
 
 /// Why a command is denied: the first failing precondition of its row.
 #[derive(Clone, Copy, Debug, PartialEq, Eq, Drop)]
@@ -35,13 +40,51 @@ pub enum Denial {
     NoObject,
 }
 
-/// The answer to a command.
-#[derive(Clone, Copy, Debug, PartialEq, Eq, Drop)]
+/// The answer to a command: that it is done, whether access is granted, what a review lists, or why it is denied.
+#[derive(Drop)]
 pub enum Answer {
     Done,
     Granted,
     Refused,
+    Names(NameSet),
+    Permissions(PermissionSet),
+    Count(u32),
     Denied(Denial),
+}
+
+impl Answer {
+    /// An equal answer.
+    pub fn copy(&self, alloc: Global) -> Result<Answer, AllocError>
+        ensures { IfOk result (λ copy. copy ≡ self.now) }
+    {
+        match self {
+            Answer::Done => Ok(Answer::Done),
+            Answer::Granted => Ok(Answer::Granted),
+            Answer::Refused => Ok(Answer::Refused),
+            Answer::Names(names) => Ok(Answer::Names(names.copy(alloc)?)),
+            Answer::Permissions(permissions) => Ok(Answer::Permissions(permissions.copy(alloc)?)),
+            Answer::Count(count) => Ok(Answer::Count(*count)),
+            Answer::Denied(denial) => Ok(Answer::Denied(*denial)),
+        }
+    }
+
+    /// Whether both are equal.
+    pub fn same(&self, other: &Answer) -> bool
+        ensures { IsTrue result ↔ (self.now ≡ other.now) }
+    {
+        match (self, other) {
+            (Answer::Done, Answer::Done) => true,
+            (Answer::Granted, Answer::Granted) => true,
+            (Answer::Refused, Answer::Refused) => true,
+            (Answer::Names(names), Answer::Names(others)) => names.same(others),
+            (Answer::Permissions(permissions), Answer::Permissions(others)) => {
+                permissions.same(others)
+            }
+            (Answer::Count(count), Answer::Count(other)) => count == other,
+            (Answer::Denied(denial), Answer::Denied(other)) => denial == other,
+            _ => false,
+        }
+    }
 }
 
 impl Denial {

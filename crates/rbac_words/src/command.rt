@@ -3,11 +3,13 @@ ghost use Rattle.std.specs.Prelude.{◌≡◌, IfOk};
 
 use crate::name::Name;
 use crate::name_set::NameSet;
+use crate::review::Review;
 use crate::separation::Separation;
 use std::alloc::{AllocError, Global};
 
-/// A command of RBAC (ANSI INCITS 359-2004, 6.1.1, 6.1.2 and 6.2 to 6.4), one variant for each; those about
-/// sets of separation serve both kinds: CreateSsdSet is `CreateSet` of the static kind, CreateDsdSet of the dynamic one.
+/// A command of RBAC (ANSI INCITS 359-2004, 6.1 to 6.4), one variant for each that may change a policy or checks access, and one
+/// for all reviews. Those about sets of separation serve both kinds: CreateSsdSet is `CreateSet` of the static kind,
+/// CreateDsdSet of the dynamic one.
 #[derive(Drop)]
 pub enum Command {
     AddUser {
@@ -105,6 +107,7 @@ pub enum Command {
         operation: Name,
         object: Name,
     },
+    Review(Review),
 }
 
 impl Command {
@@ -249,6 +252,7 @@ impl Command {
                 operation: operation.copy(alloc)?,
                 object: object.copy(alloc)?,
             }),
+            Command::Review(review) => Ok(Command::Review(review.copy(alloc)?)),
         }
     }
 }

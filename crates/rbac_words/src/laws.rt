@@ -1,6 +1,7 @@
 //! Laws about the definitions: functions with an empty body, whose contracts are proved like any other.
 ghost use Rattle.std.specs.Prelude.{false, List, IsTrue, IfErr, ◌↔◌, ◌≡◌, ◌⊎◌};
 ghost use Rattle.std.specs.declared.cmp.Ordering.TheVariants.{Less};
+ghost use Rattle.std.specs.FinMap.Entries.{find};
 ghost use Rattle.std.specs.List.{list_all};
 ghost use Rattle.std.specs.List.Sorted.{IsPermutation};
 ghost use Rattle.sorted_keys.specs.Keys.{has};
@@ -11,11 +12,12 @@ ghost use Rattle.rbac_words.specs.declared.stamp.Stamp.{Stamp};
 ghost use Rattle.rbac_words.specs.Authorization.{InheritsIn, IsAuthorized, is_authorized, Holds, holds, is_entitled, purge};
 ghost use Rattle.rbac_words.specs.Constraints.{is_violated, KeepsStatic, KeepsDynamic};
 ghost use Rattle.rbac_words.specs.declared.separation.Separation.TheVariants.{Static, Dynamic};
-ghost use Rattle.rbac_words.specs.Effect.{effect};
+ghost use Rattle.rbac_words.specs.Effect.{effect, session_holds};
 ghost use Rattle.rbac_words.specs.Founding.{Group as GroupValue, Vocabulary as VocabularyValue, IsVocabulary};
 ghost use Rattle.rbac_words.specs.Inheritance.{Inherits, inherits};
 ghost use Rattle.rbac_words.specs.Message.{submitted_at};
-ghost use Rattle.rbac_words.specs.Name.{Name, Permission, name_cmp};
+ghost use Rattle.rbac_words.specs.Name.{Name, Permission, name_cmp, pair_cmp};
+ghost use Rattle.rbac_words.specs.Reviews.{session_permissions};
 ghost use Rattle.rbac_words.specs.Right.{AreHistoriesRight, founding_world};
 ghost use Rattle.rbac_words.specs.Stamp.{IsBefore, is_before, stamp_cmp, IsInStampOrder, sort_by_stamp};
 ghost use Rattle.rbac_words.specs.Sound.{IsSound};
@@ -43,6 +45,11 @@ pub fn a_test_tells_authorization()
 /// The test of holding tells whether an active role inherits one to which the permission is granted.
 pub fn a_test_tells_holding()
     ensures { (s : State) (session : Session) (permission : Permission) → IsTrue (holds s session permission) ↔ Holds s session permission }
+{}
+
+/// A session holds a permission exactly where the review of its permissions lists it.
+pub fn a_session_holds_what_its_review_lists()
+    ensures { (s : State) (session : Name) (permission : Permission) → IsSound s → session_holds (find name_cmp session s.sessions) s permission ≡ has pair_cmp permission (session_permissions s session) }
 {}
 
 /// The tests of separation of duty tell whether of each set each user is authorized for fewer roles than its number, and

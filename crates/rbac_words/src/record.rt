@@ -26,7 +26,7 @@ impl Record {
             caller: self.caller,
             serial: self.serial,
             command: self.command.copy(alloc)?,
-            answer: self.answer,
+            answer: self.answer.copy(alloc)?,
         })
     }
 }

@@ -1,12 +1,17 @@
 //! Each public call with ample memory. What is expected was written by hand.
+ghost use Rattle.std.specs.Prelude.{◌≡◌};
+ghost use Rattle.std.specs.Ordering.{eq_by_cmp};
+ghost use Rattle.rbac_words.specs.Name.{name_cmp};
+
 use crate::{
     Denial, Group, GroupRefusal, Name, NameRefusal, NameSet, Stamp, Vocabulary, VocabularyRefusal,
 };
-use sorted_keys::Same;
+use sorted_keys::{KeyTest, Same};
 use std::alloc::Global;
 use std::process::Abort;
 use std::test::Fail;
 
+mod answers;
 mod commands;
 mod messages;
 
@@ -356,6 +361,47 @@ fn small_vocabulary(rt: &impl Abort, alloc: Global, permissions: &[(&str, &str)]
     let objects = names(rt, alloc, &["ledger", "invoice"]);
     let permissions = pairs(rt, alloc, permissions);
     Vocabulary::build(operations, objects, permissions).expect(rt, "a vocabulary")
+}
+
+// The one name that equals this.
+#[derive(Drop)]
+struct Only<'a>(&'a Name);
+
+impl KeyTest<Name> for Only<'_> {
+    ghost passes = { λ only name. eq_by_cmp name_cmp only.0.now name };
+
+    fn test(&self, name: &Name) -> bool {
+        self.0.cmp(name).is_eq()
+    }
+}
+
+// The permissions on an object.
+#[derive(Drop)]
+struct On<'a>(&'a Name);
+
+impl KeyTest<(Name, Name)> for On<'_> {
+    ghost passes = { λ on permission. eq_by_cmp name_cmp on.0.now permission.1 };
+
+    fn test(&self, permission: &(Name, Name)) -> bool {
+        self.0.cmp(&permission.1).is_eq()
+    }
+}
+
+#[test]
+fn parts_of_a_vocabulary_are_copied(rt: HostRuntime) -> Result<(), Fail> {
+    let alloc = rt.alloc();
+    let vocabulary = Vocabulary::build(
+        names(&rt, alloc, &["read", "pay"]),
+        names(&rt, alloc, &["ledger", "invoice"]),
+        pairs(&rt, alloc, &[("read", "ledger"), ("pay", "invoice")]),
+    )?;
+    let (pay, ledger) = (name(&rt, alloc, "pay"), name(&rt, alloc, "ledger"));
+    let operations = vocabulary.operations_where(alloc, &Only(&pay))?;
+    assert_names(&rt, operations.names(), &["pay"]);
+    let permissions = vocabulary.permissions_where(alloc, &On(&ledger))?;
+    assert_eq!(rt; permissions.permissions().len(), 1);
+    assert!(rt; permissions.permissions()[0].1 == ledger);
+    Ok(())
 }
 
 #[test]

@@ -1,5 +1,5 @@
 //! The vocabulary of a policy: its operations, its objects and its permissions.
-ghost use Rattle.std.specs.Prelude.{◌≡◌, ◌↔◌, IsTrue, None, Some, IfOk, IfErr, OnOk, OnErr, false, true};
+ghost use Rattle.std.specs.Prelude.{◌≡◌, ◌↔◌, IsTrue, None, Some, IfOk, IfErr, OnOk, OnErr, false, true, filter};
 ghost use Rattle.std.specs.List.{list_all};
 ghost use Rattle.sorted_keys.specs.Keys.{has, set_of, repeats};
 ghost use Rattle.rbac_words.specs.Build.{vocabulary_refusal};
@@ -7,7 +7,9 @@ ghost use Rattle.rbac_words.specs.Founding.{IsVocabulary, is_listed};
 ghost use Rattle.rbac_words.specs.Name.{name_cmp, pair_cmp};
 
 use crate::name::Name;
-use sorted_keys::{Exact, PairProbe, SortedSet};
+use crate::name_set::NameSet;
+use crate::permission_set::PermissionSet;
+use sorted_keys::{Exact, KeyTest, PairProbe, SortedSet};
 use std::alloc::{AllocError, Global};
 use std::marker::Model;
 
@@ -123,6 +125,28 @@ impl Vocabulary {
             first: operation,
             second: object,
         })
+    }
+
+    /// The operations that pass a test.
+    pub fn operations_where<T: KeyTest<Name>>(
+        &self,
+        alloc: Global,
+        test: &T,
+    ) -> Result<NameSet, AllocError>
+        ensures { IfOk result (λ operations. operations ≡ filter (T.passes test.now) self.now.operations) }
+    {
+        Ok(NameSet::of(self.operations.copy_where(alloc, test)?))
+    }
+
+    /// The permissions that pass a test.
+    pub fn permissions_where<T: KeyTest<(Name, Name)>>(
+        &self,
+        alloc: Global,
+        test: &T,
+    ) -> Result<PermissionSet, AllocError>
+        ensures { IfOk result (λ permissions. permissions ≡ filter (T.passes test.now) self.now.permissions) }
+    {
+        Ok(PermissionSet::of(self.permissions.copy_where(alloc, test)?))
     }
 
     /// Each vocabulary is within the limits, and its permissions speak of its own operations and objects.

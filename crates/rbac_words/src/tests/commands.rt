@@ -1,7 +1,7 @@
 //! Commands and their copies.
 
 use super::{name, set};
-use crate::{Command, Name, Separation};
+use crate::{Command, Name, Review, Separation};
 use std::alloc::Global;
 use std::process::Abort;
 
@@ -15,6 +15,29 @@ fn two<'n>(first: &'n Name, second: &'n Name) -> [&'n [u8]; 3] {
 
 fn three<'n>(first: &'n Name, second: &'n Name, third: &'n Name) -> [&'n [u8]; 3] {
     [first.as_bytes(), second.as_bytes(), third.as_bytes()]
+}
+
+// The kind of a review and its names.
+fn review_fields(review: &Review) -> (&str, [&[u8]; 3]) {
+    match review {
+        Review::AssignedUsers { role } => ("AssignedUsers", one(role)),
+        Review::AssignedRoles { user } => ("AssignedRoles", one(user)),
+        Review::AuthorizedUsers { role } => ("AuthorizedUsers", one(role)),
+        Review::AuthorizedRoles { user } => ("AuthorizedRoles", one(user)),
+        Review::RolePermissions { role } => ("RolePermissions", one(role)),
+        Review::UserPermissions { user } => ("UserPermissions", one(user)),
+        Review::SessionRoles { session } => ("SessionRoles", one(session)),
+        Review::SessionPermissions { session } => ("SessionPermissions", one(session)),
+        Review::RoleOperationsOnObject { role, object } => {
+            ("RoleOperationsOnObject", two(role, object))
+        }
+        Review::UserOperationsOnObject { user, object } => {
+            ("UserOperationsOnObject", two(user, object))
+        }
+        Review::RoleSets { .. } => ("RoleSets", [b"", b"", b""]),
+        Review::RoleSetRoles { set, .. } => ("RoleSetRoles", one(set)),
+        Review::RoleSetCardinality { set, .. } => ("RoleSetCardinality", one(set)),
+    }
 }
 
 // The kind of a command and its names.
@@ -74,6 +97,7 @@ fn fields(command: &Command) -> (&str, [&[u8]; 3]) {
             operation,
             object,
         } => ("CheckAccess", three(session, operation, object)),
+        Command::Review(review) => review_fields(review),
     }
 }
 
@@ -85,6 +109,15 @@ fn roles(command: &Command) -> &[Name] {
     }
 }
 
+fn review_kind(review: &Review) -> Option<Separation> {
+    match review {
+        Review::RoleSets { kind } => Some(*kind),
+        Review::RoleSetRoles { kind, .. } => Some(*kind),
+        Review::RoleSetCardinality { kind, .. } => Some(*kind),
+        _ => None,
+    }
+}
+
 // The kind of separation and the number of a command, where it has them.
 fn kind_and_number(command: &Command) -> (Option<Separation>, u32) {
     match command {
@@ -93,6 +126,7 @@ fn kind_and_number(command: &Command) -> (Option<Separation>, u32) {
         Command::AddRoleMember { kind, .. } => (Some(*kind), 0),
         Command::DeleteRoleMember { kind, .. } => (Some(*kind), 0),
         Command::SetCardinality { kind, n, .. } => (Some(*kind), *n),
+        Command::Review(review) => (review_kind(review), 0),
         _ => (None, 0),
     }
 }
@@ -318,6 +352,65 @@ fn copies_of_active_roles(rt: &impl Abort, alloc: Global) {
             object: named("invoice"),
         },
     );
+}
+
+// Whether the copy of a review is the same review.
+fn expect_review_copied(rt: &impl Abort, alloc: Global, review: Review) {
+    expect_copied(rt, alloc, Command::Review(review));
+}
+
+fn copies_of_reviews_of_roles(rt: &impl Abort, alloc: Global) {
+    let role = || name(rt, alloc, "clerk");
+    expect_review_copied(rt, alloc, Review::AssignedUsers { role: role() });
+    expect_review_copied(rt, alloc, Review::AuthorizedUsers { role: role() });
+    expect_review_copied(rt, alloc, Review::RolePermissions { role: role() });
+    let object = name(rt, alloc, "ledger");
+    expect_review_copied(
+        rt,
+        alloc,
+        Review::RoleOperationsOnObject {
+            role: role(),
+            object,
+        },
+    );
+}
+
+fn copies_of_reviews_of_users(rt: &impl Abort, alloc: Global) {
+    let user = || name(rt, alloc, "ann");
+    expect_review_copied(rt, alloc, Review::AssignedRoles { user: user() });
+    expect_review_copied(rt, alloc, Review::AuthorizedRoles { user: user() });
+    expect_review_copied(rt, alloc, Review::UserPermissions { user: user() });
+    let object = name(rt, alloc, "ledger");
+    expect_review_copied(
+        rt,
+        alloc,
+        Review::UserOperationsOnObject {
+            user: user(),
+            object,
+        },
+    );
+}
+
+fn copies_of_reviews_of_sessions(rt: &impl Abort, alloc: Global) {
+    let session = || name(rt, alloc, "s1");
+    expect_review_copied(rt, alloc, Review::SessionRoles { session: session() });
+    expect_review_copied(rt, alloc, Review::SessionPermissions { session: session() });
+}
+
+fn copies_of_reviews_of_sets(rt: &impl Abort, alloc: Global, kind: Separation) {
+    let set = || name(rt, alloc, "duty");
+    expect_review_copied(rt, alloc, Review::RoleSets { kind });
+    expect_review_copied(rt, alloc, Review::RoleSetRoles { kind, set: set() });
+    expect_review_copied(rt, alloc, Review::RoleSetCardinality { kind, set: set() });
+}
+
+#[test]
+fn a_copy_is_the_same_review(rt: HostRuntime) {
+    copies_of_reviews_of_roles(&rt, rt.alloc());
+    copies_of_reviews_of_users(&rt, rt.alloc());
+    copies_of_reviews_of_sessions(&rt, rt.alloc());
+    copies_of_reviews_of_sets(&rt, rt.alloc(), Separation::Static);
+    copies_of_reviews_of_sets(&rt, rt.alloc(), Separation::Dynamic);
 }
 
 #[test]

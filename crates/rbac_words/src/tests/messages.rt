@@ -56,7 +56,7 @@ fn is_same_message(message: &Message, other: &Message) -> bool {
 fn is_same_record(record: &Record, other: &Record) -> bool {
     (record.stamp, record.caller, record.serial) == (other.stamp, other.caller, other.serial)
         && is_same(&record.command, &other.command)
-        && record.answer == other.answer
+        && record.answer.same(&other.answer)
 }
 
 // Whether a message is of the stamp, and its copy is the same.

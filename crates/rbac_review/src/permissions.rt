@@ -1,0 +1,98 @@
+//! The permissions of a role, of a user and of a session.
+ghost use Rattle.std.specs.Prelude.{◌≡◌, IfOk, filter};
+ghost use Rattle.std.specs.List.{list_any};
+ghost use Rattle.sorted_keys.specs.Keys.{has};
+ghost use Rattle.rbac_words.specs.Name.{Name as NameValue, name_cmp};
+ghost use Rattle.rbac_words.specs.Authorization.{inherits_in};
+ghost use Rattle.rbac_words.specs.Reviews.{active_roles, role_permissions, user_permissions, session_permissions};
+ghost use Rattle.rbac_review.specs.Among.{is_granted_to_one};
+
+use crate::below::juniors_of;
+use crate::parts::Parts;
+use rbac_rolesets::RoleSets;
+use rbac_words::{Name, NameSet, PermissionSet, Vocabulary};
+use sorted_keys::KeyTest;
+use std::alloc::{AllocError, Global};
+
+// Whether one of the grants is to one of the roles.
+fn is_to_one(grants: &[((Name, Name), Name)], roles: &NameSet) -> bool
+    ensures { result ≡ list_any (λ grant. has name_cmp grant.1 roles.now) grants.now }
+{
+    grants.iter().any(|grant| roles.contains(&grant.1))
+}
+
+/// Whether the operation on the object is granted to one of the roles.
+pub fn is_granted_to_one(sets: &RoleSets, roles: &NameSet, operation: &Name, object: &Name) -> bool
+    ensures { result ≡ is_granted_to_one roles.now sets.now.content.granted (operation.now, object.now) }
+{
+    is_to_one(sets.grants_of(operation, object), roles)
+}
+
+// The permissions that are granted to one of the roles.
+#[derive(Drop)]
+struct GrantedToOne<'a> {
+    sets: &'a RoleSets,
+    roles: &'a NameSet,
+}
+
+impl KeyTest<(Name, Name)> for GrantedToOne<'_> {
+    ghost passes = { λ t permission. is_granted_to_one t.roles.now t.sets.now.content.granted permission };
+
+    fn test(&self, permission: &(Name, Name)) -> bool {
+        is_granted_to_one(self.sets, self.roles, &permission.0, &permission.1)
+    }
+}
+
+// The permissions that are granted to one of the roles.
+fn granted_to_one(
+    alloc: Global,
+    vocabulary: &Vocabulary,
+    sets: &RoleSets,
+    roles: &NameSet,
+) -> Result<PermissionSet, AllocError>
+    ensures { IfOk result (λ permissions. permissions ≡ filter (is_granted_to_one roles.now sets.now.content.granted) vocabulary.now.permissions) }
+{
+    vocabulary.permissions_where(alloc, &GrantedToOne { sets, roles })
+}
+
+impl Parts<'_> {
+    ghost use Rattle.rbac_review.specs.Parts.{state_of};
+
+    /// The permissions of the role, inherited ones included (ANSI INCITS 359-2004, 6.1.4 and 6.2: RolePermissions).
+    pub fn role_permissions(&self, alloc: Global, role: &Name) -> Result<PermissionSet, AllocError>
+        ensures { IfOk result (λ permissions. permissions ≡ role_permissions (state_of self.now) role.now) }
+    {
+        let juniors = self.hierarchy.juniors(alloc, role)?;
+        granted_to_one(alloc, self.vocabulary, self.sets, &juniors)
+    }
+
+    /// The permissions of the roles that the user is authorized for (6.1.4 and 6.2: UserPermissions).
+    pub fn user_permissions(&self, alloc: Global, user: &Name) -> Result<PermissionSet, AllocError>
+        ensures { IfOk result (λ permissions. permissions ≡ user_permissions (state_of self.now) user.now) }
+    {
+        let roles = self.authorized_roles(alloc, user)?;
+        granted_to_one(alloc, self.vocabulary, self.sets, &roles)
+    }
+
+    // The roles that an active role of the session inherits, each active role among them.
+    fn roles_at_work(&self, alloc: Global, session: &Name) -> Result<NameSet, AllocError>
+        ensures { let s = state_of self.now in IfOk result (λ roles. (r : NameValue) → has name_cmp r roles ≡ list_any (λ role. inherits_in s role r) (active_roles s session.now)) }
+    {
+        match self.sessions.roles(session) {
+            Some(active) => juniors_of(alloc, self.hierarchy, active.names()),
+            None => Ok(NameSet::new(alloc)),
+        }
+    }
+
+    /// The permissions of the roles that are active in the session (6.1.4: SessionPermissions).
+    pub fn session_permissions(
+        &self,
+        alloc: Global,
+        session: &Name,
+    ) -> Result<PermissionSet, AllocError>
+        ensures { IfOk result (λ permissions. permissions ≡ session_permissions (state_of self.now) session.now) }
+    {
+        let roles = self.roles_at_work(alloc, session)?;
+        granted_to_one(alloc, self.vocabulary, self.sets, &roles)
+    }
+}

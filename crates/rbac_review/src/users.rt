@@ -1,0 +1,99 @@
+//! The users of a role, and the roles of a user.
+ghost use Rattle.std.specs.Prelude.{◌≡◌, IfOk, filter};
+ghost use Rattle.std.specs.List.{list_any};
+ghost use Rattle.sorted_keys.specs.Keys.{has};
+ghost use Rattle.rbac_words.specs.Name.{name_cmp};
+ghost use Rattle.rbac_words.specs.Relations.{users_of, roles_of};
+ghost use Rattle.rbac_words.specs.Reviews.{authorized_users, authorized_roles};
+ghost use Rattle.rbac_review.specs.Among.{is_assigned_one};
+
+use crate::below::with_juniors_of_assigned;
+use crate::parts::Parts;
+use rbac_hierarchy::Hierarchy;
+use rbac_rolesets::{RoleSets, RolesOf};
+use rbac_words::{Name, NameSet};
+use sorted_keys::KeyTest;
+use std::alloc::{AllocError, Global};
+
+// Whether one of the assignments is of one of the roles.
+fn is_of_one(assignments: &[(Name, Name)], roles: &NameSet) -> bool
+    ensures { result ≡ list_any (λ pair. has name_cmp pair.1 roles.now) assignments.now }
+{
+    assignments.iter().any(|pair| roles.contains(&pair.1))
+}
+
+// The users that are assigned one of the roles.
+#[derive(Drop)]
+struct AssignedOne<'a> {
+    sets: &'a RoleSets,
+    roles: &'a NameSet,
+}
+
+impl KeyTest<Name> for AssignedOne<'_> {
+    ghost passes = { λ t user. is_assigned_one t.roles.now t.sets.now.content.assigned user };
+
+    fn test(&self, user: &Name) -> bool {
+        is_of_one(self.sets.assignments_of(user), self.roles)
+    }
+}
+
+// The users that are assigned one of the roles.
+fn users_assigned_one(
+    alloc: Global,
+    sets: &RoleSets,
+    roles: &NameSet,
+) -> Result<NameSet, AllocError>
+    ensures { let s = sets.now.content in IfOk result (λ users. users ≡ filter (is_assigned_one roles.now s.assigned) s.users) }
+{
+    sets.users_where(alloc, &AssignedOne { sets, roles })
+}
+
+// The roles of the hierarchy that are assigned to the user.
+fn roles_assigned(
+    alloc: Global,
+    hierarchy: &Hierarchy,
+    sets: &RoleSets,
+    user: &Name,
+) -> Result<NameSet, AllocError>
+    ensures { IfOk result (λ roles. roles ≡ roles_of user.now hierarchy.now.content.roles sets.now.content.assigned) }
+{
+    hierarchy.roles_where(alloc, &RolesOf { sets, user })
+}
+
+impl Parts<'_> {
+    ghost use Rattle.rbac_review.specs.Parts.{state_of};
+
+    /// The users that the role is assigned to (ANSI INCITS 359-2004, 6.1.3: AssignedUsers).
+    pub fn assigned_users(&self, alloc: Global, role: &Name) -> Result<NameSet, AllocError>
+        ensures { let s = state_of self.now in IfOk result (λ users. users ≡ users_of role.now s.users s.assigned) }
+    {
+        self.sets.users_of(alloc, role)
+    }
+
+    /// The roles that are assigned to the user (6.1.3: AssignedRoles).
+    pub fn assigned_roles(&self, alloc: Global, user: &Name) -> Result<NameSet, AllocError>
+        ensures { let s = state_of self.now in IfOk result (λ roles. roles ≡ roles_of user.now s.roles s.assigned) }
+    {
+        roles_assigned(alloc, self.hierarchy, self.sets, user)
+    }
+
+    /// The users that are authorized for the role, inherited roles counted (6.2: AuthorizedUsers).
+    pub fn authorized_users(&self, alloc: Global, role: &Name) -> Result<NameSet, AllocError>
+        ensures { IfOk result (λ users. users ≡ authorized_users (state_of self.now) role.now) }
+    {
+        let seniors = self.hierarchy.seniors(alloc, role)?;
+        users_assigned_one(alloc, self.sets, &seniors)
+    }
+
+    /// The roles that the user is authorized for, inherited ones counted (6.2: AuthorizedRoles).
+    pub fn authorized_roles(&self, alloc: Global, user: &Name) -> Result<NameSet, AllocError>
+        ensures { IfOk result (λ roles. roles ≡ authorized_roles (state_of self.now) user.now) }
+    {
+        self.hierarchy.invariants();
+        let none = NameSet::new(alloc);
+        let assignments = self.sets.assignments_of(user);
+        let roles = with_juniors_of_assigned(alloc, self.hierarchy, none, assignments)?;
+        let _in_order = roles.names();
+        Ok(roles)
+    }
+}

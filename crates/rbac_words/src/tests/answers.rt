@@ -1,0 +1,83 @@
+//! Answers, their copies and when they are the same.
+
+use super::{assert_names, name, pairs, set};
+use crate::{Answer, Denial, NameSet, PermissionSet};
+use sorted_keys::{Same, SortedSet};
+use std::alloc::Global;
+use std::process::Abort;
+use std::test::Fail;
+
+fn permissions(rt: &impl Abort, alloc: Global, texts: &[(&str, &str)]) -> PermissionSet {
+    let sorted = SortedSet::from_vec(pairs(rt, alloc, texts));
+    PermissionSet::of(sorted.expect(rt, "no permission stands twice"))
+}
+
+// Whether the copy of an answer is the same answer.
+fn expect_answer_copied(rt: &impl Abort, alloc: Global, answer: Answer) {
+    let copy = answer.copy(alloc).expect(rt, "memory");
+    assert!(rt; copy.same(&answer));
+}
+
+fn expect_other_answer(rt: &impl Abort, answer: Answer, other: Answer) {
+    assert!(rt; !answer.same(&other));
+}
+
+#[test]
+fn words_are_copied(rt: HostRuntime) {
+    expect_answer_copied(&rt, rt.alloc(), Answer::Done);
+    expect_answer_copied(&rt, rt.alloc(), Answer::Granted);
+    expect_answer_copied(&rt, rt.alloc(), Answer::Refused);
+    expect_answer_copied(&rt, rt.alloc(), Answer::Denied(Denial::NoSet));
+    expect_other_answer(&rt, Answer::Granted, Answer::Refused);
+    expect_other_answer(
+        &rt,
+        Answer::Denied(Denial::NoSet),
+        Answer::Denied(Denial::NoRole),
+    );
+}
+
+#[test]
+fn lists_are_copied(rt: HostRuntime) {
+    let alloc = rt.alloc();
+    let names = || Answer::Names(set(&rt, alloc, &["payer", "boss"]));
+    let reads = || Answer::Permissions(permissions(&rt, alloc, &[("read", "ledger")]));
+    expect_answer_copied(&rt, alloc, names());
+    expect_answer_copied(&rt, alloc, reads());
+    expect_answer_copied(&rt, alloc, Answer::Count(2));
+    expect_other_answer(&rt, names(), Answer::Names(NameSet::new(alloc)));
+    expect_other_answer(
+        &rt,
+        reads(),
+        Answer::Permissions(permissions(&rt, alloc, &[])),
+    );
+    expect_other_answer(&rt, Answer::Count(2), Answer::Count(3));
+}
+
+#[test]
+fn permissions_stand_by_operation_and_then_by_object(rt: HostRuntime) -> Result<(), Fail> {
+    let alloc = rt.alloc();
+    let texts = [("read", "ledger"), ("pay", "ledger"), ("pay", "invoice")];
+    let sorted = permissions(&rt, alloc, &texts);
+    assert!(rt; sorted.copy(alloc)?.same(&sorted));
+    for (pair, (operation, object)) in sorted.permissions().iter().zip([
+        ("pay", "invoice"),
+        ("pay", "ledger"),
+        ("read", "ledger"),
+    ]) {
+        assert_eq!(rt; pair.0.as_bytes(), operation.as_bytes());
+        assert_eq!(rt; pair.1.as_bytes(), object.as_bytes());
+    }
+    assert_eq!(rt; sorted.permissions().len(), 3);
+    Ok(())
+}
+
+#[test]
+fn copies_of_names_are_added(rt: HostRuntime) -> Result<(), Fail> {
+    let alloc = rt.alloc();
+    let mut names = NameSet::of(SortedSet::new(alloc));
+    for text in ["payer", "boss", "payer"] {
+        names.add_copy(alloc, &name(&rt, alloc, text))?;
+    }
+    assert_names(&rt, names.names(), &["boss", "payer"]);
+    Ok(())
+}
