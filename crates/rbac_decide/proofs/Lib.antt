@@ -1,4 +1,3 @@
 pub mod ApplyLemmas
-pub mod AuthorizationLemmas
 pub mod SeparationLemmas
 pub mod TablesLemmas

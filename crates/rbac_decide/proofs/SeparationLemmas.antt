@@ -28,7 +28,7 @@ use Rattle.rbac_words.proofs.AuthorizationLemmas.{is_authorized_iff}
 use Rattle.rbac_words.proofs.SoundParts.{still}
 use Rattle.rbac_words.proofs.SoundSeparation.{is_false, none_passes, passes_none}
 use Rattle.rbac_decide.specs.Breaking.{breaks_with, breaks_below, breaks_set}
-use Rattle.rbac_decide.proofs.AuthorizationLemmas.{any-same}
+use Rattle.rbac_review.proofs.ReviewLemmas.{any-same}
 
 -- ---- Sets
 

@@ -1,5 +1,5 @@
 //! Who is authorized for a role, and which roles have a permission, by the sets of a policy.
-ghost use Rattle.std.specs.Prelude.{◌≡◌, ◌&&◌, ◌||◌, count_by, IfOk, OnOk};
+ghost use Rattle.std.specs.Prelude.{◌≡◌, ◌&&◌, ◌||◌, count_by, IfOk};
 ghost use Rattle.sorted_keys.specs.Keys.{has};
 ghost use Rattle.rbac_words.specs.Name.{Name as NameValue, name_cmp};
 ghost use Rattle.std.specs.List.{list_all, list_any};
@@ -8,6 +8,7 @@ ghost use Rattle.rbac_words.specs.Authorization.{inherits_in, is_authorized, is_
 ghost use Rattle.rbac_decide.specs.Tables.{state_of_roles};
 
 use rbac_hierarchy::Hierarchy;
+use rbac_review::with_juniors_of_assigned;
 use rbac_rolesets::RoleSets;
 use rbac_words::{Name, NameSet};
 use std::alloc::{AllocError, Global};
@@ -64,34 +65,6 @@ pub fn is_authorized_for_all(
         .all(|role| is_authorized(sets, hierarchy, user, role))
 }
 
-// Adds names to a set.
-fn add_all(alloc: Global, names: &mut NameSet, more: &[Name]) -> Result<(), AllocError>
-    ensures { OnOk result ((r : NameValue) → has name_cmp r names.new ≡ (has name_cmp r names.old || has name_cmp r more.now)) }
-{
-    for name in more {
-        names.add(name.copy(alloc)?)?;
-    }
-    Ok(())
-}
-
-// The juniors of the role and of the roles of the assignments.
-fn gather_juniors(
-    alloc: Global,
-    hierarchy: &Hierarchy,
-    role: &Name,
-    assignments: &[(Name, Name)],
-) -> Result<NameSet, AllocError>
-    ensures { let h = hierarchy.now.content in IfOk result (λ names. (r : NameValue) →
-        has name_cmp r names ≡ (inherits h.roles h.declared role.now r || list_any (λ pair. inherits h.roles h.declared pair.1 r) assignments.now)) }
-{
-    let mut names = hierarchy.juniors(alloc, role)?;
-    for pair in assignments {
-        let juniors = hierarchy.juniors(alloc, &pair.1)?;
-        add_all(alloc, &mut names, juniors.names())?;
-    }
-    Ok(names)
-}
-
 /// The roles that the user is authorized for, and those that this role inherits.
 pub fn authorized_with(
     alloc: Global,
@@ -103,7 +76,8 @@ pub fn authorized_with(
     ensures { let s = state_of_roles sets.now.content hierarchy.now.content in IfOk result (λ names. (r : NameValue) →
         has name_cmp r names ≡ (inherits_in s role.now r || is_authorized s user.now r)) }
 {
-    gather_juniors(alloc, hierarchy, role, sets.assignments_of(user))
+    let juniors = hierarchy.juniors(alloc, role)?;
+    with_juniors_of_assigned(alloc, hierarchy, juniors, sets.assignments_of(user))
 }
 
 /// How many of the roles the user is authorized for.

@@ -1,17 +1,22 @@
 //! A policy: what commands answer, and what they change.
 ghost use Rattle.std.specs.Prelude.{◌≡◌, ◌↔◌, IsTrue, IfOk, IfErr, OnOk, OnErr, Some, None};
 ghost use Rattle.std.specs.FinMap.Entries.{find};
-ghost use Rattle.rbac_words.specs.Name.{name_cmp};
+ghost use Rattle.sorted_keys.specs.Keys.{has};
+ghost use Rattle.rbac_words.specs.Name.{name_cmp, pair_cmp};
 ghost use Rattle.rbac_words.specs.State.{founding_state};
 ghost use Rattle.rbac_words.specs.Rows.{first_denial};
-ghost use Rattle.rbac_words.specs.Effect.{answer, effect, reply, session_holds};
+ghost use Rattle.rbac_words.specs.Effect.{answer as answer_of, effect, reply, session_holds};
+ghost use Rattle.rbac_words.specs.Reviews.{session_permissions};
 ghost use Rattle.rbac_words.specs.Sound.{IsSound};
 
 mod access;
+mod asking;
 mod denial;
+mod review;
 mod separation;
 mod violation;
 
+use crate::policy::asking::asks;
 use crate::tables::Tables;
 use rbac_words::{Answer, Command, Denial, Name, Vocabulary};
 use std::alloc::{AllocError, Global};
@@ -50,22 +55,17 @@ impl Policy {
 
 impl Policy {
     // The answer to a command that is not denied.
-    fn answer(&self, command: &Command) -> Answer
-        ensures { result ≡ answer command.now self.now }
+    fn answer(&self, alloc: Global, command: &Command) -> Result<Answer, AllocError>
+        ensures { IfOk result (λ answer. answer ≡ answer_of command.now self.now) }
     {
         match command {
             Command::CheckAccess {
                 session,
                 operation,
                 object,
-            } => {
-                if self.session_holds(session, operation, object) {
-                    Answer::Granted
-                } else {
-                    Answer::Refused
-                }
-            }
-            _ => Answer::Done,
+            } => Ok(self.access(session, operation, object)),
+            Command::Review(review) => self.review(alloc, review),
+            _ => Ok(Answer::Done),
         }
     }
 
@@ -78,8 +78,8 @@ impl Policy {
         if let Some(denial) = self.first_denial(alloc, command)? {
             return Ok(Answer::Denied(denial));
         }
-        let answer = self.answer(command);
-        if let Command::CheckAccess { .. } = command {
+        let answer = self.answer(alloc, command)?;
+        if asks(command) {
             return Ok(answer);
         }
         let mut next = self.tables.copy(alloc)?;
@@ -88,12 +88,15 @@ impl Policy {
         Ok(answer)
     }
 
-    /// Whether the session may perform the operation on the object: the answer of CheckAccess, without a command.
+    /// Whether the session may perform the operation on the object: the answer of CheckAccess, without a command. It may exactly
+    /// where the review of the session's permissions lists it.
     pub fn check(&self, session: &Name, operation: &Name, object: &Name) -> Result<bool, Denial>
         ensures denied { IfErr result (λ denial. first_denial (Command.CheckAccess session.now operation.now object.now) self.now ≡ Some denial) }
         ensures held { IfOk result (λ granted. granted ≡ session_holds (find name_cmp session.now self.now.sessions) self.now (operation.now, object.now)) }
         ensures allowed { OnOk result (first_denial (Command.CheckAccess session.now operation.now object.now) self.now ≡ None) }
+        ensures listed { IfOk result (λ granted. granted ≡ has pair_cmp (operation.now, object.now) (session_permissions self.now session.now)) }
     {
+        self.invariants();
         if let Some(denial) = self.first_check_access(session, operation, object) {
             return Err(denial);
         }

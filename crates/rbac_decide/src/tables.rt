@@ -169,6 +169,7 @@ impl Tables {
                 self.sessions.drop_role(session, role)
             }
             Command::CheckAccess { .. } => {}
+            Command::Review(_) => {}
         }
         Ok(())
     }

@@ -6,6 +6,7 @@ use std::test::Fail;
 
 mod deletions;
 mod hierarchy;
+mod reviews;
 mod rows;
 mod separation;
 mod sessions;

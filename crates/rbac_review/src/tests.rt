@@ -5,7 +5,7 @@ use rbac_rolesets::RoleSets;
 use rbac_separation::SetTable;
 use rbac_sessions::Sessions;
 use rbac_words::{Name, NameSet, PermissionSet, Separation, Vocabulary};
-use std::alloc::Global;
+use std::alloc::{AllocError, Global};
 use std::process::Abort;
 use std::test::Fail;
 
@@ -85,17 +85,27 @@ fn office_vocabulary(rt: &impl Abort, alloc: Global) -> Vocabulary {
     .expect(rt, "a vocabulary")
 }
 
+// Declares the pair between new roles.
+fn add_pair(
+    alloc: Global,
+    hierarchy: &mut Hierarchy,
+    ascendant: &Name,
+    descendant: &Name,
+) -> Result<(), AllocError> {
+    hierarchy.add_role(alloc, ascendant)?;
+    hierarchy.add_role(alloc, descendant)?;
+    hierarchy.declare(alloc, ascendant, descendant)
+}
+
 // boss is above payer and clerk, and Auditor stands alone.
 fn office_hierarchy(rt: &impl Abort, alloc: Global) -> Hierarchy {
     let mut hierarchy = Hierarchy::empty(alloc);
-    for role in ["payer", "clerk", "boss", "Auditor"] {
-        let role = name(rt, alloc, role);
-        hierarchy.add_role(alloc, &role).expect(rt, "memory");
-    }
+    let auditor = name(rt, alloc, "Auditor");
+    hierarchy.add_role(alloc, &auditor).expect(rt, "memory");
+    let boss = name(rt, alloc, "boss");
     for junior in ["payer", "clerk"] {
-        let (boss, junior) = (name(rt, alloc, "boss"), name(rt, alloc, junior));
-        let declared = hierarchy.declare(alloc, &boss, &junior);
-        declared.expect(rt, "memory");
+        let junior = name(rt, alloc, junior);
+        add_pair(alloc, &mut hierarchy, &boss, &junior).expect(rt, "memory");
     }
     hierarchy
 }
@@ -176,7 +186,7 @@ fn office_sessions(rt: &impl Abort, alloc: Global) -> Sessions {
     sessions
 }
 
-fn office(rt: &impl Abort, alloc: Global) -> Office {
+fn small_office(rt: &impl Abort, alloc: Global) -> Office {
     Office {
         sets: office_sets(rt, alloc),
         hierarchy: office_hierarchy(rt, alloc),
@@ -212,7 +222,7 @@ fn expect_assigned_roles(
 #[test]
 fn assigned_users_and_roles_are_listed(rt: HostRuntime) {
     let alloc = rt.alloc();
-    let office = office(&rt, alloc);
+    let office = small_office(&rt, alloc);
     expect_assigned_users(&rt, alloc, &office, "clerk", &["Zed", "bob"]);
     expect_assigned_users(&rt, alloc, &office, "payer", &[]);
     expect_assigned_roles(&rt, alloc, &office, "ann", &["boss"]);
@@ -244,7 +254,7 @@ fn expect_authorized_roles(
 #[test]
 fn authorized_users_and_roles_are_listed(rt: HostRuntime) {
     let alloc = rt.alloc();
-    let office = office(&rt, alloc);
+    let office = small_office(&rt, alloc);
     expect_authorized_users(&rt, alloc, &office, "clerk", &["Zed", "ann", "bob"]);
     expect_authorized_users(&rt, alloc, &office, "payer", &["ann"]);
     expect_authorized_roles(&rt, alloc, &office, "ann", &["boss", "clerk", "payer"]);
@@ -282,7 +292,7 @@ fn expect_user_permissions(
 #[test]
 fn permissions_are_listed_with_inherited_ones(rt: HostRuntime) {
     let alloc = rt.alloc();
-    let office = office(&rt, alloc);
+    let office = small_office(&rt, alloc);
     expect_role_permissions(&rt, alloc, &office, "boss", &ALL);
     expect_role_permissions(&rt, alloc, &office, "payer", &[("pay", "invoice")]);
     expect_user_permissions(&rt, alloc, &office, "ann", &ALL);
@@ -307,7 +317,7 @@ fn expect_session(
 #[test]
 fn sessions_are_reviewed(rt: HostRuntime) {
     let alloc = rt.alloc();
-    let office = office(&rt, alloc);
+    let office = small_office(&rt, alloc);
     expect_session(&rt, alloc, &office, "s1", &["payer"], &[("pay", "invoice")]);
     expect_session(&rt, alloc, &office, "zz", &[], &[]);
 }
@@ -339,7 +349,7 @@ fn expect_user_operations(
 #[test]
 fn operations_on_an_object_are_listed(rt: HostRuntime) {
     let alloc = rt.alloc();
-    let office = office(&rt, alloc);
+    let office = small_office(&rt, alloc);
     expect_role_operations(
         &rt,
         alloc,
@@ -374,7 +384,7 @@ fn expect_sets(rt: &impl Abort, alloc: Global, office: &Office, kind: Separation
 #[test]
 fn sets_of_separation_are_reviewed(rt: HostRuntime) {
     let alloc = rt.alloc();
-    let office = office(&rt, alloc);
+    let office = small_office(&rt, alloc);
     expect_sets(&rt, alloc, &office, Separation::Static, &["duty", "late"]);
     expect_sets(&rt, alloc, &office, Separation::Dynamic, &["duty"]);
     let duty = (Separation::Static, "duty");
@@ -388,7 +398,7 @@ fn sets_of_separation_are_reviewed(rt: HostRuntime) {
 #[test]
 fn juniors_of_assigned_roles_are_added(rt: HostRuntime) -> Result<(), Fail> {
     let alloc = rt.alloc();
-    let office = office(&rt, alloc);
+    let office = small_office(&rt, alloc);
     let names = set(&rt, alloc, &["Auditor", "clerk"]);
     let ann = name(&rt, alloc, "ann");
     let assignments = office.sets.assignments_of(&ann);

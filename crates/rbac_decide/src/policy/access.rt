@@ -7,12 +7,13 @@ ghost use Rattle.std.specs.FinMap.Entries.{find};
 ghost use Rattle.rbac_words.specs.Name.{name_cmp};
 ghost use Rattle.rbac_words.specs.Authorization.{inherits_in, is_authorized as is_authorized_in, has_permission};
 ghost use Rattle.rbac_words.specs.Rows.{is_owner, is_active};
-ghost use Rattle.rbac_words.specs.Effect.{session_holds};
+ghost use Rattle.rbac_words.specs.Effect.{answer, session_holds};
+ghost use Rattle.rbac_words.specs.declared.command.Command.TheVariants.{CheckAccess};
 
 use crate::authorization::{is_authorized, is_authorized_for_all, some_inherits_some};
 use crate::policy::Policy;
 use rbac_sessions::Session;
-use rbac_words::Name;
+use rbac_words::{Answer, Name};
 
 impl Policy {
     /// Whether it is one of the roles.
@@ -92,6 +93,17 @@ impl Policy {
         match self.session(session) {
             Some(session) => self.some_has_permission(session.active.names(), operation, object),
             None => false,
+        }
+    }
+
+    /// The answer to CheckAccess, where it is not denied.
+    pub fn access(&self, session: &Name, operation: &Name, object: &Name) -> Answer
+        ensures { result ≡ answer (CheckAccess session.now operation.now object.now) self.now }
+    {
+        if self.session_holds(session, operation, object) {
+            Answer::Granted
+        } else {
+            Answer::Refused
         }
     }
 }

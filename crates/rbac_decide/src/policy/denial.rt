@@ -4,6 +4,7 @@ ghost use Rattle.rbac_words.specs.Rows.{first_denial};
 
 mod administration;
 mod hierarchy;
+mod reviews;
 mod separation;
 mod sessions;
 
@@ -90,6 +91,7 @@ impl Policy {
                 operation,
                 object,
             } => self.first_check_access(session, operation, object),
+            Command::Review(review) => self.first_review(review),
         };
         Ok(denial)
     }

@@ -1,9 +1,10 @@
 //! Commands and answers as a person writes them: `AssignUser ann clerk` and `Done`.
 
 use crate::Policy;
-use rbac_words::{Answer, Command, Name, NameSet, Separation};
+use rbac_words::{Answer, Command, Name, NameSet, Review, Separation};
 use std::alloc::Global;
 use std::process::Abort;
+use std::str::SplitWhitespace;
 
 pub fn name(rt: &impl Abort, alloc: Global, text: &str) -> Name {
     Name::read(alloc, text.as_bytes()).expect(rt, "a name")
@@ -142,6 +143,52 @@ fn set_command(rt: &impl Abort, alloc: Global, kind: &str, words: &[&str]) -> Co
     }
 }
 
+// A review of a set of separation, or of all of a kind.
+fn review_of_sets(rt: &impl Abort, alloc: Global, kind: &str, words: &[&str]) -> Review {
+    let separation = if kind.contains("Ssd") {
+        Separation::Static
+    } else {
+        Separation::Dynamic
+    };
+    match kind {
+        "SsdRoleSets" | "DsdRoleSets" => Review::RoleSets { kind: separation },
+        "SsdRoleSetRoles" | "DsdRoleSetRoles" => Review::RoleSetRoles {
+            kind: separation,
+            set: name_at(rt, alloc, words, 0),
+        },
+        _ => Review::RoleSetCardinality {
+            kind: separation,
+            set: name_at(rt, alloc, words, 0),
+        },
+    }
+}
+
+// A review, by its name and its words from the first field on.
+fn review(rt: &impl Abort, alloc: Global, kind: &str, words: &[&str]) -> Review {
+    if kind.contains("sdRoleSet") {
+        return review_of_sets(rt, alloc, kind, words);
+    }
+    let first = name_at(rt, alloc, words, 0);
+    match kind {
+        "AssignedUsers" => Review::AssignedUsers { role: first },
+        "AssignedRoles" => Review::AssignedRoles { user: first },
+        "AuthorizedUsers" => Review::AuthorizedUsers { role: first },
+        "AuthorizedRoles" => Review::AuthorizedRoles { user: first },
+        "RolePermissions" => Review::RolePermissions { role: first },
+        "UserPermissions" => Review::UserPermissions { user: first },
+        "SessionRoles" => Review::SessionRoles { session: first },
+        "SessionPermissions" => Review::SessionPermissions { session: first },
+        "RoleOperationsOnObject" => Review::RoleOperationsOnObject {
+            role: first,
+            object: name_at(rt, alloc, words, 1),
+        },
+        _ => Review::UserOperationsOnObject {
+            user: first,
+            object: name_at(rt, alloc, words, 1),
+        },
+    }
+}
+
 // A command by its name and its words from the first field on.
 fn command(rt: &impl Abort, alloc: Global, kind: &str, words: &[&str]) -> Command {
     match kind {
@@ -176,13 +223,53 @@ fn command(rt: &impl Abort, alloc: Global, kind: &str, words: &[&str]) -> Comman
     }
 }
 
-fn answer_word(answer: &Answer) -> &str {
-    match answer {
-        Answer::Done => "Done",
-        Answer::Granted => "Granted",
-        Answer::Refused => "Refused",
-        Answer::Denied(denial) => denial.word(),
+// Whether these are the names that the words say.
+fn are_names(names: &[Name], mut words: SplitWhitespace<'_>) -> bool {
+    for name in names {
+        if words.next().map(str::as_bytes) != Some(name.as_bytes()) {
+            return false;
+        }
     }
+    words.next().is_none()
+}
+
+// Whether these are the permissions that the words say.
+fn are_permissions(permissions: &[(Name, Name)], mut words: SplitWhitespace<'_>) -> bool {
+    for (operation, object) in permissions {
+        if words.next().map(str::as_bytes) != Some(operation.as_bytes())
+            || words.next().map(str::as_bytes) != Some(object.as_bytes())
+        {
+            return false;
+        }
+    }
+    words.next().is_none()
+}
+
+// Whether the words say this answer: a list by its names, and a number by itself.
+fn is_said(answer: &Answer, wanted: &str) -> bool {
+    match answer {
+        Answer::Done => wanted == "Done",
+        Answer::Granted => wanted == "Granted",
+        Answer::Refused => wanted == "Refused",
+        Answer::Names(names) => are_names(names.names(), wanted.split_whitespace()),
+        Answer::Permissions(permissions) => {
+            are_permissions(permissions.permissions(), wanted.split_whitespace())
+        }
+        Answer::Count(count) => wanted.parse() == Ok(*count),
+        Answer::Denied(denial) => wanted == denial.word(),
+    }
+}
+
+// Applies a command, and compares its answer.
+fn expect_answer(
+    rt: &impl Abort,
+    alloc: Global,
+    policy: &mut Policy,
+    command: Command,
+    row: (&str, &str),
+) {
+    let answer = policy.apply(alloc, &command).expect(rt, "memory");
+    assert!(rt; is_said(&answer, row.1), "{}", row.0);
 }
 
 // Applies the command of a row, and compares its answer.
@@ -193,8 +280,22 @@ fn play_row(rt: &impl Abort, alloc: Global, policy: &mut Policy, text: &str, wan
         .collect(alloc)
         .expect(rt, "memory");
     let command = command(rt, alloc, kind, &words);
-    let answer = policy.apply(alloc, &command).expect(rt, "memory");
-    assert!(rt; answer_word(&answer) == wanted, "{text}");
+    expect_answer(rt, alloc, policy, command, (text, wanted));
+}
+
+// Applies the review of a row, and compares its answer.
+fn review_row(rt: &impl Abort, alloc: Global, policy: &mut Policy, text: &str, wanted: &str) {
+    let words: Vec<&str> = text.split_whitespace().collect(alloc).expect(rt, "memory");
+    let kind = words.first().expect(rt, "a review");
+    let review = review(rt, alloc, kind, &words[1..]);
+    expect_answer(rt, alloc, policy, Command::Review(review), (text, wanted));
+}
+
+/// Applies the reviews of these rows one after the other, and compares their answers.
+pub fn look(rt: &impl Abort, alloc: Global, policy: &mut Policy, rows: &[(&str, &str)]) {
+    for (text, wanted) in rows {
+        review_row(rt, alloc, policy, text, wanted);
+    }
 }
 
 /// Applies the commands of these rows one after the other, and compares their answers.

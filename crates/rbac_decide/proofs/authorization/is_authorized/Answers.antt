@@ -3,7 +3,7 @@ use Rattle.std.specs.List.{list_any}
 use Rattle.rbac_words.specs.Name.{Name}
 use Rattle.rbac_words.specs.Relations.{begins_with}
 use Rattle.rbac_words.specs.Inheritance.{inherits}
-use Rattle.rbac_decide.proofs.AuthorizationLemmas.{any-filter}
+use Rattle.rbac_review.proofs.ReviewLemmas.{any-filter}
 use Rattle.rbac_decide.proofs.authorization.is_authorized.Goals as goal
 
 pub returns : goal.returns

@@ -22,7 +22,7 @@ invariant_of-self c = record {
 
 pub returns : goal.returns
 returns c = record {
-  reply = undenied_reply c.args.command.now c.args.self.now c.answer-answer.result (sym c.in_default.is ∙ c.in_ok-denial.ensures) c.answer-answer.ensures;
+  reply = undenied_reply c.args.command.now c.args.self.now c.in_ok-answer.answer (sym c.in_default.is ∙ c.in_ok-denial.ensures) c.in_ok-answer.ensures;
   effect = put_in_place c;
   unchanged = tt;
 }

@@ -5,7 +5,7 @@ use Rattle.rbac_words.specs.Name.{Name, Permission, Grant, pair_cmp}
 use Rattle.rbac_words.specs.State.{State}
 use Rattle.rbac_words.specs.Authorization.{inherits_in, has_permission}
 use Rattle.rbac_decide.specs.Tables.{state_of}
-use Rattle.rbac_decide.proofs.AuthorizationLemmas.{any-same, any-filter}
+use Rattle.rbac_review.proofs.ReviewLemmas.{any-same, any-filter}
 use Rattle.rbac_decide.proofs.policy.Policy.some_has_permission.Goals as goal
 
 pub returns : goal.returns
