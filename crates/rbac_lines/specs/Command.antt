@@ -4,8 +4,10 @@ use Rattle.serde_json.specs.Data.{Members}
 use Rattle.rbac_words.specs.Name.{Name}
 use Rattle.rbac_words.specs.declared.separation.Separation.{Separation}
 use Rattle.rbac_words.specs.declared.separation.Separation.TheVariants.{Static, Dynamic}
+use Rattle.rbac_words.specs.declared.review.Review.{Review}
+use Rattle.rbac_words.specs.declared.review.Review.TheVariants.{AssignedUsers, AssignedRoles, AuthorizedUsers, AuthorizedRoles, RolePermissions, UserPermissions, SessionRoles, SessionPermissions, RoleOperationsOnObject, UserOperationsOnObject, RoleSets, RoleSetRoles, RoleSetCardinality}
 use Rattle.rbac_words.specs.declared.command.Command.{Command}
-use Rattle.rbac_words.specs.declared.command.Command.TheVariants.{AddUser, DeleteUser, AddRole, DeleteRole, AssignUser, DeassignUser, GrantPermission, RevokePermission, AddInheritance, DeleteInheritance, AddAscendant, AddDescendant, CreateSet, DeleteSet, AddRoleMember, DeleteRoleMember, SetCardinality, CreateSession, DeleteSession, AddActiveRole, DropActiveRole, CheckAccess}
+use Rattle.rbac_words.specs.declared.command.Command.TheVariants.{AddUser, DeleteUser, AddRole, DeleteRole, AssignUser, DeassignUser, GrantPermission, RevokePermission, AddInheritance, DeleteInheritance, AddAscendant, AddDescendant, CreateSet, DeleteSet, AddRoleMember, DeleteRoleMember, SetCardinality, CreateSession, DeleteSession, AddActiveRole, DropActiveRole, CheckAccess, Review as ReviewCommand}
 use Rattle.rbac_lines.specs.Steps.{◌>>=◌, ◌>>◌}
 use Rattle.rbac_lines.specs.Fields.{Reading, whole_in, text_in, name_in, names_in, only_keys, by_word}
 
@@ -158,7 +160,45 @@ check_access fields = do
   names ← three_names (codes "session") (codes "operation") (codes "object") fields
   Ok (CheckAccess names.0 names.1 names.2)
 
--- the commands about sets of separation by their names
+-- a review that asks about one name, or about two
+abbrev pub review_of_one : (Name → Review) → List ℕ → Members → Reading Command
+review_of_one review key fields = do
+  name ← one_name key fields
+  Ok (ReviewCommand (review name))
+
+abbrev pub review_of_two : (Name → Name → Review) → List ℕ → List ℕ → Members → Reading Command
+review_of_two review first second fields = do
+  names ← two_names first second fields
+  Ok (ReviewCommand (review names.0 names.1))
+
+-- the review that lists the sets of a kind: it has no field
+abbrev pub role_sets : Separation → Members → Reading Command
+role_sets kind fields = do
+  only_keys (codes "name" ∷ []) fields
+  Ok (ReviewCommand (RoleSets kind))
+
+-- the reviews by their names
+unfoldable pub review_commands : List (List ℕ × (Members → Reading Command))
+review_commands =
+    (codes "AssignedUsers", review_of_one AssignedUsers (codes "role"))
+    ∷ (codes "AssignedRoles", review_of_one AssignedRoles (codes "user"))
+    ∷ (codes "AuthorizedUsers", review_of_one AuthorizedUsers (codes "role"))
+    ∷ (codes "AuthorizedRoles", review_of_one AuthorizedRoles (codes "user"))
+    ∷ (codes "RolePermissions", review_of_one RolePermissions (codes "role"))
+    ∷ (codes "UserPermissions", review_of_one UserPermissions (codes "user"))
+    ∷ (codes "SessionRoles", review_of_one SessionRoles (codes "session"))
+    ∷ (codes "SessionPermissions", review_of_one SessionPermissions (codes "session"))
+    ∷ (codes "RoleOperationsOnObject", review_of_two RoleOperationsOnObject (codes "role") (codes "object"))
+    ∷ (codes "UserOperationsOnObject", review_of_two UserOperationsOnObject (codes "user") (codes "object"))
+    ∷ (codes "SsdRoleSets", role_sets Static)
+    ∷ (codes "SsdRoleSetRoles", review_of_one (RoleSetRoles Static) (codes "set"))
+    ∷ (codes "SsdRoleSetCardinality", review_of_one (RoleSetCardinality Static) (codes "set"))
+    ∷ (codes "DsdRoleSets", role_sets Dynamic)
+    ∷ (codes "DsdRoleSetRoles", review_of_one (RoleSetRoles Dynamic) (codes "set"))
+    ∷ (codes "DsdRoleSetCardinality", review_of_one (RoleSetCardinality Dynamic) (codes "set"))
+    ∷ []
+
+-- the commands about sets of separation by their names, and after them the reviews
 abbrev pub separation_commands : List (List ℕ × (Members → Reading Command))
 separation_commands =
     (codes "CreateSsdSet", create_set Static)
@@ -171,7 +211,7 @@ separation_commands =
     ∷ (codes "AddDsdRoleMember", add_role_member Dynamic)
     ∷ (codes "DeleteDsdRoleMember", delete_role_member Dynamic)
     ∷ (codes "SetDsdSetCardinality", set_cardinality Dynamic)
-    ∷ []
+    ∷ review_commands
 
 -- the commands by their names
 abbrev pub commands_by_name : List (List ℕ × (Members → Reading Command))

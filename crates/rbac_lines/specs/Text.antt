@@ -1,11 +1,13 @@
 -- What a line is answered with: compact JSON without blanks, its keys in the order of their bytes, and a line feed.
 use Rattle.std.specs.Prelude.{ℕ, List, ◌++◌, codes, decimal, Option, Some, None}
+use Rattle.std.specs.List.{join_by}
+use Rattle.rbac_words.specs.Name.{Name, Permission}
 use Rattle.rbac_words.specs.Denials.{denial_word, denial_number}
 use Rattle.rbac_words.specs.declared.stamp.Stamp.{Stamp}
 use Rattle.rbac_words.specs.declared.record.Record.{Record}
 use Rattle.rbac_words.specs.declared.answer.Denial.{Denial}
 use Rattle.rbac_words.specs.declared.answer.Answer.{Answer}
-use Rattle.rbac_words.specs.declared.answer.Answer.TheVariants.{Done, Granted, Refused, Denied}
+use Rattle.rbac_words.specs.declared.answer.Answer.TheVariants.{Done, Granted, Refused, Names, Permissions, Count, Denied}
 use Rattle.rbac_words.specs.declared.event.Outcome.{Outcome}
 use Rattle.rbac_words.specs.declared.event.Outcome.TheVariants.{Submitted, Received, Delivered}
 use Rattle.rbac_words.specs.declared.event.Refusal.{Refusal}
@@ -28,11 +30,38 @@ stamp_or_null None = codes "null"
 abbrev pub denial_text : Denial → List ℕ
 denial_text denial = codes "{\"denied\":\"" ++ denial_word denial ++ codes "\",\"number\":" ++ decimal (denial_number denial) ++ codes "}"
 
--- "Done", "Granted", "Refused", or a denial
+-- "ann": none of a name's bytes has to be escaped
+abbrev pub name_text : Name → List ℕ
+name_text name = codes "\"" ++ name ++ codes "\""
+
+-- ["read","ledger"]: the operation and the object
+abbrev pub permission_text : Permission → List ℕ
+permission_text permission = codes "[" ++ name_text permission.0 ++ codes "," ++ name_text permission.1 ++ codes "]"
+
+-- the texts of the elements, with commas between, in brackets
+abbrev pub array_text : {X : Type 0} → (X → List ℕ) → List X → List ℕ
+array_text element_text elements = codes "[" ++ join_by element_text (codes ",") elements ++ codes "]"
+
+-- {"names":["boss","payer"]}
+abbrev pub names_text : List Name → List ℕ
+names_text names = codes "{\"names\":" ++ array_text name_text names ++ codes "}"
+
+-- {"permissions":[["read","ledger"]]}
+abbrev pub permissions_text : List Permission → List ℕ
+permissions_text permissions = codes "{\"permissions\":" ++ array_text permission_text permissions ++ codes "}"
+
+-- {"count":2}
+abbrev pub count_text : ℕ → List ℕ
+count_text count = codes "{\"count\":" ++ decimal count ++ codes "}"
+
+-- "Done", "Granted", "Refused", what a review lists, or a denial
 abbrev pub answer_text : Answer → List ℕ
 answer_text Done = codes "\"Done\""
 answer_text Granted = codes "\"Granted\""
 answer_text Refused = codes "\"Refused\""
+answer_text (Names names) = names_text names
+answer_text (Permissions permissions) = permissions_text permissions
+answer_text (Count count) = count_text count
 answer_text (Denied denial) = denial_text denial
 
 -- how each refusal ends

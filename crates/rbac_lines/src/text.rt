@@ -1,9 +1,12 @@
 //! The texts that lines are answered with. Each call puts one text, its line feed included, behind what the buffer has.
 //! Where it fails for want of memory, the buffer may have a part of the text.
 ghost use Rattle.std.specs.Prelude.{◌≡◌, ◌++◌, decimal, OnOk};
-ghost use Rattle.rbac_lines.specs.Text.{stamp_text, stamp_or_null, denial_text, answer_text, submitted_text, received_text, delivered_text, nothing_delivered_text, refusal_word, refused_word_text, refused_text, out_of_turn_text, bad_serial_text, refusal_text, line_refusal_text};
+ghost use Rattle.rbac_lines.specs.Text.{stamp_text, stamp_or_null, denial_text, count_text, answer_text, submitted_text, received_text, delivered_text, nothing_delivered_text, refusal_word, refused_word_text, refused_text, out_of_turn_text, bad_serial_text, refusal_text, line_refusal_text};
+
+mod lists;
 
 use crate::refusal::LineRefusal;
+use lists::{put_names, put_permissions};
 use rbac_words::{Answer, Denial, Record, Refusal, Stamp};
 use std::alloc::AllocError;
 use std::io::Write;
@@ -66,14 +69,24 @@ fn put_denial(text: &mut Vec<u8>, denial: Denial) -> Result<(), AllocError>
     text.extend_from_slice(b"}")
 }
 
-fn put_answer(text: &mut Vec<u8>, answer: Answer) -> Result<(), AllocError>
-    ensures { OnOk result (text.new.items ≡ text.old.items ++ answer_text answer) }
+fn put_count(text: &mut Vec<u8>, count: u32) -> Result<(), AllocError>
+    ensures { OnOk result (text.new.items ≡ text.old.items ++ count_text count) }
+{
+    put_number(text, "{\"count\":", u64::from(count))?;
+    text.extend_from_slice(b"}")
+}
+
+fn put_answer(text: &mut Vec<u8>, answer: &Answer) -> Result<(), AllocError>
+    ensures { OnOk result (text.new.items ≡ text.old.items ++ answer_text answer.now) }
 {
     match answer {
         Answer::Done => text.extend_from_slice(b"\"Done\""),
         Answer::Granted => text.extend_from_slice(b"\"Granted\""),
         Answer::Refused => text.extend_from_slice(b"\"Refused\""),
-        Answer::Denied(denial) => put_denial(text, denial),
+        Answer::Names(names) => put_names(text, names.names()),
+        Answer::Permissions(permissions) => put_permissions(text, permissions.permissions()),
+        Answer::Count(count) => put_count(text, *count),
+        Answer::Denied(denial) => put_denial(text, *denial),
     }
 }
 
@@ -82,7 +95,7 @@ pub fn put_delivered(text: &mut Vec<u8>, line: u64, delivered: &Record) -> Resul
     ensures { OnOk result (text.new.items ≡ text.old.items ++ delivered_text line delivered.now) }
 {
     text.extend_from_slice(b"{\"answer\":")?;
-    put_answer(text, delivered.answer)?;
+    put_answer(text, &delivered.answer)?;
     put_number(text, ",\"caller\":", u64::from(delivered.caller))?;
     put_number(text, ",\"line\":", line)?;
     put_number(text, ",\"serial\":", u64::from(delivered.serial))?;

@@ -4,6 +4,7 @@ ghost use Rattle.rbac_lines.specs.Fields.{Reads};
 ghost use Rattle.rbac_lines.specs.Command.{command_of, one_name, two_names, three_names, add_user, delete_user, add_role, delete_role, assign_user, deassign_user, grant_permission, revoke_permission, create_session, delete_session, add_active_role, drop_active_role, check_access};
 
 mod hierarchy;
+mod reviews;
 mod separation;
 
 use crate::reading::fields::{Object, name_in, names_in, only_keys, text_in};

@@ -2,7 +2,7 @@
 
 use crate::reading::read_line;
 use crate::refusal::LineRefusal;
-use rbac_words::{Command, Event, Name, NameSet, Separation};
+use rbac_words::{Command, Event, Name, NameSet, Review, Separation};
 use std::alloc::{AllocError, Global};
 use std::process::Abort;
 
@@ -142,6 +142,15 @@ fn the_first_refusal_of_a_command(rt: HostRuntime) -> Result<(), AllocError> {
             r#"{"name":"AddUser","user":"ann","role":"clerk"}"#,
             LineRefusal::ExtraField,
         ),
+        (r#"{"name":"RoleSets","x":0}"#, LineRefusal::UnknownWord),
+        (
+            r#"{"name":"AssignedUsers","user":"ann"}"#,
+            LineRefusal::MissingField,
+        ),
+        (
+            r#"{"name":"DsdRoleSets","set":"duty"}"#,
+            LineRefusal::ExtraField,
+        ),
     ] {
         let line = submit_line(rt.alloc(), command)?;
         assert_eq!(rt;
@@ -224,7 +233,10 @@ fn word_of<'w>(kind: Separation, word: &'w str) -> &'w str {
             "DeleteSet" => "DeleteSet (dynamic)",
             "AddRoleMember" => "AddRoleMember (dynamic)",
             "DeleteRoleMember" => "DeleteRoleMember (dynamic)",
-            _ => "SetCardinality (dynamic)",
+            "SetCardinality" => "SetCardinality (dynamic)",
+            "RoleSets" => "RoleSets (dynamic)",
+            "RoleSetRoles" => "RoleSetRoles (dynamic)",
+            _ => "RoleSetCardinality (dynamic)",
         },
     }
 }
@@ -253,6 +265,33 @@ fn words_of(alloc: Global, command: &str, names: &[&Name]) -> Result<String, All
         words.push_str(text_of(name))?;
     }
     Ok(words)
+}
+
+/// A review's name and fields from left to right.
+fn review_words(alloc: Global, review: &Review) -> Result<String, AllocError> {
+    match review {
+        Review::AssignedUsers { role } => words_of(alloc, "AssignedUsers", &[role]),
+        Review::AssignedRoles { user } => words_of(alloc, "AssignedRoles", &[user]),
+        Review::AuthorizedUsers { role } => words_of(alloc, "AuthorizedUsers", &[role]),
+        Review::AuthorizedRoles { user } => words_of(alloc, "AuthorizedRoles", &[user]),
+        Review::RolePermissions { role } => words_of(alloc, "RolePermissions", &[role]),
+        Review::UserPermissions { user } => words_of(alloc, "UserPermissions", &[user]),
+        Review::SessionRoles { session } => words_of(alloc, "SessionRoles", &[session]),
+        Review::SessionPermissions { session } => words_of(alloc, "SessionPermissions", &[session]),
+        Review::RoleOperationsOnObject { role, object } => {
+            words_of(alloc, "RoleOperationsOnObject", &[role, object])
+        }
+        Review::UserOperationsOnObject { user, object } => {
+            words_of(alloc, "UserOperationsOnObject", &[user, object])
+        }
+        Review::RoleSets { kind } => words_of(alloc, word_of(*kind, "RoleSets"), &[]),
+        Review::RoleSetRoles { kind, set } => {
+            words_of(alloc, word_of(*kind, "RoleSetRoles"), &[set])
+        }
+        Review::RoleSetCardinality { kind, set } => {
+            words_of(alloc, word_of(*kind, "RoleSetCardinality"), &[set])
+        }
+    }
 }
 
 /// A command's name and fields from left to right.
@@ -332,6 +371,7 @@ fn command_words(alloc: Global, command: &Command) -> Result<String, AllocError>
             operation,
             object,
         } => words_of(alloc, "CheckAccess", &[session, operation, object]),
+        Command::Review(review) => review_words(alloc, review),
     }
 }
 
@@ -349,6 +389,23 @@ fn event_words(alloc: Global, event: &Event) -> Result<String, AllocError> {
         }
         Event::Receive { at, from, number } => format!(in alloc; "receive {at} {from} {number}"),
         Event::Deliver { at } => format!(in alloc; "deliver {at}"),
+    }
+}
+
+/// The words of an event, which is dropped in this one place: a drop of a command is a case for each command.
+fn words_of_event(alloc: Global, event: Event) -> Result<String, AllocError> {
+    event_words(alloc, &event)
+}
+
+/// Reads a line, and compares what it is read as.
+fn expect_event(rt: &impl Abort, alloc: Global, line: &str, words: &str) -> Result<(), AllocError> {
+    match read_line(alloc, line.as_bytes()) {
+        Ok(event) => {
+            let read = words_of_event(alloc, event)?;
+            assert_eq!(rt; read.as_str(), words);
+            Ok(())
+        }
+        Err(refusal) => panic!(rt; "{line} is refused: {refusal:?}"),
     }
 }
 
@@ -374,10 +431,7 @@ fn the_events(rt: HostRuntime) -> Result<(), AllocError> {
             "submit 4 5 6 AddUser ann",
         ),
     ] {
-        match read_line(rt.alloc(), line.as_bytes()) {
-            Ok(event) => assert_eq!(rt; event_words(rt.alloc(), &event)?.as_str(), words),
-            Err(refusal) => panic!(rt; "{line} is refused: {refusal:?}"),
-        }
+        expect_event(&rt, rt.alloc(), line, words)?;
     }
     Ok(())
 }
@@ -390,10 +444,7 @@ fn expect_commands(
 ) -> Result<(), AllocError> {
     for (command, words) in commands {
         let line = submit_line(alloc, command)?;
-        match read_line(alloc, line.as_bytes()) {
-            Ok(event) => assert_eq!(rt; event_words(alloc, &event)?.as_str(), *words),
-            Err(refusal) => panic!(rt; "{command} is refused: {refusal:?}"),
-        }
+        expect_event(rt, alloc, line.as_str(), words)?;
     }
     Ok(())
 }
@@ -536,6 +587,88 @@ fn commands_about_sessions(rt: HostRuntime) -> Result<(), AllocError> {
         (
             r#"{"name":"CheckAccess","session":"s","operation":"read","object":"file"}"#,
             "submit 1 0 0 CheckAccess s read file",
+        ),
+    ];
+    expect_commands(&rt, rt.alloc(), &commands)
+}
+
+#[test]
+fn reviews_of_roles_and_users(rt: HostRuntime) -> Result<(), AllocError> {
+    let commands = [
+        (
+            r#"{"name":"AssignedUsers","role":"clerk"}"#,
+            "submit 1 0 0 AssignedUsers clerk",
+        ),
+        (
+            r#"{"user":"ann","name":"AssignedRoles"}"#,
+            "submit 1 0 0 AssignedRoles ann",
+        ),
+        (
+            r#"{"name":"AuthorizedUsers","role":"clerk"}"#,
+            "submit 1 0 0 AuthorizedUsers clerk",
+        ),
+        (
+            r#"{"name":"AuthorizedRoles","user":"ann"}"#,
+            "submit 1 0 0 AuthorizedRoles ann",
+        ),
+        (
+            r#"{"name":"RolePermissions","role":"clerk"}"#,
+            "submit 1 0 0 RolePermissions clerk",
+        ),
+        (
+            r#"{"name":"UserPermissions","user":"ann"}"#,
+            "submit 1 0 0 UserPermissions ann",
+        ),
+        (
+            r#"{"name":"RoleOperationsOnObject","object":"file","role":"clerk"}"#,
+            "submit 1 0 0 RoleOperationsOnObject clerk file",
+        ),
+        (
+            r#"{"name":"UserOperationsOnObject","user":"ann","object":"file"}"#,
+            "submit 1 0 0 UserOperationsOnObject ann file",
+        ),
+    ];
+    expect_commands(&rt, rt.alloc(), &commands)
+}
+
+#[test]
+fn reviews_of_sessions(rt: HostRuntime) -> Result<(), AllocError> {
+    let commands = [
+        (
+            r#"{"name":"SessionRoles","session":"s"}"#,
+            "submit 1 0 0 SessionRoles s",
+        ),
+        (
+            r#"{"name":"SessionPermissions","session":"s"}"#,
+            "submit 1 0 0 SessionPermissions s",
+        ),
+    ];
+    expect_commands(&rt, rt.alloc(), &commands)
+}
+
+#[test]
+fn reviews_of_sets(rt: HostRuntime) -> Result<(), AllocError> {
+    let commands = [
+        (r#"{"name":"SsdRoleSets"}"#, "submit 1 0 0 RoleSets"),
+        (
+            r#"{"name":"SsdRoleSetRoles","set":"duty"}"#,
+            "submit 1 0 0 RoleSetRoles duty",
+        ),
+        (
+            r#"{"name":"SsdRoleSetCardinality","set":"duty"}"#,
+            "submit 1 0 0 RoleSetCardinality duty",
+        ),
+        (
+            r#"{"name":"DsdRoleSets"}"#,
+            "submit 1 0 0 RoleSets (dynamic)",
+        ),
+        (
+            r#"{"name":"DsdRoleSetRoles","set":"duty"}"#,
+            "submit 1 0 0 RoleSetRoles (dynamic) duty",
+        ),
+        (
+            r#"{"name":"DsdRoleSetCardinality","set":"duty"}"#,
+            "submit 1 0 0 RoleSetCardinality (dynamic) duty",
         ),
     ];
     expect_commands(&rt, rt.alloc(), &commands)

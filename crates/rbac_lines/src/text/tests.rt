@@ -2,11 +2,13 @@
 
 use crate::refusal::LineRefusal;
 use crate::text::{
-    put_delivered, put_line_refused, put_nothing_delivered, put_received, put_refused,
+    put_answer, put_delivered, put_line_refused, put_nothing_delivered, put_received, put_refused,
     put_submitted,
 };
-use rbac_words::{Answer, Command, Denial, Name, Record, Refusal, Stamp};
+use rbac_words::{Answer, Command, Denial, Name, NameSet, PermissionSet, Record, Refusal, Stamp};
+use sorted_keys::SortedSet;
 use std::alloc::{AllocError, Global};
+use std::process::Abort;
 use std::test::Fail;
 
 const STAMP: Stamp = Stamp {
@@ -50,30 +52,118 @@ fn submitted_and_received(rt: HostRuntime) -> Result<(), AllocError> {
     Ok(())
 }
 
+/// Puts the text of a record, which is dropped in this one place.
+fn put_record(text: &mut Vec<u8>, delivered: Record) -> Result<(), AllocError> {
+    put_delivered(text, 5, &delivered)
+}
+
 #[test]
 fn delivered(rt: HostRuntime) -> Result<(), Fail> {
     let mut text = Vec::new(rt.alloc());
-    for answer in [
-        Answer::Done,
-        Answer::Granted,
-        Answer::Refused,
-        Answer::Denied(Denial::NoSession),
-    ] {
-        let delivered = record_of(rt.alloc(), answer).ok_or("memory")?;
-        put_delivered(&mut text, 5, &delivered)?;
-    }
+    let denied = record_of(rt.alloc(), Answer::Denied(Denial::NoSession)).ok_or("memory")?;
+    put_record(&mut text, denied)?;
     put_nothing_delivered(&mut text, 5)?;
     assert_eq!(rt;
         text.as_slice(),
-        br#"{"answer":"Done","caller":4294967295,"line":5,"serial":0,"stamp":[9007199254740991,8]}
-{"answer":"Granted","caller":4294967295,"line":5,"serial":0,"stamp":[9007199254740991,8]}
-{"answer":"Refused","caller":4294967295,"line":5,"serial":0,"stamp":[9007199254740991,8]}
-{"answer":{"denied":"NoSession","number":10},"caller":4294967295,"line":5,"serial":0,"stamp":[9007199254740991,8]}
+        br#"{"answer":{"denied":"NoSession","number":10},"caller":4294967295,"line":5,"serial":0,"stamp":[9007199254740991,8]}
 {"answer":null,"line":5}
 "#
             .as_slice()
     );
     Ok(())
+}
+
+/// The text of this answer, which is dropped here, is this.
+fn expect_answer(
+    rt: &impl Abort,
+    alloc: Global,
+    answer: Answer,
+    shown: &str,
+) -> Result<(), AllocError> {
+    let mut text = Vec::new(alloc);
+    put_answer(&mut text, &answer)?;
+    assert_eq!(rt; text.as_slice(), shown.as_bytes());
+    Ok(())
+}
+
+#[test]
+fn answers_of_one_word(rt: HostRuntime) -> Result<(), AllocError> {
+    expect_answer(&rt, rt.alloc(), Answer::Done, r#""Done""#)?;
+    expect_answer(&rt, rt.alloc(), Answer::Granted, r#""Granted""#)?;
+    expect_answer(&rt, rt.alloc(), Answer::Refused, r#""Refused""#)
+}
+
+/// The answer that lists these names.
+fn names(alloc: Global, texts: &[&str]) -> Option<Answer> {
+    let mut names = NameSet::new(alloc);
+    for text in texts {
+        names.add(Name::read(alloc, text.as_bytes()).ok()?).ok()?;
+    }
+    Some(Answer::Names(names))
+}
+
+/// The answer that lists these permissions.
+fn permissions(alloc: Global, pairs: &[(&str, &str)]) -> Option<Answer> {
+    let mut permissions = SortedSet::new(alloc);
+    for (operation, object) in pairs {
+        let operation = Name::read(alloc, operation.as_bytes()).ok()?;
+        let object = Name::read(alloc, object.as_bytes()).ok()?;
+        permissions.insert((operation, object)).ok()?;
+    }
+    Some(Answer::Permissions(PermissionSet::of(permissions)))
+}
+
+fn expect_names(rt: &impl Abort, alloc: Global, texts: &[&str], shown: &str) -> Result<(), Fail> {
+    Ok(expect_answer(rt, alloc, names(alloc, texts).ok_or("memory")?, shown)?)
+}
+
+fn expect_permissions(
+    rt: &impl Abort,
+    alloc: Global,
+    pairs: &[(&str, &str)],
+    shown: &str,
+) -> Result<(), Fail> {
+    Ok(expect_answer(rt, alloc, permissions(alloc, pairs).ok_or("memory")?, shown)?)
+}
+
+#[test]
+fn answers_of_names(rt: HostRuntime) -> Result<(), Fail> {
+    expect_names(&rt, rt.alloc(), &[], r#"{"names":[]}"#)?;
+    expect_names(&rt, rt.alloc(), &["boss"], r#"{"names":["boss"]}"#)?;
+    expect_names(
+        &rt,
+        rt.alloc(),
+        &["payer", "a.b-c_1", "Boss"],
+        r#"{"names":["Boss","a.b-c_1","payer"]}"#,
+    )
+}
+
+#[test]
+fn answers_of_permissions(rt: HostRuntime) -> Result<(), Fail> {
+    expect_permissions(&rt, rt.alloc(), &[], r#"{"permissions":[]}"#)?;
+    expect_permissions(
+        &rt,
+        rt.alloc(),
+        &[("read", "ledger")],
+        r#"{"permissions":[["read","ledger"]]}"#,
+    )?;
+    expect_permissions(
+        &rt,
+        rt.alloc(),
+        &[("read", "ledger"), ("pay", "ledger"), ("read", "invoice")],
+        r#"{"permissions":[["pay","ledger"],["read","invoice"],["read","ledger"]]}"#,
+    )
+}
+
+#[test]
+fn answers_of_counts(rt: HostRuntime) -> Result<(), AllocError> {
+    expect_answer(&rt, rt.alloc(), Answer::Count(2), r#"{"count":2}"#)?;
+    expect_answer(
+        &rt,
+        rt.alloc(),
+        Answer::Count(4_294_967_295),
+        r#"{"count":4294967295}"#,
+    )
 }
 
 #[test]

@@ -3,13 +3,14 @@ ghost use Rattle.serde_json.specs.View.{members_view};
 ghost use Rattle.rbac_lines.specs.Fields.{Reads, by_word};
 ghost use Rattle.rbac_lines.specs.Command.{separation_commands, create_set, delete_set, add_role_member, delete_role_member, set_cardinality};
 
+use crate::reading::commands::reviews::review_command;
 use crate::reading::commands::{one_name, two_names};
 use crate::reading::fields::{Object, name_in, names_in, only_keys, whole_in};
 use crate::refusal::LineRefusal;
 use rbac_words::{Command, Separation};
 use std::alloc::Global;
 
-/// Reads a command object of this name, where it is about a set of separation.
+/// Reads a command object of this name, where it changes a set of separation or is a review.
 pub fn separation_command(
     alloc: Global,
     fields: &Object,
@@ -28,7 +29,7 @@ pub fn separation_command(
         "AddDsdRoleMember" => add_role_member(alloc, fields, Separation::Dynamic),
         "DeleteDsdRoleMember" => delete_role_member(alloc, fields, Separation::Dynamic),
         "SetDsdSetCardinality" => set_cardinality(alloc, fields, Separation::Dynamic),
-        _ => Err(LineRefusal::UnknownWord),
+        name => review_command(alloc, fields, name),
     }
 }
 
