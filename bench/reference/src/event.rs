@@ -1,0 +1,60 @@
+//! A schedule line as an event.
+
+mod commands;
+mod fields;
+
+use crate::command::Command;
+use crate::json;
+use crate::limits;
+use fields::Fields;
+
+pub enum Event {
+    Submit { at: u32, caller: u32, serial: u32, command: Command },
+    Receive { at: u32, from: u32 },
+    Deliver { at: u32 },
+}
+
+#[derive(Clone, Copy, Debug, PartialEq, Eq)]
+pub enum LineRefusal {
+    TooLong,
+    NotJson,
+    NotObject,
+    UnknownWord,
+    MissingField,
+    WrongKind,
+    BadName,
+    ExtraField,
+}
+
+/// Reads a line without its line feed. The outer object is looked at whole before the command in it.
+pub fn read_line(line: &[u8]) -> Result<Event, LineRefusal> {
+    if line.len() > limits::LINE_BYTES {
+        return Err(LineRefusal::TooLong);
+    }
+    let value = json::read(line).map_err(|_| LineRefusal::NotJson)?;
+    let json::Value::Object(object) = value else {
+        return Err(LineRefusal::NotObject);
+    };
+    let mut fields = Fields::new(&object);
+    match fields.text("do")? {
+        "submit" => {
+            let (at, caller, serial) = (fields.number("at")?, fields.number("caller")?, fields.number("serial")?);
+            let command = fields.object("command")?;
+            fields.end()?;
+            Ok(Event::Submit { at, caller, serial, command: commands::read_command(command)? })
+        }
+        "receive" => {
+            let (at, from) = (fields.number("at")?, fields.number("from")?);
+            // Messages are numbered, but a member alone has none to receive.
+            fields.number("number")?;
+            fields.end()?;
+            Ok(Event::Receive { at, from })
+        }
+        "deliver" => {
+            let at = fields.number("at")?;
+            fields.end()?;
+            Ok(Event::Deliver { at })
+        }
+        _ => Err(LineRefusal::UnknownWord),
+    }
+}

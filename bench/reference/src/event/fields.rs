@@ -1,0 +1,67 @@
+//! The fields of an object, read one after the other.
+
+use super::LineRefusal;
+use crate::json::{Object, Value};
+use crate::name::Name;
+
+/// Reads the fields that a row names, from left to right, and then asks that there is no other.
+pub struct Fields<'a> {
+    object: &'a Object<'a>,
+    taken: Vec<&'static str>,
+}
+
+impl<'a> Fields<'a> {
+    pub fn new(object: &'a Object<'a>) -> Fields<'a> {
+        Fields { object, taken: Vec::with_capacity(5) }
+    }
+
+    fn value(&mut self, key: &'static str) -> Result<&'a Value<'a>, LineRefusal> {
+        self.taken.push(key);
+        // Of a key that stands twice the last value counts.
+        let found = self.object.iter().rev().find(|(other, _)| other == key);
+        found.map(|(_, value)| value).ok_or(LineRefusal::MissingField)
+    }
+
+    pub fn text(&mut self, key: &'static str) -> Result<&'a str, LineRefusal> {
+        match self.value(key)? {
+            Value::Text(text) => Ok(text),
+            _ => Err(LineRefusal::WrongKind),
+        }
+    }
+
+    pub fn number(&mut self, key: &'static str) -> Result<u32, LineRefusal> {
+        match self.value(key)? {
+            Value::Whole(number) => u32::try_from(*number).map_err(|_| LineRefusal::WrongKind),
+            _ => Err(LineRefusal::WrongKind),
+        }
+    }
+
+    pub fn object(&mut self, key: &'static str) -> Result<&'a Object<'a>, LineRefusal> {
+        match self.value(key)? {
+            Value::Object(object) => Ok(object),
+            _ => Err(LineRefusal::WrongKind),
+        }
+    }
+
+    pub fn name(&mut self, key: &'static str) -> Result<Name, LineRefusal> {
+        Name::read(self.text(key)?).ok_or(LineRefusal::BadName)
+    }
+
+    /// An array of names. That each is a text comes before that each is a name.
+    pub fn names(&mut self, key: &'static str) -> Result<Vec<Name>, LineRefusal> {
+        let Value::List(items) = self.value(key)? else {
+            return Err(LineRefusal::WrongKind);
+        };
+        let texts = items.iter().map(|item| match item {
+            Value::Text(text) => Ok(text.as_ref()),
+            _ => Err(LineRefusal::WrongKind),
+        });
+        let texts: Vec<&str> = texts.collect::<Result<_, _>>()?;
+        texts.into_iter().map(|text| Name::read(text).ok_or(LineRefusal::BadName)).collect()
+    }
+
+    pub fn end(&self) -> Result<(), LineRefusal> {
+        let is_known = |key: &str| self.taken.contains(&key);
+        if self.object.iter().all(|(key, _)| is_known(key)) { Ok(()) } else { Err(LineRefusal::ExtraField) }
+    }
+}

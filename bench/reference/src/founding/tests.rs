@@ -1,0 +1,85 @@
+use super::*;
+
+/// What becomes of the sample with one of its lines changed, added or taken out.
+fn refusal(key: &str, line: &str) -> Option<FoundingRefusal> {
+    let others = SAMPLE.lines().filter(|other| !other.starts_with(&format!("{key} =")));
+    let text: String = others.chain([line]).map(|line| format!("{line}\n")).collect();
+    read_founding(text.as_bytes()).err()
+}
+
+#[test]
+fn the_sample_is_taken() {
+    let founding = read_founding(SAMPLE.as_bytes()).unwrap();
+    assert_eq!((founding.clock, founding.sent_limit), (0, 65_536));
+    let number = |text| Name::read(text).unwrap();
+    let read = founding.vocabulary.operation(&number("read")).unwrap();
+    let pay = founding.vocabulary.operation(&number("pay")).unwrap();
+    let ledger = founding.vocabulary.object(&number("ledger")).unwrap();
+    assert!(founding.vocabulary.permission(read, ledger).is_some());
+    assert!(founding.vocabulary.permission(pay, ledger).is_none());
+}
+
+#[test]
+fn each_refusal() {
+    assert_eq!(refusal("none", &"#".repeat(1_048_577)), Some(TooLong));
+    assert_eq!(refusal("none", "clock"), Some(NotToml));
+    assert_eq!(refusal("none", "version = 1"), Some(NotToml));
+    for line in ["", "version = 2", "version = 1.0", "version = \"1\""] {
+        assert_eq!(refusal("version", line), Some(BadVersion), "{line}");
+    }
+    assert_eq!(refusal("none", "colour = 1"), Some(UnknownKey));
+    for key in ["members", "operations", "objects", "permissions"] {
+        assert_eq!(refusal(key, ""), Some(MissingKey), "{key}");
+    }
+    for (key, line) in [
+        ("members", "members = \"1\""),
+        ("none", "clock = 1.0"),
+        ("none", "sent_limit = [1]"),
+        ("objects", "objects = \"ledger\""),
+        ("objects", "objects = [1]"),
+        ("permissions", "permissions = [[\"read\"]]"),
+        ("permissions", "permissions = [[\"read\", \"ledger\", \"ledger\"]]"),
+        ("permissions", "permissions = [[\"read\", 1]]"),
+    ] {
+        assert_eq!(refusal(key, line), Some(WrongKind), "{line}");
+    }
+    for line in ["clock = -1", "clock = 9007199254740992", "sent_limit = 0", "sent_limit = 65537"] {
+        assert_eq!(refusal("none", line), Some(OutOfRange), "{line}");
+    }
+    for line in ["members = 0", "members = 2", "members = 9", "members = -1"] {
+        assert_eq!(refusal("members", line), Some(OutOfRange), "{line}");
+    }
+    assert_eq!(refusal("objects", "objects = [\"\"]"), Some(BadName));
+    assert_eq!(refusal("permissions", "permissions = [[\"read\", \"a b\"]]"), Some(BadName));
+    assert_eq!(refusal("objects", "objects = [\"invoice\", \"ledger\", \"ledger\"]"), Some(Repeated));
+    assert_eq!(refusal("permissions", "permissions = [[\"fly\", \"ledger\"], [\"fly\", \"ledger\"]]"), Some(Repeated));
+    assert_eq!(refusal("permissions", "permissions = [[\"read\", \"moon\"]]"), Some(UnknownName));
+}
+
+#[test]
+fn numbers_at_their_ends_are_taken() {
+    for line in [
+        "clock = 0",
+        "clock = 9007199254740991",
+        "sent_limit = 1",
+        "sent_limit = 65536",
+        "clock = 0x1",
+        "clock = +1",
+        "clock = 1_0",
+    ] {
+        assert_eq!(refusal("none", line), None, "{line}");
+    }
+}
+
+#[test]
+fn arrays_at_their_ends() {
+    let names = |count: usize| (0..count).map(|number| format!("\"n{number}\",")).collect::<String>();
+    let pairs = |count: usize| (0..count).map(|number| format!("[\"o{number}\",\"x\"],")).collect::<String>();
+    let operations =
+        |count| refusal("operations", &format!("operations = [\"approve\", \"pay\", \"read\", {}]", names(count)));
+    assert_eq!((operations(253), operations(254)), (None, Some(OutOfRange)));
+    let objects = |count| refusal("objects", &format!("objects = [\"invoice\", \"ledger\", {}]", names(count)));
+    assert_eq!((objects(4_094), objects(4_095)), (None, Some(OutOfRange)));
+    let permissions = |count| refusal("permissions", &format!("permissions = [{}]", pairs(count)));
+    assert_eq!((permissions(16_384), permissions(16_385)), (Some(UnknownName), Some(OutOfRange)));
+}
