@@ -1,0 +1,121 @@
+//! Counts what occurred: answers of each command, refusals, and ends of runs.
+
+use crate::case::{Case, Played, lines_of};
+use crate::generate::Choices;
+use crate::rows::{ENDS, OUTCOMES, REFUSALS, row_of};
+use std::collections::{BTreeMap, VecDeque};
+
+#[derive(Default)]
+pub struct Coverage {
+    pub lines: u64,
+    answers: BTreeMap<(String, String), u64>,
+    others: BTreeMap<String, u64>,
+}
+
+/// Commands of lines that are written in another way than compactly are not read here.
+const UNREAD: &str = "(varied lines)";
+
+impl Coverage {
+    pub fn count(&mut self, case: &Case, played: &Played) {
+        self.count_other(end_of(played));
+        let mut held = VecDeque::new();
+        for (line, text) in case.lines().iter().zip(lines_of(&played.output)) {
+            self.lines += 1;
+            let text = String::from_utf8_lossy(text);
+            if text.contains("\"refused\":\"") {
+                self.count_other(text_between(&text, "\"refused\":\"", "\"").unwrap_or_default().to_owned());
+            } else if text.starts_with("{\"answer\":null") {
+                self.count_other("delivered nothing".to_owned());
+            } else if let Some(answer) = text.strip_prefix("{\"answer\":") {
+                self.count_other("delivered".to_owned());
+                let command = held.pop_front().unwrap_or_else(|| UNREAD.to_owned());
+                *self.answers.entry((command, word_of(answer).to_owned())).or_default() += 1;
+            } else {
+                self.count_other("submitted".to_owned());
+                held.push_back(command_of(line));
+            }
+        }
+    }
+
+    fn count_other(&mut self, word: String) {
+        *self.others.entry(word).or_default() += 1;
+    }
+
+    fn answers_of(&self, command: &str, answer: &str) -> u64 {
+        self.answers.get(&(command.to_owned(), answer.to_owned())).copied().unwrap_or(0)
+    }
+
+    /// What can occur and did not.
+    pub fn missing(&self, choices: &Choices) -> Vec<String> {
+        let mut missing = self.missing_answers(choices);
+        let others = OUTCOMES.iter().chain(&REFUSALS).chain(&ENDS);
+        missing.extend(others.filter(|word| !self.others.contains_key(**word)).map(|word| word.to_string()));
+        missing
+    }
+
+    /// The answers of commands that can occur and did not.
+    fn missing_answers(&self, choices: &Choices) -> Vec<String> {
+        let rows = choices.rows();
+        let answers = rows.iter().flat_map(|row| row.answers.iter().map(|answer| (row.name, *answer)));
+        let can_occur = answers.filter(|(command, answer)| choices.can_occur(command, answer));
+        let absent = can_occur.filter(|(command, answer)| self.answers_of(command, answer) == 0);
+        absent.map(|(command, answer)| format!("{command} {answer}")).collect()
+    }
+
+    /// Answers that no row has: either program or this tool is wrong.
+    pub fn unknown(&self) -> Vec<String> {
+        let is_known = |command: &str, answer: &str| {
+            row_of(command).map_or(command == UNREAD, |row| row.answers.contains(&answer))
+        };
+        let answers = self.answers.keys().filter(|(command, answer)| !is_known(command, answer));
+        let others =
+            self.others.keys().filter(|word| !OUTCOMES.iter().chain(&REFUSALS).chain(&ENDS).any(|known| known == word));
+        answers.map(|(command, answer)| format!("{command} {answer}")).chain(others.cloned()).collect()
+    }
+
+    pub fn print(&self) {
+        let mut commands: Vec<&String> = self.answers.keys().map(|(command, _)| command).collect();
+        commands.dedup();
+        for command in commands {
+            let counted = self.answers.iter().filter(|((other, _), _)| other == command);
+            let words: Vec<String> = counted.map(|((_, answer), count)| format!("{answer} {count}")).collect();
+            println!("  {command}: {}", words.join(", "));
+        }
+        let words: Vec<String> = self.others.iter().map(|(word, count)| format!("{word} {count}")).collect();
+        println!("  lines and runs: {}", words.join(", "));
+    }
+}
+
+fn text_between<'a>(text: &'a str, before: &str, after: &str) -> Option<&'a str> {
+    text.split_once(before)?.1.split_once(after).map(|(between, _)| between)
+}
+
+/// The word of an answer: its text, its denial, or the kind of its list.
+fn word_of(answer: &str) -> &str {
+    let kinds = [
+        ("{\"names\":[]", "no names"),
+        ("{\"names\":", "names"),
+        ("{\"permissions\":[]", "no permissions"),
+        ("{\"permissions\":", "permissions"),
+        ("{\"count\":", "count"),
+    ];
+    let kind = kinds.into_iter().find(|(start, _)| answer.starts_with(start)).map(|(_, word)| word);
+    kind.or_else(|| text_between(answer, "{\"denied\":\"", "\""))
+        .or_else(|| text_between(answer, "\"", "\""))
+        .unwrap_or("?")
+}
+
+fn command_of(line: &[u8]) -> String {
+    let line = String::from_utf8_lossy(line);
+    let name = text_between(&line, "\"name\":\"", "\"").unwrap_or_default();
+    // A line in which the key stands twice means the last one, which is not looked for.
+    let is_sure = line.matches("\"name\"").count() == 1 && row_of(name).is_some();
+    if is_sure { name.to_owned() } else { UNREAD.to_owned() }
+}
+
+/// The status, and of a message its words but for the path of a file.
+fn end_of(played: &Played) -> String {
+    let message = played.errors.trim_end().strip_prefix("rbac_monitor: ").unwrap_or_default();
+    let words = if message.starts_with("file: ") { "file" } else { message };
+    format!("status {} {words}", played.status).trim_end().to_owned()
+}

@@ -1,0 +1,66 @@
+//! The cases: some that are always there, and random schedules up to a number of lines.
+
+mod builder;
+mod cutting;
+mod day;
+mod ends;
+mod foundings;
+mod hostile;
+mod limits;
+
+use crate::case::Case;
+use crate::random::Random;
+use crate::rows::{Group, ROWS, Row};
+
+pub struct Choices {
+    pub seed: u64,
+    /// Lines of random schedules, at least. Those that are always there come on top.
+    pub lines: usize,
+    pub reviews: bool,
+    pub extent: Extent,
+}
+
+#[derive(Clone, Copy, PartialEq, Eq)]
+pub enum Extent {
+    Whole,
+    /// For a program that is slow to start and slow to run: fewer foundings and inputs, and no schedule that fills the users
+    /// or the sessions.
+    Short,
+}
+
+impl Choices {
+    /// The commands that the schedules have.
+    pub fn rows(&self) -> Vec<&'static Row> {
+        ROWS.iter().filter(|row| self.reviews || row.group != Group::Review).collect()
+    }
+
+    /// Whether some schedule can bring this answer about.
+    pub fn can_occur(&self, command: &str, answer: &str) -> bool {
+        let fills_all = self.extent == Extent::Whole;
+        fills_all || !matches!((command, answer), ("AddUser" | "CreateSession", "Limit"))
+    }
+}
+
+/// The cases that are there whatever the random choices of a day are.
+pub fn fixed_cases(choices: &Choices) -> Vec<Case> {
+    let mut random = Random::new(choices.seed);
+    let mut cases = ends::cases();
+    cases.extend(cutting::cases(&mut random, choices.extent));
+    cases.extend(limits::cases(&mut random, choices.extent));
+    cases.extend(foundings::cases(&mut random, choices.extent));
+    cases
+}
+
+/// Random days with this many lines or more.
+pub fn days(choices: &Choices, lines: usize) -> Vec<Case> {
+    let mut random = Random::new(!choices.seed);
+    let rows = choices.rows();
+    let mut days: Vec<Case> = Vec::new();
+    let mut made = 0;
+    while made < lines {
+        let day = day::case(&mut random, &rows, days.len());
+        made += day.lines().len();
+        days.push(day);
+    }
+    days
+}

@@ -1,0 +1,191 @@
+//! Random commands over few names, so that they meet each other, with other events and bad lines between.
+
+use super::builder::{self, Builder};
+use super::hostile;
+use crate::case::Case;
+use crate::random::Random;
+use crate::rows::{Group, Row};
+use crate::tree::{self, Tree};
+
+/// Users, roles, sessions and sets share these, so that a mix-up of kinds shows, and their order by bytes differs from that
+/// of other orders.
+const NAMES: [&str; 14] = [
+    "ann",
+    "bob",
+    "Bob",
+    "Z",
+    "a",
+    "b",
+    "aa",
+    "_",
+    "-",
+    ".",
+    "0",
+    "10",
+    "a.b",
+    "n123456789012345678901234567890123456789012345678901234567890123",
+];
+
+const NOBODY: &str = "nobody";
+
+const GROWING: [&str; 9] = [
+    "AddUser",
+    "AddRole",
+    "AssignUser",
+    "AssignUser",
+    "CreateSession",
+    "CreateSession",
+    "AddActiveRole",
+    "CreateSsdSet",
+    "CreateDsdSet",
+];
+
+/// What a schedule has much of.
+#[derive(Clone, Copy)]
+struct Habits {
+    /// The weight of each group of commands, in the order of `Group`.
+    weights: [usize; 5],
+    /// Percent of the lines that are bad.
+    hostile: usize,
+    /// Percent of the lines that are written with blanks, escapes or another order of keys.
+    varied: usize,
+}
+
+const HABITS: [Habits; 7] = [
+    Habits { weights: [10, 4, 10, 10, 8], hostile: 3, varied: 10 },
+    Habits { weights: [10, 20, 10, 0, 10], hostile: 1, varied: 5 },
+    Habits { weights: [10, 4, 10, 25, 5], hostile: 1, varied: 5 },
+    Habits { weights: [10, 6, 10, 20, 2], hostile: 1, varied: 5 },
+    Habits { weights: [10, 3, 30, 6, 6], hostile: 1, varied: 5 },
+    Habits { weights: [10, 6, 10, 6, 30], hostile: 1, varied: 5 },
+    Habits { weights: [10, 5, 10, 10, 8], hostile: 60, varied: 30 },
+];
+
+struct Day<'a> {
+    random: &'a mut Random,
+    rows: &'a [&'static Row],
+    users: Vec<&'static str>,
+    roles: Vec<&'static str>,
+    sessions: Vec<&'static str>,
+    sets: Vec<&'static str>,
+    operations: Vec<&'static str>,
+    objects: Vec<&'static str>,
+}
+
+pub fn case(random: &mut Random, rows: &[&'static Row], number: usize) -> Case {
+    let habits = random.pick(&HABITS);
+    let length = random.between(300, 3_000);
+    let mut names = |most: usize| -> Vec<&'static str> {
+        let mut names = NAMES;
+        random.shuffle(&mut names);
+        names[..random.between(1, most)].to_vec()
+    };
+    let (users, sessions, sets) = (names(5), names(6), names(2));
+    let (roles, operations, objects) = (names(7), names(3), names(3));
+    let founding = random.chance(70).then(|| founding(random, &operations, &objects));
+    let (operations, objects) = match founding {
+        Some(_) => (operations, objects),
+        None => (vec!["approve", "pay", "read"], vec!["invoice", "ledger"]),
+    };
+    let mut day = Day { random, rows, users, roles, sessions, sets, operations, objects };
+    let schedule = day.schedule(&habits, length);
+    Case::new(format!("day-{number:05}"), founding.map(String::into_bytes), schedule)
+}
+
+/// A founding with these operations and objects, and about half of their pairs as permissions.
+fn founding(random: &mut Random, operations: &[&str], objects: &[&str]) -> String {
+    let pairs = operations.iter().flat_map(|operation| objects.iter().map(move |object| (operation, object)));
+    let pairs: Vec<_> = pairs.filter(|_| random.chance(60)).collect();
+    let permissions: Vec<[&str; 2]> = pairs.iter().map(|(operation, object)| [**operation, **object]).collect();
+    format!(
+        "version = 1\nmembers = 1\noperations = {operations:?}\nobjects = {objects:?}\npermissions = {permissions:?}\n"
+    )
+}
+
+impl Day<'_> {
+    fn schedule(&mut self, habits: &Habits, length: usize) -> Vec<u8> {
+        let mut builder = Builder::new();
+        for _ in 0..length {
+            if self.random.chance(habits.hostile) {
+                let event = builder::submit(1, self.random.next() as u32, 0, self.command(habits));
+                builder.line(hostile::line(self.random, event));
+            } else {
+                let event = self.event(habits, &mut builder);
+                let varied = self.random.chance(habits.varied);
+                builder.line(if varied { event.varied(self.random) } else { event.compact() });
+            }
+        }
+        builder.schedule
+    }
+
+    /// Submits and deliveries in about equal parts, and few events that are refused.
+    fn event(&mut self, habits: &Habits, builder: &mut Builder) -> Tree {
+        match self.random.below(100) {
+            0 => builder::receive(self.number(), self.number(), self.number()),
+            1 => builder::deliver(self.number()),
+            2 => builder::submit(self.number(), 0, 0, self.command(habits)),
+            3 => builder::submit(1, self.number(), self.number(), self.command(habits)),
+            4..51 => builder::deliver(1),
+            _ => {
+                let command = self.command(habits);
+                builder.next_submit_of_any(self.random, command)
+            }
+        }
+    }
+
+    /// A member, a caller, a serial or a message, most often not the one that there is.
+    fn number(&mut self) -> u32 {
+        self.random.pick(&[0, 1, 1, 2, 9, u32::MAX])
+    }
+
+    fn command(&mut self, habits: &Habits) -> Tree {
+        let row = self.row(habits);
+        let fields: Vec<(&str, Tree)> = row.fields.iter().map(|field| (*field, self.value(row, field))).collect();
+        builder::command(row.name, &fields)
+    }
+
+    /// What adds comes more often than what deletes, so that there is something to deny, to list and to delete.
+    fn row(&mut self, habits: &Habits) -> &'static Row {
+        if self.random.chance(35) {
+            let name = self.random.pick(&GROWING);
+            return self.rows.iter().find(|row| row.name == name).expect("a row of the name");
+        }
+        let group = self.group(habits);
+        let rows: Vec<&'static Row> = self.rows.iter().copied().filter(|row| row.group == group).collect();
+        let row = self.random.pick(&rows);
+        let is_taken_back = (row.name.starts_with("De") || row.name.starts_with("Drop")) && self.random.chance(80);
+        if is_taken_back { self.random.pick(&rows) } else { row }
+    }
+
+    fn group(&mut self, habits: &Habits) -> Group {
+        let groups = [Group::Core, Group::Hierarchy, Group::Session, Group::Separation, Group::Review];
+        let weighted = groups.iter().zip(habits.weights);
+        let present = weighted.filter(|(group, _)| self.rows.iter().any(|row| row.group == **group));
+        let choices: Vec<Group> = present.flat_map(|(group, weight)| std::iter::repeat_n(*group, weight)).collect();
+        self.random.pick(&choices)
+    }
+
+    fn value(&mut self, row: &Row, field: &str) -> Tree {
+        match field {
+            "roles" => {
+                let counts = if row.group == Group::Separation { [0, 1, 2, 3, 3, 4, 5] } else { [0, 1, 1, 2, 2, 3, 4] };
+                let count = self.random.pick(&counts);
+                Tree::List((0..count).map(|_| tree::text(self.name("role"))).collect())
+            }
+            "n" => tree::number(self.random.pick(&[0, 1, 2, 2, 2, 2, 2, 3, 3, 3, 4, u32::MAX])),
+            _ => tree::text(self.name(field)),
+        }
+    }
+
+    fn name(&mut self, field: &str) -> &'static str {
+        let names = match field {
+            "user" => &self.users,
+            "session" => &self.sessions,
+            "set" => &self.sets,
+            "operation" => &self.operations,
+            "object" => &self.objects,
+            _ => &self.roles,
+        };
+        if self.random.chance(7) { NOBODY } else { self.random.pick(names) }
+    }
+}

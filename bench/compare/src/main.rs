@@ -1,0 +1,145 @@
+//! Plays seeded random schedules by the reference and by the monitor, and compares what they print, byte for byte.
+
+mod case;
+mod choose;
+mod coverage;
+mod generate;
+mod players;
+mod random;
+mod report;
+mod rows;
+mod shrink;
+mod tree;
+
+use coverage::Coverage;
+use generate::{Choices, Extent};
+use players::{Binary, Player, Tried};
+use shrink::Pair;
+use std::path::{Path, PathBuf};
+use std::process::ExitCode;
+
+const HELP: &str = "\
+usage: compare --reference PROGRAM --room FOLDER (--program PROGRAM | --try FOLDER) [--lines N] [--seed N] [--without-reviews]
+
+  --reference PROGRAM  the reference
+  --program PROGRAM    the monitor, as built
+  --try FOLDER         the folder of the monitor's crate: it is built and run by rt try
+  --room FOLDER        an empty folder for the schedules
+  --lines N            at least so many lines of random schedules; each answer occurs in any case
+  --seed N             of the random choices (1)
+  --without-reviews    no review commands";
+
+struct Words {
+    reference: PathBuf,
+    program: Option<PathBuf>,
+    tried: Option<PathBuf>,
+    room: PathBuf,
+    choices: Choices,
+}
+
+fn main() -> ExitCode {
+    let Some(words) = read_words() else {
+        eprintln!("{HELP}");
+        return ExitCode::from(2);
+    };
+    match compare(&words) {
+        Ok(true) => ExitCode::SUCCESS,
+        Ok(false) => ExitCode::FAILURE,
+        Err(message) => {
+            eprintln!("compare: {message}");
+            ExitCode::from(2)
+        }
+    }
+}
+
+fn read_words() -> Option<Words> {
+    let (mut reference, mut program, mut tried, mut room) = (None, None, None, None);
+    let mut choices = Choices { seed: 1, lines: 0, reviews: true, extent: Extent::Whole };
+    let mut words = std::env::args().skip(1);
+    while let Some(word) = words.next() {
+        match word.as_str() {
+            "--reference" => reference = Some(words.next()?.into()),
+            "--program" => program = Some(words.next()?.into()),
+            "--try" => tried = Some(words.next()?.into()),
+            "--room" => room = Some(words.next()?.into()),
+            "--lines" => choices.lines = words.next()?.parse().ok()?,
+            "--seed" => choices.seed = words.next()?.parse().ok()?,
+            "--without-reviews" => choices.reviews = false,
+            _ => return None,
+        }
+    }
+    if program.is_some() == tried.is_some() {
+        return None;
+    }
+    if tried.is_some() {
+        choices.extent = Extent::Short;
+    }
+    Some(Words { reference: reference?, program, tried, room: room?, choices })
+}
+
+/// Whether the programs never differed and all that can occur did.
+fn compare(words: &Words) -> Result<bool, String> {
+    let reference = binary(&words.reference, &words.room.join("reference"))?;
+    let program: Box<dyn Player> = match (&words.program, &words.tried) {
+        (Some(program), _) => Box::new(binary(program, &words.room.join("program"))?),
+        (None, Some(folder)) => {
+            let room = absolute(&words.room)?.join("tried");
+            Box::new(Tried { crate_folder: folder.clone(), room })
+        }
+        (None, None) => return Err("no program".to_owned()),
+    };
+    let choices = &words.choices;
+    println!("seed {}", choices.seed);
+    if choices.extent == Extent::Short {
+        println!("left out, since they take rt try too long: schedules that fill the users or the sessions");
+    }
+    let pair = Pair { reference: &reference, program: program.as_ref() };
+    let mut coverage = Coverage::default();
+    let mut cases = generate::fixed_cases(choices);
+    cases.extend(choose::chosen_days(&reference, choices, &cases)?);
+    for some in cases.chunks(program.cases_at_once()) {
+        let played = pair.play(some)?;
+        let differing = (0..some.len()).filter(|number| played[*number].0 != played[*number].1);
+        let differing: Vec<usize> = differing.collect();
+        if let Some(first) = differing.first() {
+            let names: Vec<&str> = differing.iter().map(|number| some[*number].name.as_str()).collect();
+            println!("{} schedules differ: {}", names.len(), names.join(" "));
+            show_shortened(&pair, some[*first].clone())?;
+            return Ok(false);
+        }
+        for (case, (wanted, _)) in some.iter().zip(&played) {
+            coverage.count(case, wanted);
+        }
+    }
+    println!("{} schedules, {} lines: the outputs are the same", cases.len(), coverage.lines);
+    coverage.print();
+    Ok(is_complete(&coverage, choices))
+}
+
+fn show_shortened(pair: &Pair, case: case::Case) -> Result<(), String> {
+    let case = shrink::shrink(pair, case)?;
+    let played = pair.play(std::slice::from_ref(&case))?;
+    for (wanted, got) in &played {
+        report::print_difference(&case, wanted, got);
+    }
+    Ok(())
+}
+
+fn is_complete(coverage: &Coverage, choices: &Choices) -> bool {
+    let (missing, unknown) = (coverage.missing(choices), coverage.unknown());
+    for (heading, words) in [("can occur and did not", &missing), ("cannot occur and did", &unknown)] {
+        if !words.is_empty() {
+            println!("{heading}: {}", words.join(", "));
+        }
+    }
+    missing.is_empty() && unknown.is_empty()
+}
+
+fn binary(program: &Path, room: &Path) -> Result<Binary, String> {
+    std::fs::create_dir_all(room).map_err(|error| format!("{}: {error}", room.display()))?;
+    Ok(Binary { program: absolute(program)?, room: room.to_owned() })
+}
+
+fn absolute(path: &Path) -> Result<PathBuf, String> {
+    path.canonicalize().map_err(|error| format!("{}: {error}", path.display()))
+}

@@ -1,0 +1,20 @@
+//! The programs that are compared.
+
+mod binary;
+mod tried;
+
+pub use binary::Binary;
+pub use tried::Tried;
+
+use crate::case::{Case, Played};
+
+pub trait Player {
+    /// Plays the cases, each in a run of its own.
+    fn play(&self, cases: &[Case]) -> Result<Vec<Played>, String>;
+
+    /// How many cases it is given at once.
+    fn cases_at_once(&self) -> usize;
+
+    /// How many shorter schedules it is given at once, and how many times, to find one with the same difference.
+    fn shrink_effort(&self) -> (usize, usize);
+}

@@ -1,0 +1,166 @@
+//! Makes a schedule with a difference short.
+
+use crate::case::{Case, Played, lines_of};
+use crate::players::Player;
+use std::collections::HashMap;
+use std::ops::Range;
+
+pub struct Pair<'a> {
+    pub reference: &'a dyn Player,
+    pub program: &'a dyn Player,
+}
+
+impl Pair<'_> {
+    pub fn play(&self, cases: &[Case]) -> Result<Vec<(Played, Played)>, String> {
+        let wanted = self.reference.play(cases)?;
+        let got = self.program.play(cases)?;
+        Ok(wanted.into_iter().zip(got).collect())
+    }
+}
+
+/// A line, and the caller whose next submit it is where the reference takes it as one.
+#[derive(Clone)]
+struct Line {
+    text: Vec<u8>,
+    accepted_of: Option<u32>,
+}
+
+/// Cuts lines away while the difference stays.
+pub fn shrink(pair: &Pair, case: Case) -> Result<Case, String> {
+    let played = pair.play(std::slice::from_ref(&case))?;
+    let Some((wanted, got)) = played.first().filter(|(wanted, got)| wanted != got) else {
+        return Err(format!("{}: the difference did not come again", case.name));
+    };
+    let (at_once, rounds) = pair.program.shrink_effort();
+    let mut shrinking = Shrinking { pair, lines: lines_with_callers(&case, wanted), case, at_once, rounds };
+    let seen = lines_up_to_difference(wanted, got).min(shrinking.lines.len());
+    let cut = shrinking.lines[..seen].to_vec();
+    if shrinking.differing(std::slice::from_ref(&cut))?[0] {
+        shrinking.lines = cut;
+    }
+    let mut length = shrinking.lines.len().div_ceil(at_once);
+    while length > 0 && shrinking.rounds > 0 {
+        let before = shrinking.lines.len();
+        shrinking.leave_out_pieces(length)?;
+        let is_done = length == 1 && shrinking.lines.len() == before;
+        length = if is_done { 0 } else { length.div_ceil(2) };
+    }
+    Ok(with_lines(&shrinking.case, &shrinking.lines))
+}
+
+struct Shrinking<'a> {
+    pair: &'a Pair<'a>,
+    case: Case,
+    /// What is left. The programs differ on it.
+    lines: Vec<Line>,
+    at_once: usize,
+    /// How many more times the programs are asked.
+    rounds: usize,
+}
+
+impl Shrinking<'_> {
+    /// Whether the programs differ on each of these.
+    fn differing(&mut self, candidates: &[Vec<Line>]) -> Result<Vec<bool>, String> {
+        self.rounds = self.rounds.saturating_sub(1);
+        let cases: Vec<Case> = candidates.iter().map(|lines| with_lines(&self.case, lines)).collect();
+        let named = cases.into_iter().enumerate().map(|(number, case)| case.renamed(format!("shorter-{number:02}")));
+        let played = self.pair.play(&named.collect::<Vec<_>>())?;
+        Ok(played.iter().map(|(wanted, got)| wanted != got).collect())
+    }
+
+    /// Leaves out each piece of this length that the difference does not need.
+    fn leave_out_pieces(&mut self, length: usize) -> Result<(), String> {
+        let mut start = 0;
+        while start < self.lines.len() && self.rounds > 0 {
+            let starts = (start..self.lines.len()).step_by(length).take(self.at_once);
+            let pieces: Vec<Range<usize>> = starts.map(|start| start..(start + length).min(self.lines.len())).collect();
+            let without: Vec<Vec<Line>> =
+                pieces.iter().map(|piece| self.without(std::slice::from_ref(piece))).collect();
+            let differing = self.differing(&without)?;
+            let needless: Vec<Range<usize>> =
+                pieces.iter().zip(differing).filter(|(_, differs)| *differs).map(|(piece, _)| piece.clone()).collect();
+            let all_out = self.without(&needless);
+            start = match needless.first() {
+                None => pieces.last().map_or(self.lines.len(), |piece| piece.end),
+                Some(first) if needless.len() == 1 || !self.differing(std::slice::from_ref(&all_out))?[0] => {
+                    self.lines = self.without(std::slice::from_ref(first));
+                    first.start
+                }
+                Some(_) => {
+                    let end = pieces.last().map_or(0, |piece| piece.end);
+                    let kept_behind = self.lines.len() - end;
+                    self.lines = all_out;
+                    self.lines.len() - kept_behind
+                }
+            };
+        }
+        Ok(())
+    }
+
+    fn without(&self, pieces: &[Range<usize>]) -> Vec<Line> {
+        let is_out = |place: usize| pieces.iter().any(|piece| piece.contains(&place));
+        let kept = self.lines.iter().enumerate().filter(|(place, _)| !is_out(*place));
+        kept.map(|(_, line)| line.clone()).collect()
+    }
+}
+
+/// How many lines it takes to see the first difference of the outputs.
+fn lines_up_to_difference(wanted: &Played, got: &Played) -> usize {
+    let (wanted, got) = (lines_of(&wanted.output), lines_of(&got.output));
+    let alike = wanted.iter().zip(&got).take_while(|(wanted, got)| wanted == got).count();
+    alike + 1
+}
+
+fn lines_with_callers(case: &Case, played: &Played) -> Vec<Line> {
+    let outputs = lines_of(&played.output);
+    let line = |(place, text): (usize, &&[u8])| {
+        let is_accepted = outputs
+            .get(place)
+            .is_some_and(|output| output.starts_with(b"{\"line\":") && contains(output, b"\"stamp\":"));
+        let caller = number_after(text, b"\"caller\":").map(|(_, number)| number);
+        Line { text: text.to_vec(), accepted_of: caller.filter(|_| is_accepted) }
+    };
+    case.lines().iter().enumerate().map(line).collect()
+}
+
+/// The case with these lines alone. Serials are counted anew, so that what was in turn stays in turn.
+fn with_lines(case: &Case, lines: &[Line]) -> Case {
+    let mut serials: HashMap<u32, u32> = HashMap::new();
+    let mut schedule = Vec::new();
+    for (place, line) in lines.iter().enumerate() {
+        if place > 0 {
+            schedule.push(b'\n');
+        }
+        match line.accepted_of {
+            Some(caller) => {
+                let serial = serials.entry(caller).or_default();
+                schedule.extend(with_serial(&line.text, *serial));
+                *serial += 1;
+            }
+            None => schedule.extend_from_slice(&line.text),
+        }
+    }
+    if case.schedule.ends_with(b"\n") {
+        schedule.push(b'\n');
+    }
+    Case { schedule, ..case.clone() }
+}
+
+fn with_serial(line: &[u8], serial: u32) -> Vec<u8> {
+    match number_after(line, b"\"serial\":") {
+        Some((range, _)) => [&line[..range.start], serial.to_string().as_bytes(), &line[range.end..]].concat(),
+        None => line.to_vec(),
+    }
+}
+
+/// The number behind this key, and where it stands.
+fn number_after(line: &[u8], key: &[u8]) -> Option<(Range<usize>, u32)> {
+    let start = line.windows(key.len()).position(|window| window == key)? + key.len();
+    let length = line[start..].iter().take_while(|byte| byte.is_ascii_digit()).count();
+    let number = str::from_utf8(&line[start..start + length]).ok()?.parse().ok()?;
+    Some((start..start + length, number))
+}
+
+fn contains(text: &[u8], part: &[u8]) -> bool {
+    text.windows(part.len()).any(|window| window == part)
+}
