@@ -48,6 +48,9 @@ pub fn fixed_cases(choices: &Choices) -> Vec<Case> {
     cases.extend(cutting::cases(&mut random, choices.extent));
     cases.extend(limits::cases(&mut random, choices.extent));
     cases.extend(foundings::cases(&mut random, choices.extent));
+    let (count, length) = if choices.extent == Extent::Whole { (10, 10_000) } else { (2, 4_000) };
+    let rows = choices.rows();
+    cases.extend((0..count).map(|number| day::bad_case(&mut random, &rows, length, number)));
     cases
 }
 

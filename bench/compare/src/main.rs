@@ -25,7 +25,7 @@ usage: compare --reference PROGRAM --room FOLDER (--program PROGRAM | --try FOLD
   --program PROGRAM    the monitor, as built
   --try FOLDER         the folder of the monitor's crate: it is built and run by rt try
   --room FOLDER        an empty folder for the schedules
-  --lines N            at least so many lines of random schedules; each answer occurs in any case
+  --lines N            at least so many lines of random schedules (100000; with --try as many as it takes for each answer)
   --seed N             of the random choices (1)
   --without-reviews    no review commands";
 
@@ -54,7 +54,8 @@ fn main() -> ExitCode {
 
 fn read_words() -> Option<Words> {
     let (mut reference, mut program, mut tried, mut room) = (None, None, None, None);
-    let mut choices = Choices { seed: 1, lines: 0, reviews: true, extent: Extent::Whole };
+    let mut choices = Choices { seed: 1, lines: 100_000, reviews: true, extent: Extent::Whole };
+    let mut lines = None;
     let mut words = std::env::args().skip(1);
     while let Some(word) = words.next() {
         match word.as_str() {
@@ -62,7 +63,7 @@ fn read_words() -> Option<Words> {
             "--program" => program = Some(words.next()?.into()),
             "--try" => tried = Some(words.next()?.into()),
             "--room" => room = Some(words.next()?.into()),
-            "--lines" => choices.lines = words.next()?.parse().ok()?,
+            "--lines" => lines = Some(words.next()?.parse().ok()?),
             "--seed" => choices.seed = words.next()?.parse().ok()?,
             "--without-reviews" => choices.reviews = false,
             _ => return None,
@@ -72,8 +73,9 @@ fn read_words() -> Option<Words> {
         return None;
     }
     if tried.is_some() {
-        choices.extent = Extent::Short;
+        (choices.extent, choices.lines) = (Extent::Short, 0);
     }
+    choices.lines = lines.unwrap_or(choices.lines);
     Some(Words { reference: reference?, program, tried, room: room?, choices })
 }
 

@@ -40,6 +40,9 @@ const GROWING: [&str; 9] = [
     "CreateDsdSet",
 ];
 
+/// How many lines come between two surveys.
+const SURVEYED: usize = 60;
+
 /// What a schedule has much of.
 #[derive(Clone, Copy)]
 struct Habits {
@@ -72,9 +75,19 @@ struct Day<'a> {
     objects: Vec<&'static str>,
 }
 
+const ALL_BAD: Habits = Habits { weights: [10, 5, 10, 10, 8], hostile: 100, varied: 0 };
+
 pub fn case(random: &mut Random, rows: &[&'static Row], number: usize) -> Case {
-    let habits = random.pick(&HABITS);
-    let length = random.between(300, 3_000);
+    let (habits, length) = (random.pick(&HABITS), random.between(300, 3_000));
+    case_with(random, rows, &habits, length, format!("day-{number:05}"))
+}
+
+/// A schedule of bad lines alone, but for those that a change of some bytes left good.
+pub fn bad_case(random: &mut Random, rows: &[&'static Row], length: usize, number: usize) -> Case {
+    case_with(random, rows, &ALL_BAD, length, format!("bad-{number:02}"))
+}
+
+fn case_with(random: &mut Random, rows: &[&'static Row], habits: &Habits, length: usize, name: String) -> Case {
     let mut names = |most: usize| -> Vec<&'static str> {
         let mut names = NAMES;
         random.shuffle(&mut names);
@@ -88,8 +101,8 @@ pub fn case(random: &mut Random, rows: &[&'static Row], number: usize) -> Case {
         None => (vec!["approve", "pay", "read"], vec!["invoice", "ledger"]),
     };
     let mut day = Day { random, rows, users, roles, sessions, sets, operations, objects };
-    let schedule = day.schedule(&habits, length);
-    Case::new(format!("day-{number:05}"), founding.map(String::into_bytes), schedule)
+    let schedule = day.schedule(habits, length);
+    Case::new(name, founding.map(String::into_bytes), schedule)
 }
 
 /// A founding with these operations and objects, and about half of their pairs as permissions.
@@ -105,7 +118,13 @@ fn founding(random: &mut Random, operations: &[&str], objects: &[&str]) -> Strin
 impl Day<'_> {
     fn schedule(&mut self, habits: &Habits, length: usize) -> Vec<u8> {
         let mut builder = Builder::new();
-        for _ in 0..length {
+        if self.random.chance(75) {
+            self.stock(&mut builder);
+        }
+        for number in 0..length {
+            if number % SURVEYED == SURVEYED - 1 {
+                self.survey(&mut builder);
+            }
             if self.random.chance(habits.hostile) {
                 let event = builder::submit(1, self.random.next() as u32, 0, self.command(habits));
                 builder.line(hostile::line(self.random, event));
@@ -116,6 +135,39 @@ impl Day<'_> {
             }
         }
         builder.schedule
+    }
+
+    /// A policy to begin with.
+    fn stock(&mut self, builder: &mut Builder) {
+        let (users, roles) = (self.users.clone(), self.roles.clone());
+        users.iter().for_each(|user| builder.command("AddUser", &[("user", tree::text(user))]));
+        roles.iter().for_each(|role| builder.command("AddRole", &[("role", tree::text(role))]));
+        for (name, count) in [("AddInheritance", 6), ("GrantPermission", 6), ("AssignUser", 5), ("CreateSession", 4)] {
+            for _ in 0..count {
+                self.any(name, builder);
+            }
+        }
+    }
+
+    /// Asks for what the policy has become.
+    fn survey(&mut self, builder: &mut Builder) {
+        for session in self.sessions.clone() {
+            let (operation, object) = (self.random.pick(&self.operations), self.random.pick(&self.objects));
+            let fields = [("session", session), ("operation", operation), ("object", object)];
+            builder.command("CheckAccess", &fields.map(|(key, value)| (key, tree::text(value))));
+        }
+        if self.rows.iter().any(|row| row.group == Group::Review) {
+            for review in ["SessionRoles", "AuthorizedRoles", "RolePermissions", "UserPermissions", "SsdRoleSetRoles"] {
+                self.any(review, builder);
+            }
+        }
+    }
+
+    /// A command of this name, with any fields.
+    fn any(&mut self, name: &str, builder: &mut Builder) {
+        let row = self.rows.iter().find(|row| row.name == name).expect("a row of the name");
+        let fields: Vec<(&str, Tree)> = row.fields.iter().map(|field| (*field, self.value(row, field))).collect();
+        builder.command(row.name, &fields);
     }
 
     /// Submits and deliveries in about equal parts, and few events that are refused.
