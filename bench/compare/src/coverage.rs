@@ -108,8 +108,8 @@ fn word_of(answer: &str) -> &str {
 fn command_of(line: &[u8]) -> String {
     let line = String::from_utf8_lossy(line);
     let name = text_between(&line, "\"name\":\"", "\"").unwrap_or_default();
-    // A line in which the key stands twice means the last one, which is not looked for.
-    let is_sure = line.matches("\"name\"").count() == 1 && row_of(name).is_some();
+    // Where the key stands twice, or with escapes, another one may be meant.
+    let is_sure = line.matches("\"name\"").count() == 1 && !line.contains('\\') && row_of(name).is_some();
     if is_sure { name.to_owned() } else { UNREAD.to_owned() }
 }
 
