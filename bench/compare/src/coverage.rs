@@ -119,3 +119,41 @@ fn end_of(played: &Played) -> String {
     let words = if message.starts_with("file: ") { "file" } else { message };
     format!("status {} {words}", played.status).trim_end().to_owned()
 }
+
+#[cfg(test)]
+mod tests {
+    use super::*;
+    use crate::generate::Extent;
+
+    #[test]
+    fn what_occurred_is_not_missing() {
+        let schedule = b"{\"command\":{\"name\":\"AddUser\"}}\n{\"do\":\"deliver\"}\n{\"do\":\"deliver\"}\n{\n";
+        let output = b"{\"line\":1,\"stamp\":[1,1]}
+{\"answer\":{\"denied\":\"UserExists\",\"number\":1},\"caller\":0,\"line\":2,\"serial\":0,\"stamp\":[1,1]}
+{\"answer\":null,\"line\":3}
+{\"line\":4,\"refused\":\"NotJson\"}
+";
+        let mut coverage = Coverage::default();
+        let case = Case::new("a".to_owned(), None, schedule.to_vec());
+        coverage.count(&case, &Played::new(0, output.to_vec(), String::new()));
+        let choices = Choices { seed: 1, lines: 0, reviews: false, extent: Extent::Whole };
+        let (all, missing) = (Coverage::default().missing(&choices), coverage.missing(&choices));
+        let occurred: Vec<&String> = all.iter().filter(|word| !missing.contains(word)).collect();
+        assert_eq!(
+            occurred,
+            ["AddUser UserExists", "submitted", "delivered", "delivered nothing", "NotJson", "status 0"]
+        );
+        assert!(missing.contains(&"AddUser Done".to_owned()));
+        assert!(coverage.unknown().is_empty());
+    }
+
+    #[test]
+    fn an_answer_that_no_row_has_is_unknown() {
+        let mut coverage = Coverage::default();
+        let case = Case::new("a".to_owned(), None, b"{\"name\":\"AddUser\"}\n{}\n".to_vec());
+        let output =
+            b"{\"line\":1,\"stamp\":[1,1]}\n{\"answer\":\"Granted\",\"caller\":0,\"line\":2}\n{\"refused\":\"Odd\"}\n";
+        coverage.count(&case, &Played::new(1, output.to_vec(), "rbac_monitor: run: Odd\n".to_owned()));
+        assert_eq!(coverage.unknown(), ["AddUser Granted", "status 1 run: Odd"]);
+    }
+}

@@ -164,3 +164,61 @@ fn number_after(line: &[u8], key: &[u8]) -> Option<(Range<usize>, u32)> {
 fn contains(text: &[u8], part: &[u8]) -> bool {
     text.windows(part.len()).any(|window| window == part)
 }
+
+#[cfg(test)]
+mod tests {
+    use super::*;
+
+    /// Answers each submit with a stamp where its serial is in turn, and a line with `odd` in its own way where a line with
+    /// `needed` came before.
+    struct Fake {
+        odd: &'static str,
+    }
+
+    impl Player for Fake {
+        fn play(&self, cases: &[Case]) -> Result<Vec<Played>, String> {
+            Ok(cases.iter().map(|case| Played::new(0, self.output(case).into_bytes(), String::new())).collect())
+        }
+
+        fn cases_at_once(&self) -> usize {
+            3
+        }
+
+        fn shrink_effort(&self) -> (usize, usize) {
+            (3, 1_000)
+        }
+    }
+
+    impl Fake {
+        fn output(&self, case: &Case) -> String {
+            let (mut next, mut came, mut output) = (0, false, String::new());
+            for line in case.lines() {
+                let serial = number_after(line, b"\"serial\":").map(|(_, serial)| serial);
+                let is_in_turn = serial == Some(next);
+                next += u32::from(is_in_turn);
+                came |= is_in_turn && contains(line, b"needed");
+                let answer = if is_in_turn { "{\"line\":0,\"stamp\":[1,1]}" } else { "{\"refused\":\"BadSerial\"}" };
+                output.push_str(if is_in_turn && came && contains(line, b"odd") { self.odd } else { answer });
+                output.push('\n');
+            }
+            output
+        }
+    }
+
+    #[test]
+    fn what_the_difference_needs_is_left() {
+        let words = (0..100).map(|number| match number {
+            17 => "needed",
+            61 => "odd",
+            _ => "other",
+        });
+        let lines =
+            words.enumerate().map(|(serial, word)| format!("{{\"caller\":0,\"serial\":{serial},\"{word}\"}}\n"));
+        let case = Case::new("a".to_owned(), None, lines.collect::<String>().into_bytes());
+        let (reference, program) = (Fake { odd: "{\"line\":0,\"stamp\":[1,1]}" }, Fake { odd: "differs" });
+        let pair = Pair { reference: &reference, program: &program };
+        let Ok(left) = shrink(&pair, case) else { panic!("it shrinks") };
+        let wanted = "{\"caller\":0,\"serial\":0,\"needed\"}\n{\"caller\":0,\"serial\":1,\"odd\"}\n";
+        assert_eq!(String::from_utf8_lossy(&left.schedule), wanted);
+    }
+}
