@@ -7,6 +7,7 @@ pub use binary::Binary;
 pub use tried::Tried;
 
 use crate::case::{Case, Played};
+use std::time::Duration;
 
 pub trait Player {
     /// Plays the cases, each in a run of its own.
@@ -15,6 +16,6 @@ pub trait Player {
     /// How many cases it is given at once.
     fn cases_at_once(&self) -> usize;
 
-    /// How many shorter schedules it is given at once, and how many times, to find one with the same difference.
-    fn shrink_effort(&self) -> (usize, usize);
+    /// How many shorter schedules it is given at once, and for how long, to find one with the same difference.
+    fn shrink_effort(&self) -> (usize, Duration);
 }

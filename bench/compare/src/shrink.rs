@@ -4,6 +4,7 @@ use crate::case::{Case, Played, lines_of};
 use crate::players::Player;
 use std::collections::HashMap;
 use std::ops::Range;
+use std::time::Instant;
 
 pub struct Pair<'a> {
     pub reference: &'a dyn Player,
@@ -31,15 +32,16 @@ pub fn shrink(pair: &Pair, case: Case) -> Result<Case, String> {
     let Some((wanted, got)) = played.first().filter(|(wanted, got)| wanted != got) else {
         return Err(format!("{}: the difference did not come again", case.name));
     };
-    let (at_once, rounds) = pair.program.shrink_effort();
-    let mut shrinking = Shrinking { pair, lines: lines_with_callers(&case, wanted), case, at_once, rounds };
+    let (at_once, time) = pair.program.shrink_effort();
+    let mut shrinking =
+        Shrinking { pair, lines: lines_with_callers(&case, wanted), case, at_once, end: Instant::now() + time };
     let seen = lines_up_to_difference(wanted, got).min(shrinking.lines.len());
     let cut = shrinking.lines[..seen].to_vec();
     if shrinking.differing(std::slice::from_ref(&cut))?[0] {
         shrinking.lines = cut;
     }
     let mut length = shrinking.lines.len().div_ceil(at_once);
-    while length > 0 && shrinking.rounds > 0 {
+    while length > 0 && shrinking.has_time() {
         let before = shrinking.lines.len();
         shrinking.leave_out_pieces(length)?;
         let is_done = length == 1 && shrinking.lines.len() == before;
@@ -54,14 +56,17 @@ struct Shrinking<'a> {
     /// What is left. The programs differ on it.
     lines: Vec<Line>,
     at_once: usize,
-    /// How many more times the programs are asked.
-    rounds: usize,
+    /// When it is time to stop.
+    end: Instant,
 }
 
 impl Shrinking<'_> {
+    fn has_time(&self) -> bool {
+        Instant::now() < self.end
+    }
+
     /// Whether the programs differ on each of these.
-    fn differing(&mut self, candidates: &[Vec<Line>]) -> Result<Vec<bool>, String> {
-        self.rounds = self.rounds.saturating_sub(1);
+    fn differing(&self, candidates: &[Vec<Line>]) -> Result<Vec<bool>, String> {
         let cases: Vec<Case> = candidates.iter().map(|lines| with_lines(&self.case, lines)).collect();
         let named = cases.into_iter().enumerate().map(|(number, case)| case.renamed(format!("shorter-{number:02}")));
         let played = self.pair.play(&named.collect::<Vec<_>>())?;
@@ -71,7 +76,7 @@ impl Shrinking<'_> {
     /// Leaves out each piece of this length that the difference does not need.
     fn leave_out_pieces(&mut self, length: usize) -> Result<(), String> {
         let mut start = 0;
-        while start < self.lines.len() && self.rounds > 0 {
+        while start < self.lines.len() && self.has_time() {
             let starts = (start..self.lines.len()).step_by(length).take(self.at_once);
             let pieces: Vec<Range<usize>> = starts.map(|start| start..(start + length).min(self.lines.len())).collect();
             let without: Vec<Vec<Line>> =
@@ -168,6 +173,7 @@ fn contains(text: &[u8], part: &[u8]) -> bool {
 #[cfg(test)]
 mod tests {
     use super::*;
+    use std::time::Duration;
 
     /// Answers each submit with a stamp where its serial is in turn, and a line with `odd` in its own way where a line with
     /// `needed` came before.
@@ -184,8 +190,8 @@ mod tests {
             3
         }
 
-        fn shrink_effort(&self) -> (usize, usize) {
-            (3, 1_000)
+        fn shrink_effort(&self) -> (usize, Duration) {
+            (3, Duration::from_secs(60))
         }
     }
 

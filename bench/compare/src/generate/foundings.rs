@@ -83,6 +83,7 @@ const KEYS: [Key; 7] = [
 
 pub fn cases(random: &mut Random, extent: Extent) -> Vec<Case> {
     let mut foundings: Vec<String> = each_value().chain(at_the_limits()).collect();
+    foundings.extend(each_two_faults());
     foundings.extend((0..150).map(|_| mixed(random)));
     if extent == Extent::Short {
         random.shuffle(&mut foundings);
@@ -97,11 +98,23 @@ pub fn cases(random: &mut Random, extent: Extent) -> Vec<Case> {
 
 /// A file with each key once, a key's value being this one where it is named.
 fn with_value(changed: &str, value: &str) -> String {
+    with_values(&[(changed, value)])
+}
+
+fn with_values(changed: &[(&str, &str)]) -> String {
     let line = |key: &Key| {
-        let value = if key.name == changed { value } else { key.good[0] };
+        let value = changed.iter().find(|(name, _)| *name == key.name).map_or(key.good[0], |(_, value)| value);
         format!("{} = {value}\n", key.name)
     };
     KEYS.iter().map(line).collect()
+}
+
+/// Each two bad values of two keys, of which the check that comes first is named.
+fn each_two_faults() -> Vec<String> {
+    let bad: Vec<(&str, &str)> = KEYS.iter().flat_map(|key| key.bad.iter().map(|value| (key.name, *value))).collect();
+    let pairs =
+        bad.iter().enumerate().flat_map(|(place, first)| bad[place + 1..].iter().map(move |second| [*first, *second]));
+    pairs.filter(|[first, second]| first.0 != second.0).map(|pair| with_values(&pair)).collect()
 }
 
 /// One file for each refusal, and one that is taken.

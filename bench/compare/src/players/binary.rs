@@ -5,6 +5,7 @@ use crate::case::{Case, Played, SCHEDULE_PATH};
 use std::fs::{self, File};
 use std::path::{Path, PathBuf};
 use std::process::Command;
+use std::time::Duration;
 
 pub struct Binary {
     pub program: PathBuf,
@@ -21,8 +22,8 @@ impl Player for Binary {
         16
     }
 
-    fn shrink_effort(&self) -> (usize, usize) {
-        (16, 400)
+    fn shrink_effort(&self) -> (usize, Duration) {
+        (16, Duration::from_secs(60))
     }
 }
 

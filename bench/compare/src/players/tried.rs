@@ -12,6 +12,7 @@ use std::collections::HashMap;
 use std::fs;
 use std::path::PathBuf;
 use std::process::{Command, Stdio};
+use std::time::Duration;
 
 pub struct Tried {
     /// The folder of the program's crate.
@@ -38,13 +39,13 @@ impl Player for Tried {
         played.ok_or_else(|| format!("rt try gave no answer for a case:\n{}", last_lines(&errors, 40)))
     }
 
-    /// Each call builds the program anew, so there are few.
+    /// Each call builds the program anew, so there should be few.
     fn cases_at_once(&self) -> usize {
         1_000
     }
 
-    fn shrink_effort(&self) -> (usize, usize) {
-        (48, 12)
+    fn shrink_effort(&self) -> (usize, Duration) {
+        (48, Duration::from_secs(600))
     }
 }
 
