@@ -26,10 +26,10 @@ fn expect(
     rt: &impl Abort,
     alloc: Global,
     world: &mut World,
-    event: &Event,
+    event: Event,
     wanted: Result<Outcome, Refusal>,
 ) {
-    let answer = world.step(alloc, event);
+    let answer = world.step(alloc, &event);
     assert_eq!(rt; answer, wanted);
 }
 
@@ -41,40 +41,39 @@ fn steps_by_events(rt: HostRuntime) {
         clock: 1,
         member: 1,
     };
-    let deliver = Event::Deliver { at: 1 };
     expect(
         &rt,
         alloc,
         &mut world,
-        &deliver,
+        Event::Deliver { at: 1 },
         Ok(Outcome::Delivered(None)),
     );
     expect(
         &rt,
         alloc,
         &mut world,
-        &submit(&rt, alloc, 1, 0),
+        submit(&rt, alloc, 1, 0),
         Ok(Outcome::Submitted(first)),
     );
     expect(
         &rt,
         alloc,
         &mut world,
-        &submit(&rt, alloc, 1, 1),
+        submit(&rt, alloc, 1, 1),
         Err(Refusal::SentFull),
     );
     expect(
         &rt,
         alloc,
         &mut world,
-        &deliver,
+        Event::Deliver { at: 1 },
         Ok(Outcome::Delivered(Some(0))),
     );
     expect(
         &rt,
         alloc,
         &mut world,
-        &deliver,
+        Event::Deliver { at: 1 },
         Ok(Outcome::Delivered(None)),
     );
 }
@@ -91,14 +90,14 @@ fn shows_what_was_delivered(rt: HostRuntime) {
         &rt,
         alloc,
         &mut world,
-        &submit(&rt, alloc, 1, 0),
+        submit(&rt, alloc, 1, 0),
         Ok(Outcome::Submitted(first)),
     );
     expect(
         &rt,
         alloc,
         &mut world,
-        &Event::Deliver { at: 1 },
+        Event::Deliver { at: 1 },
         Ok(Outcome::Delivered(Some(0))),
     );
     world.right_histories();
@@ -125,15 +124,15 @@ fn refuses_strangers_and_serials(rt: HostRuntime) {
         &rt,
         alloc,
         &mut world,
-        &submit(&rt, alloc, 2, 1),
+        submit(&rt, alloc, 2, 1),
         Err(Refusal::UnknownMember),
     );
-    expect(&rt, alloc, &mut world, &submit(&rt, alloc, 1, 1), Err(next));
+    expect(&rt, alloc, &mut world, submit(&rt, alloc, 1, 1), Err(next));
     expect(
         &rt,
         alloc,
         &mut world,
-        &Event::Deliver { at: 2 },
+        Event::Deliver { at: 2 },
         Err(Refusal::UnknownMember),
     );
 }
@@ -152,6 +151,6 @@ fn refuses_to_receive(rt: HostRuntime) {
             from,
             number: 0,
         };
-        expect(&rt, alloc, &mut world, &event, Err(wanted));
+        expect(&rt, alloc, &mut world, event, Err(wanted));
     }
 }
