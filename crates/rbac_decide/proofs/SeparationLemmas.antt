@@ -1,12 +1,11 @@
 -- What separation of duty asks of the state after a change, asked of the state before it.
-use Rattle.std.proofs.Common.{ℕ, List, [], ◌∷◌, length, count_by, Bool, true, false, not, cond, leb, ◌||◌, ◌&&◌, ◌≡◌, IsTrue, Option, Some, None, is_some, Result, Ok, Err, IfOk, refl, sym, ap, ◌∙◌, subst, ⊎_elim, inl, inr}
+use Rattle.std.proofs.Common.{List, [], ◌∷◌, count_by, Bool, true, false, not, cond, ◌||◌, ◌&&◌, ◌≡◌, Option, Some, None, is_some, Result, Ok, Err, IfOk, refl, sym, ap, ◌∙◌, subst, ⊎_elim}
 use Rattle.std.proofs.lemmas.Bool.{or_cases, or_left, or_right, and_parts, and_from, false≢true}
 use Rattle.std.specs.declared.cmp.Ordering.{Ordering}
 use Rattle.std.specs.declared.cmp.Ordering.TheVariants.{Less, Equal, Greater}
 use Rattle.std.specs.List.{list_any, list_all, AllByRecursion as Each}
 use Rattle.std.specs.Ordering.{eq_by_cmp}
 use Rattle.std.specs.Option.{option_map_or}
-use Rattle.std.specs.FinMap.{IsAntisymmetric}
 use Rattle.std.specs.FinMap.Entries.{find, put, by_order}
 use Rattle.sorted_keys.specs.Keys.{has, with_key, updated}
 use Rattle.sorted_keys.proofs.Members.{has-with_key}
@@ -14,7 +13,7 @@ use Rattle.rbac_words.specs.Name.{Name, name_cmp, pair_cmp}
 use Rattle.rbac_words.specs.State.{State, Session}
 use Rattle.rbac_words.specs.Separation.{RoleSet, is_well_sized, is_broken_by, is_broken, first_broken}
 use Rattle.rbac_words.specs.Inheritance.{Inherits}
-use Rattle.rbac_words.specs.Authorization.{IsAuthorized, is_authorized, inherits_in}
+use Rattle.rbac_words.specs.Authorization.{is_authorized, inherits_in}
 use Rattle.rbac_words.specs.Constraints.{sets_of, with_sets, breaks_static, breaks_dynamic, is_violated, is_badly_sized}
 use Rattle.rbac_words.specs.Change.{change, with_active}
 use Rattle.rbac_words.specs.Rows.{found_and}
@@ -26,9 +25,8 @@ use Rattle.rbac_words.proofs.NameLemmas.{names_total, names_exact, pairs_total, 
 use Rattle.rbac_words.proofs.InheritanceLemmas.{joined, inherits_iff, inherits_still, inherits_over}
 use Rattle.rbac_words.proofs.AuthorizationLemmas.{is_authorized_iff}
 use Rattle.rbac_words.proofs.SoundParts.{still}
-use Rattle.rbac_words.proofs.SoundSeparation.{is_false, none_passes, passes_none}
+use Rattle.rbac_words.proofs.SoundSeparation.{is_false}
 use Rattle.rbac_decide.specs.Breaking.{breaks_with, breaks_below, breaks_set}
-use Rattle.rbac_review.proofs.ReviewLemmas.{any-same}
 
 -- ---- Sets
 

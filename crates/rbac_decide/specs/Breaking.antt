@@ -1,5 +1,5 @@
 -- What would break separation of duty, asked of the state before the change.
-use Rattle.std.specs.Prelude.{List, Bool, ◌||◌, ◌&&◌}
+use Rattle.std.specs.Prelude.{Bool, ◌||◌, ◌&&◌}
 use Rattle.std.specs.List.{list_any}
 use Rattle.rbac_words.specs.Name.{Name}
 use Rattle.rbac_words.specs.State.{State}

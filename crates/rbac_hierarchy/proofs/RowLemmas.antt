@@ -5,7 +5,6 @@ use Rattle.std.specs.List.Sorted.{IsStrictlySortedBy}
 use Rattle.std.specs.Ordering.{eq_by_cmp}
 use Rattle.std.specs.FinMap.Entries.{find, put}
 use Rattle.std.proofs.lemmas.Bool.{and_parts, or_right, false≢true}
-use Rattle.std.proofs.lemmas.List.Elements.{filter_agree}
 use Rattle.std.proofs.lemmas.List.Kept.{IsStrictlySortedBy-filter}
 use Rattle.sorted_keys.specs.Keys.{has, with_key, without, without_key, by_key}
 use Rattle.sorted_keys.proofs.Order.{sorted_none}
@@ -13,13 +12,13 @@ use Rattle.sorted_keys.proofs.KeyPlace.{sorted_with_key}
 use Rattle.sorted_keys.proofs.Members.{has-with_key, has-without}
 use Rattle.rbac_words.specs.Name.{Name, name_cmp}
 use Rattle.rbac_words.specs.Relations.{without_pairs_of}
-use Rattle.rbac_words.specs.Inheritance.{inherits, juniors, seniors}
+use Rattle.rbac_words.specs.Inheritance.{inherits, juniors}
 use Rattle.rbac_words.proofs.NameLemmas.{names_total, names_exact, ties_itself}
 use Rattle.rbac_hierarchy.specs.Order.{Order}
 use Rattle.rbac_hierarchy.specs.Rows.{RangesOver, roles_in, rows_over, AreRows}
 use Rattle.rbac_hierarchy.proofs.Kept.{keeps_all, key_kept, key_passed}
 use Rattle.rbac_hierarchy.proofs.JuniorLemmas.{no_juniors, none_inherited, has_juniors, same_juniors, lone_juniors}
-use Rattle.rbac_hierarchy.proofs.EntryLemmas.{keys_of_each, keys_of_kept, each_put, each_found, each_without, each_same, found_among}
+use Rattle.rbac_hierarchy.proofs.EntryLemmas.{keys_of_each, each_put, each_found, each_without, each_same, found_among}
 use Rattle.rbac_hierarchy.proofs.RangeLemmas.{ranges_wider, ranges_without}
 
 -- the rows have these roles

@@ -1,8 +1,5 @@
 -- What the code's lists say in the words of the definitions.
-use Rattle.std.proofs.Common.{ℕ, Bool, true, false, cond, ◌≡◌, ◌+◌, ◌==◌, List, [], ◌∷◌, ◌++◌, length, count_by, refl, sym, ap, ◌∙◌, arith, Option, Some, None, get_or, slice_get}
-use Rattle.std.specs.List.{filter}
-use Rattle.std.proofs.lemmas.List.Sums.{sum_by-cons}
-use Rattle.rbac_words.specs.Founding.{Vocabulary}
+use Rattle.std.proofs.Common.{ℕ, ◌≡◌, ◌+◌, List, [], ◌∷◌, ◌++◌, refl, ap, ◌∙◌, Option, Some, None, get_or}
 use Rattle.rbac_words.specs.State.{State}
 use Rattle.rbac_words.specs.Rows.{first_denial}
 use Rattle.rbac_words.specs.Change.{change}
@@ -12,33 +9,20 @@ use Rattle.rbac_words.specs.Name.{Name}
 use Rattle.rbac_words.specs.declared.separation.Separation.{Separation}
 use Rattle.rbac_words.specs.declared.separation.Separation.TheVariants.{Static, Dynamic}
 use Rattle.rbac_words.specs.Effect.{effect, effect_unless, reply}
-use Rattle.rbac_words.specs.Message.{is_by, submissions_of, submissions, next_serial}
+use Rattle.rbac_words.specs.Message.{submissions_of}
 use Rattle.rbac_words.specs.World.{stamp}
 use Rattle.rbac_words.specs.declared.answer.Answer.{Answer}
 use Rattle.rbac_words.specs.declared.answer.Denial.{Denial}
 use Rattle.rbac_words.specs.declared.command.Command.{Command}
 use Rattle.rbac_words.specs.declared.command.Command.TheVariants.{AddUser, DeleteUser, AddRole, DeleteRole, AssignUser, DeassignUser, GrantPermission, RevokePermission, AddInheritance, DeleteInheritance, AddAscendant, AddDescendant, CreateSet, DeleteSet, AddRoleMember, DeleteRoleMember, SetCardinality, CreateSession, DeleteSession, AddActiveRole, DropActiveRole, CheckAccess, Review as ReviewCommand}
 use Rattle.rbac_words.specs.declared.message.Message.{Message}
-use Rattle.rbac_words.specs.declared.message.Message.TheVariants.{Call, Ack}
+use Rattle.rbac_words.specs.declared.message.Message.TheVariants.{Call}
 use Rattle.rbac_words.specs.declared.message.Submission.{Submission}
 use Rattle.rbac_words.specs.declared.record.Record.{Record}
 use Rattle.rbac_words.specs.declared.stamp.Stamp.{Stamp}
 use Rattle.rbac_member.specs.Inside.{vocabulary_of}
-use Rattle.rbac_member.specs.Lists.{is_call_by, TakesOver}
+use Rattle.rbac_member.specs.Lists.{TakesOver}
 use Rattle.rbac_member.specs.Member.{Member, submission, submitted, delivery, delivered}
-
-pub count_of_calls : (caller : ℕ) (ms : List Message) → count_by (is_call_by caller) ms ≡ next_serial caller (submissions ms)
-count_of_calls caller [] = refl
-count_of_calls caller (Ack stamp ∷ ms) = let rest = count_of_calls caller ms in let first = sum_by-cons (λ m. cond (is_call_by caller m) 1 0) (Ack stamp) ms in omega arith
-count_of_calls caller (Call stamp other serial command ∷ ms) = sum_by-cons (λ m. cond (is_call_by caller m) 1 0) (Call stamp other serial command) ms ∙ go (other == caller) (count_of_calls caller ms)
-  where
-    x : Submission
-    x = record { stamp = stamp; caller = other; serial = serial; command = command }
-
-    go : (b : Bool) → count_by (is_call_by caller) ms ≡ next_serial caller (submissions ms)
-        → cond b 1 0 + count_by (is_call_by caller) ms ≡ length (cond b (x ∷ filter (is_by caller) (submissions ms)) (filter (is_by caller) (submissions ms)))
-    go true e = omega arith
-    go false e = omega arith
 
 vocabulary-sets : (kind : Separation) (sets : List (Name × RoleSet)) (s : State) → vocabulary_of (with_sets kind sets s) ≡ vocabulary_of s
 vocabulary-sets Static sets s = refl

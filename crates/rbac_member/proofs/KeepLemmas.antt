@@ -1,23 +1,19 @@
 -- What a member keeps: as it is founded, by a submit and by a delivery.
-use Rattle.std.proofs.Common.{ℕ, Bool, true, false, ◌≡◌, ◌≤◌, ◌<◌, ◌+◌, ◌==◌, ◌⊎◌, inl, inr, List, [], ◌∷◌, ◌++◌, length, map, refl, sym, ap, subst, ◌∙◌, arith, append_assoc, append-nil, length-append, cond, nat_le, Option, Some, None}
+use Rattle.std.proofs.Common.{ℕ, Bool, true, false, ◌≡◌, ◌≤◌, ◌<◌, ◌+◌, ◌==◌, inl, List, [], ◌∷◌, ◌++◌, length, map, refl, sym, ap, subst, ◌∙◌, arith, append_assoc, length-append, cond, nat_le, Option, Some, None}
 use Rattle.std.specs.List.{AllByRecursion as Each, filter}
 use Rattle.std.proofs.lemmas.Bool.Decides.{nat_tests}
 use Rattle.std.proofs.lemmas.List.Elements.{filter-append}
 use Rattle.rbac_words.specs.Limits.{last_clock}
 use Rattle.rbac_words.specs.Founding.{Group, Vocabulary, IsGroup}
 use Rattle.rbac_words.specs.State.{State, founding_state}
-use Rattle.rbac_words.specs.Change.{change}
-use Rattle.rbac_words.specs.Effect.{effect, effect_unless, reply}
+use Rattle.rbac_words.specs.Effect.{effect, reply}
 use Rattle.rbac_words.specs.Replay.{state_after, replies}
-use Rattle.rbac_words.specs.Rows.{first_denial}
 use Rattle.rbac_words.specs.Stamp.{IsBefore, IsRising}
-use Rattle.rbac_words.specs.Message.{stamp_of, submitted_at, submissions, submission_of, told, is_by, next_serial, CountsFrom, IsLawful}
-use Rattle.rbac_words.specs.Front.{IsLegalFront, command_of, is_of}
+use Rattle.rbac_words.specs.Message.{stamp_of, submitted_at, submissions, submission_of, told, is_by, next_serial, CountsFrom}
+use Rattle.rbac_words.specs.Front.{command_of, is_of}
 use Rattle.rbac_words.specs.World.{stamp, submit_refusal}
 use Rattle.rbac_words.specs.declared.event.Refusal.{Refusal}
 use Rattle.rbac_words.specs.declared.event.Refusal.TheVariants.{ClockFull, SentFull, BadSerial}
-use Rattle.rbac_words.specs.declared.answer.Answer.{Answer}
-use Rattle.rbac_words.specs.declared.answer.Denial.{Denial}
 use Rattle.rbac_words.specs.declared.command.Command.{Command}
 use Rattle.rbac_words.specs.declared.message.Message.{Message}
 use Rattle.rbac_words.specs.declared.message.Message.TheVariants.{Call}

@@ -1,8 +1,9 @@
 -- A member's fields as what they stand for.
-use Rattle.std.specs.Prelude.{ℕ, ◌≡◌}
-use Rattle.rbac_words.specs.Founding.{Group, Vocabulary}
+use Rattle.std.specs.Prelude.{◌≡◌}
+use Rattle.rbac_words.specs.Founding.{Vocabulary}
 use Rattle.rbac_words.specs.State.{State}
 use Rattle.rbac_member.specs.Member.{Member, IsMember}
+use Rattle.rbac_member.specs.Serials.{AreCounted}
 use Rattle.rbac_member.specs.declared.member.Member.TheInside.{Inside}
 
 -- the vocabulary that a state was founded with: no command changes it
@@ -23,5 +24,6 @@ member_of a = record {
 
 -- what each member keeps; until groups come it is alone
 pub record IsKept (a : Inside) : Type 0 where
+  pub counted : AreCounted a.serials.content a.sent.items
   pub alone : a.group.members ≡ 1
   pub kept : IsMember (member_of a)

@@ -6,7 +6,7 @@ use Rattle.rbac_words.specs.Founding.{Group, Vocabulary, IsGroup}
 use Rattle.rbac_words.specs.State.{State, founding_state}
 use Rattle.rbac_words.specs.Effect.{effect, reply}
 use Rattle.rbac_words.specs.Replay.{state_after}
-use Rattle.rbac_words.specs.Stamp.{IsRising, IsBefore}
+use Rattle.rbac_words.specs.Stamp.{IsRising}
 use Rattle.rbac_words.specs.Message.{stamp_of, submitted_at, submissions, told, IsLawful}
 use Rattle.rbac_words.specs.Front.{IsLegalFront, command_of, is_of}
 use Rattle.rbac_words.specs.World.{Node, stamp}

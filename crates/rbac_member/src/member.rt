@@ -1,23 +1,26 @@
 //! A member of a group.
-ghost use Rattle.std.specs.Prelude.{◌≡◌, ◌≢◌, ◌≤◌, ◌<◌, ◌+◌, ◌⊎◌, [], ◌∷◌, ◌++◌, None, IfOk, IfErr, OnOk, OnErr, vec_len, vec_capacity, count_by};
-ghost use Rattle.rbac_words.specs.Message.{submissions, submissions_of, next_serial};
-ghost use Rattle.rbac_member.specs.Lists.{is_call_by, TakesOver};
+ghost use Rattle.std.specs.Prelude.{◌≡◌, ◌≢◌, ◌≤◌, ◌<◌, ◌+◌, ◌⊎◌, [], ◌∷◌, ◌++◌, None, IfOk, IfErr, OnOk, OnErr, vec_len, vec_capacity};
+ghost use Rattle.rbac_words.specs.Message.{submissions_of};
+ghost use Rattle.rbac_member.specs.Lists.{TakesOver};
+ghost use Rattle.rbac_member.specs.Serials.{counted, counted_of};
 
 use crate::refusal::{FoundRefusal, SubmitRefusal};
 use rbac_decide::Policy;
 use rbac_words::{Answer, Command, Group, Message, Record, Stamp, Submission, Vocabulary};
+use sorted_keys::SortedMap;
 use std::alloc::{AllocError, Global};
 use std::collections::VecDeque;
 use std::marker::Model;
 
 const LAST_CLOCK: u64 = 9_007_199_254_740_991;
 
-/// A member: its clock, what it sent, what it holds, what it delivered, and its policy.
+/// A member: its clock, each caller's next serial, what it sent, what it holds, what it delivered, and its policy.
 #[derive(Drop)]
 pub struct Member {
     group: Group,
     number: u32,
     clock: u64,
+    serials: SortedMap<u32, u64>,
     sent: Vec<Message>,
     held: VecDeque<Submission>,
     history: Vec<Record>,
@@ -66,21 +69,39 @@ fn dropped(_message: Message) -> AllocError {
     AllocError
 }
 
-// Sends a message of the member itself, and holds its command.
+// Counts the command of a message, where it is one.
+fn count(serials: &mut SortedMap<u32, u64>, message: &Message)
+    requires { 0 < serials.old.room }
+    ensures { serials.new.content ≡ counted message.now serials.old.content }
+{
+    match message {
+        Message::Call { caller, serial, .. } => serials.put(*caller, u64::from(*serial) + 1),
+        Message::Ack { .. } => {}
+    }
+}
+
+// Sends a message of the member itself, counts its command, and holds it.
 fn send(
     alloc: Global,
+    serials: &mut SortedMap<u32, u64>,
     sent: &mut Vec<Message>,
     held: &mut VecDeque<Submission>,
     message: Message,
 ) -> Result<(), AllocError>
+    ensures serials { OnOk result (serials.new.content ≡ counted message serials.old.content) }
     ensures sent { OnOk result (sent.new.items ≡ sent.old.items ++ message ∷ []) }
     ensures held { OnOk result (held.new.items ≡ held.old.items ++ submissions_of message) }
+    ensures serials_unchanged { OnErr result (serials.new.content ≡ serials.old.content) }
     ensures sent_unchanged { OnErr result (sent.new.items ≡ sent.old.items) }
     ensures held_unchanged { OnErr result (held.new.items ≡ held.old.items) }
 {
-    if sent.reserve(1).is_err() || hold(alloc, held, &message).is_err() {
+    if serials.reserve(1).is_err()
+        || sent.reserve(1).is_err()
+        || hold(alloc, held, &message).is_err()
+    {
         return Err(dropped(message));
     }
+    count(serials, &message);
     let Ok(()) = sent.push(message) else {
         unreachable!()
     };
@@ -115,29 +136,11 @@ fn take_over(held: &mut VecDeque<Submission>, history: &mut Vec<Record>, answer:
     };
 }
 
-// Whether a message is a command of this caller.
-fn is_call_of(message: &Message, caller: u32) -> bool
-    ensures { result ≡ is_call_by caller message.now }
+// The next serial of a caller.
+fn next_of(serials: &SortedMap<u32, u64>, caller: u32) -> u64
+    ensures { result ≡ counted_of caller serials.now.content }
 {
-    match message {
-        Message::Call { caller: other, .. } => *other == caller,
-        Message::Ack { .. } => false,
-    }
-}
-
-// How many commands of this caller there are.
-fn count_of_caller(sent: &[Message], caller: u32) -> u64
-    ensures { result ≡ next_serial caller (submissions sent.now) }
-{
-    count_of_calls(sent, caller) as u64
-}
-
-fn count_of_calls(sent: &[Message], caller: u32) -> usize
-    ensures { result ≡ count_by (is_call_by caller) sent.now }
-{
-    sent.iter()
-        .filter(|message| is_call_of(message, caller))
-        .count()
+    serials.get(&caller).copied().unwrap_or(0)
 }
 
 impl Member {
@@ -208,6 +211,7 @@ impl Member {
             group,
             number,
             clock,
+            serials: SortedMap::new(alloc),
             sent: Vec::new(alloc),
             held: VecDeque::new(alloc),
             history: Vec::new(alloc),
@@ -227,7 +231,7 @@ impl Member {
         if self.group.sent_limit() as usize <= self.sent.len() {
             return Err(SubmitRefusal::SentFull);
         }
-        let next = count_of_caller(&self.sent, caller);
+        let next = next_of(&self.serials, caller);
         if u64::from(serial) != next {
             return Err(SubmitRefusal::BadSerial { next });
         }
@@ -261,7 +265,13 @@ impl Member {
             serial,
             command,
         };
-        match send(alloc, &mut self.sent, &mut self.held, message) {
+        match send(
+            alloc,
+            &mut self.serials,
+            &mut self.sent,
+            &mut self.held,
+            message,
+        ) {
             Ok(()) => {
                 self.clock = stamp.clock;
                 Ok(stamp)

@@ -1,6 +1,6 @@
 -- Who is assigned one of some roles, and what is granted to one of them, where these are the seniors of a role, its juniors, the
 -- roles that a user is authorized for or those that a session inherits.
-use Rattle.std.proofs.Common.{◌≡◌, Bool, true, false, cond, ◌||◌, ◌&&◌, List, [], ◌∷◌, refl, sym, ap, ◌∙◌, IsTrue, subst}
+use Rattle.std.proofs.Common.{◌≡◌, Bool, true, false, cond, ◌||◌, ◌&&◌, List, [], ◌∷◌, refl, sym, ap, ◌∙◌}
 use Rattle.std.specs.List.{list_any, list_all, filter}
 use Rattle.std.specs.List.Sorted.{IsStrictlySortedBy}
 use Rattle.std.specs.Ordering.{eq_by_cmp}
@@ -8,13 +8,13 @@ use Rattle.std.proofs.lemmas.Bool.{and_parts, and_from}
 use Rattle.std.proofs.lemmas.List.Kept.{IsStrictlySortedBy-filter}
 use Rattle.sorted_keys.specs.Keys.{has}
 use Rattle.sorted_keys.proofs.Members.{has-filter, same_keys}
-use Rattle.rbac_words.specs.Name.{Name, Permission, Grant, name_cmp, pair_cmp, grant_cmp}
+use Rattle.rbac_words.specs.Name.{Name, Permission, Grant, name_cmp, pair_cmp}
 use Rattle.rbac_words.specs.State.{State}
 use Rattle.rbac_words.specs.Inheritance.{inherits, juniors, seniors}
 use Rattle.rbac_words.specs.Authorization.{inherits_in, is_authorized, has_permission}
 use Rattle.rbac_words.specs.Reviews.{authorized_roles, role_permissions, permissions_of, user_permissions, operations_on}
-use Rattle.rbac_words.proofs.NameLemmas.{names_total, names_exact, pairs_exact, grants_total, grants_exact, one_key, same_bits, any_member, member_any}
-use Rattle.rbac_words.proofs.InheritanceLemmas.{inherits_iff, joined, chain_role, chain_end}
+use Rattle.rbac_words.proofs.NameLemmas.{names_total, names_exact, pairs_exact, grants_total, grants_exact, same_bits, any_member, member_any}
+use Rattle.rbac_words.proofs.InheritanceLemmas.{inherits_iff, joined, chain_end}
 use Rattle.rbac_words.proofs.AuthorizationLemmas.{is_authorized_iff}
 use Rattle.rbac_hierarchy.proofs.JuniorLemmas.{has_juniors, between_roles}
 use Rattle.rbac_review.specs.Among.{is_assigned_one, is_granted_to_one}

@@ -1,5 +1,5 @@
 -- What the reviews of a sound policy list.
-use Rattle.std.proofs.Common.{◌≡◌, Bool, List, Option, Some, None, refl, sym, ◌∙◌, IsTrue}
+use Rattle.std.proofs.Common.{◌≡◌, Bool, Option, Some, None, refl, sym, ◌∙◌, IsTrue}
 use Rattle.std.proofs.lemmas.Bool.{false≢true}
 use Rattle.std.specs.List.{list_any}
 use Rattle.std.specs.FinMap.Entries.{find}
@@ -8,7 +8,7 @@ use Rattle.rbac_words.specs.Name.{Name, Permission, name_cmp, pair_cmp}
 use Rattle.rbac_words.specs.State.{State, Session}
 use Rattle.rbac_words.specs.Authorization.{has_permission}
 use Rattle.rbac_words.specs.Effect.{session_holds}
-use Rattle.rbac_words.specs.Reviews.{active_in, permissions_of, session_permissions}
+use Rattle.rbac_words.specs.Reviews.{active_in, session_permissions}
 use Rattle.rbac_words.specs.Sound.{IsSound}
 use Rattle.rbac_words.proofs.NameLemmas.{pairs_total, pairs_exact, same_bits}
 use Rattle.rbac_words.proofs.AuthorizationLemmas.{holds_iff}

@@ -1,6 +1,6 @@
 -- The tests of separation of duty tell what they should.
-use Rattle.std.proofs.Common.{ℕ, List, [], ◌∷◌, count_by, Bool, true, false, leb, ◌||◌, ◌≡◌, ◌<◌, ◌≤◌, IsTrue, ◌↔◌, refl, sym, subst, ◌∙◌, ⊎_elim, arith}
-use Rattle.std.proofs.lemmas.Bool.{or_cases, or_left, or_right, false≢true, leb-true, le-leb, leb-false}
+use Rattle.std.proofs.Common.{List, [], ◌∷◌, count_by, Bool, false, ◌≡◌, ◌<◌, IsTrue, ◌↔◌, refl, sym, subst, ◌∙◌, ⊎_elim, arith}
+use Rattle.std.proofs.lemmas.Bool.{or_cases, or_left, or_right, false≢true, leb-true, leb-false}
 use Rattle.std.specs.List.{list_any, AllByRecursion as Each}
 use Rattle.sorted_keys.specs.Keys.{has}
 use Rattle.rbac_words.specs.Name.{Name, name_cmp}

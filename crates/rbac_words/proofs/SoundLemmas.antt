@@ -1,5 +1,5 @@
 -- Each command keeps a policy sound.
-use Rattle.std.proofs.Common.{List, length, Bool, not, ◌&&◌, ◌≡◌, ◌≤◌, IsTrue, Option, Some, None, refl, sym, ap, ◌∙◌, subst, ⊎_elim, arith, false, [], true}
+use Rattle.std.proofs.Common.{List, length, Bool, not, ◌&&◌, ◌≡◌, ◌≤◌, IsTrue, Option, Some, None, refl, sym, ap, ◌∙◌, subst, ⊎_elim, arith, false, []}
 use Rattle.std.proofs.lemmas.Bool.{or_cases, false≢true, leb-false, not-false}
 use Rattle.std.proofs.lemmas.List.Kept.{IsStrictlySortedBy-filter}
 use Rattle.std.specs.List.{list_any, AllByRecursion as Each}

@@ -16,9 +16,9 @@ use Rattle.rbac_words.specs.Inheritance.{IsChain, Inherits}
 use Rattle.rbac_words.specs.Authorization.{InheritsIn, IsAuthorized, is_authorized, is_entitled, purge}
 use Rattle.rbac_words.specs.Rows.{preconditions, first_denial}
 use Rattle.rbac_words.specs.Constraints.{is_violated, breaks_dynamic}
-use Rattle.rbac_words.specs.declared.separation.Separation.TheVariants.{Static, Dynamic}
+use Rattle.rbac_words.specs.declared.separation.Separation.TheVariants.{Static}
 use Rattle.rbac_words.specs.Change.{change, end_sessions}
-use Rattle.rbac_words.specs.Sound.{IsSessionSound, IsRoleSet, IsSeparated, IsSound}
+use Rattle.rbac_words.specs.Sound.{IsSessionSound, IsSound}
 use Rattle.rbac_words.specs.declared.command.Command.TheVariants.{AddRole, DeleteRole, AddInheritance, DeleteInheritance, AddAscendant, AddDescendant}
 use Rattle.rbac_words.proofs.NameLemmas.{names_total, names_exact, pairs_total, pairs_exact, grants_total, grants_exact, one_key, ties_itself}
 use Rattle.rbac_words.proofs.StampLemmas.{Each-weaker}

@@ -1,16 +1,13 @@
 -- Separation of duty stays where users, roles, authorizations, sets and active roles get fewer.
-use Rattle.std.proofs.Common.{ℕ, List, [], ◌∷◌, length, count_by, Bool, true, false, not, cond, leb, ◌||◌, ◌&&◌, ◌≡◌, ◌≤◌, ◌+◌, IsTrue, Option, Some, None, refl, sym, ap, ◌∙◌, subst, ⊎_elim, arith}
-use Rattle.std.proofs.lemmas.Bool.{or_cases, or_left, or_right, and_parts, and_from, false≢true, leb-true, le-leb}
+use Rattle.std.proofs.Common.{ℕ, List, [], ◌∷◌, count_by, Bool, true, false, not, cond, ◌≡◌, ◌≤◌, refl, sym, ap, ◌∙◌, subst, ⊎_elim, arith}
+use Rattle.std.proofs.lemmas.Bool.{or_cases, or_left, or_right, and_parts, false≢true, leb-true, le-leb}
 use Rattle.std.proofs.lemmas.List.Sums.{sum_by-cons}
-use Rattle.std.proofs.lemmas.List.Kept.{IsStrictlySortedBy-filter}
-use Rattle.std.specs.List.{list_any, list_all, filter, AllByRecursion as Each}
+use Rattle.std.specs.List.{list_any, filter, AllByRecursion as Each}
 use Rattle.std.specs.Ordering.{eq_by_cmp}
-use Rattle.std.specs.FinMap.Entries.{find, put}
-use Rattle.sorted_keys.specs.Keys.{has, without, without_key, updated, by_key}
+use Rattle.sorted_keys.specs.Keys.{has, without, updated}
 use Rattle.rbac_words.specs.Name.{Name, name_cmp}
-use Rattle.rbac_words.specs.Limits.{most_sets}
-use Rattle.rbac_words.specs.Separation.{RoleSet, is_well_sized, is_broken_by, is_broken, is_constrained}
-use Rattle.rbac_words.specs.State.{State, Session}
+use Rattle.rbac_words.specs.Separation.{RoleSet, is_broken_by, is_broken, is_constrained}
+use Rattle.rbac_words.specs.State.{Session}
 use Rattle.rbac_words.specs.Sound.{IsRoleSet, AreRoleSets}
 use Rattle.rbac_words.proofs.NameLemmas.{names_total, names_exact, one_key, ties_itself, any_member, member_any}
 use Rattle.rbac_words.proofs.StampLemmas.{Each-weaker}

@@ -1,15 +1,15 @@
 -- Each command about sets of separation keeps a policy sound.
-use Rattle.std.proofs.Common.{ℕ, List, [], ◌∷◌, length, count_by, Bool, true, false, not, cond, ◌||◌, ◌&&◌, ◌≡◌, ◌≤◌, ◌<◌, ◌+◌, IsTrue, Option, Some, None, refl, sym, ap, ◌∙◌, subst, ⊎_elim, arith}
+use Rattle.std.proofs.Common.{ℕ, List, [], ◌∷◌, length, count_by, Bool, true, false, not, cond, ◌≡◌, ◌≤◌, IsTrue, Some, None, refl, sym, ap, ◌∙◌, subst, ⊎_elim, arith}
 use Rattle.std.proofs.lemmas.Bool.{or_cases, and_parts, and_from, false≢true, leb-true, le-leb, leb-false, not-false}
 use Rattle.std.proofs.lemmas.List.Sums.{sum_by-cons}
 use Rattle.std.proofs.lemmas.List.Kept.{IsStrictlySortedBy-filter}
 use Rattle.std.specs.declared.cmp.Ordering.{Ordering}
 use Rattle.std.specs.declared.cmp.Ordering.TheVariants.{Less, Equal, Greater}
-use Rattle.std.specs.List.{list_any, list_all, filter, AllByRecursion as Each}
+use Rattle.std.specs.List.{list_all, filter, AllByRecursion as Each}
 use Rattle.std.specs.Ordering.{eq_by_cmp}
 use Rattle.std.specs.Option.{option_map_or}
 use Rattle.std.specs.FinMap.Entries.{find, put, by_order}
-use Rattle.sorted_keys.specs.Keys.{has, with_key, without, without_key, updated, by_key}
+use Rattle.sorted_keys.specs.Keys.{has, with_key, without, without_key, updated}
 use Rattle.sorted_keys.proofs.EntryPlace.{sorted_put, sorted_updated}
 use Rattle.sorted_keys.proofs.Members.{has-with_key}
 use Rattle.rbac_words.specs.Name.{Name, name_cmp}

@@ -1,5 +1,5 @@
 -- What static and dynamic separation of duty ask of a state (ANSI INCITS 359-2004, 5.3 Constrained RBAC).
-use Rattle.std.specs.Prelude.{ℕ, List, Bool, IsTrue, ◌<◌, not, count_by}
+use Rattle.std.specs.Prelude.{List, Bool, IsTrue, ◌<◌, not, count_by}
 use Rattle.std.specs.List.{list_any, list_all, AllByRecursion as Each}
 use Rattle.sorted_keys.specs.Keys.{has}
 use Rattle.rbac_words.specs.Name.{Name, name_cmp}

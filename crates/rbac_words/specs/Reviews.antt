@@ -10,7 +10,6 @@ use Rattle.rbac_words.specs.Separation.{RoleSet}
 use Rattle.rbac_words.specs.State.{State, Session}
 use Rattle.rbac_words.specs.Authorization.{is_authorized, has_permission}
 use Rattle.rbac_words.specs.Constraints.{sets_of}
-use Rattle.rbac_words.specs.declared.separation.Separation.{Separation}
 use Rattle.rbac_words.specs.declared.review.Review.{Review}
 use Rattle.rbac_words.specs.declared.review.Review.TheVariants.{AssignedUsers, AssignedRoles, AuthorizedUsers, AuthorizedRoles, RolePermissions, UserPermissions, SessionRoles, SessionPermissions, RoleOperationsOnObject, UserOperationsOnObject, RoleSets, RoleSetRoles, RoleSetCardinality}
 use Rattle.rbac_words.specs.declared.answer.Answer.{Answer}

@@ -7,7 +7,7 @@ use Rattle.sorted_keys.specs.Keys.{has}
 use Rattle.rbac_words.specs.Name.{Name, name_cmp, pair_cmp, grant_cmp}
 use Rattle.rbac_words.specs.Limits.{most_users, most_roles, most_sessions, most_sets}
 use Rattle.rbac_words.specs.Separation.{is_constrained}
-use Rattle.rbac_words.specs.State.{State, Session}
+use Rattle.rbac_words.specs.State.{State}
 use Rattle.rbac_words.specs.Authorization.{inherits_in, is_authorized}
 use Rattle.rbac_words.specs.Constraints.{sets_of, is_violated, violation, is_badly_sized}
 use Rattle.rbac_words.specs.Change.{change}

@@ -1,6 +1,5 @@
-use Rattle.std.proofs.Common.{◌≡◌, ◌||◌, ◌∙◌, take, ap, false}
+use Rattle.std.proofs.Common.{◌||◌, ◌∙◌, ap, false}
 use Rattle.std.specs.List.{list_any}
-use Rattle.rbac_words.specs.Name.{Name}
 use Rattle.rbac_words.specs.Inheritance.{inherits}
 use Rattle.rbac_hierarchy.proofs.LoopLemmas.{any_one_more, taken_whole}
 use Rattle.rbac_review.proofs.below.juniors_of.Goals as goal

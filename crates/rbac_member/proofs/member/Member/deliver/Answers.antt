@@ -10,6 +10,7 @@ invariant_of-self-2 c =
     let v = member_of c.self.inside in
     let over = c.take_over.ensures in
     record {
+      counted = c.self.invariant.counted;
       alone = c.self.invariant.alone;
       kept = subst IsMember
           (sym (delivered_is v c.apply.new.self c.take_over.new.history.items c.reserve.new.self.items c.take_over.new.held.items c.in-Some.next.now c.in_ok-answer.answer over
