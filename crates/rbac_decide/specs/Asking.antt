@@ -1,0 +1,10 @@
+-- Which commands ask and change nothing.
+use Rattle.std.specs.Prelude.{Bool, true, false}
+use Rattle.rbac_words.specs.declared.command.Command.{Command}
+use Rattle.rbac_words.specs.declared.command.Command.TheVariants.{CheckAccess, Review as ReviewCommand}
+
+-- a check, and each review
+abbrev pub is_question : Command → Bool
+is_question (CheckAccess session operation object) = true
+is_question (ReviewCommand review) = true
+is_question c = false
