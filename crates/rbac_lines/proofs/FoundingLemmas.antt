@@ -1,5 +1,5 @@
 -- Reading a founding file.
-use Rattle.std.proofs.Common.{◌≡◌, ◌≢◌, ◌&&◌, ◌++◌, ◌+◌, ◌<◌, ◌≤◌, ℕ, List, [], ◌∷◌, length, map, drop, get_or, Bool, true, false, Option, None, Some, Ok, Err, is_some, option_map, option_and_then, unwrap_or, if◌then◌else◌, String, Global, string_bytes, Bor, IsUtf8, append_assoc, refl, sym, ap, ◌∙◌, arith}
+use Rattle.std.proofs.Common.{◌≡◌, ◌≢◌, ◌&&◌, ◌++◌, ◌+◌, ◌<◌, ◌≤◌, ℕ, List, [], ◌∷◌, length, map, drop, get_or, Bool, true, false, Option, None, Some, Ok, Err, is_some, option_map, option_and_then, unwrap_or, if◌then◌else◌, String, Global, string_bytes, Bor, IsUtf8, append_assoc, refl, sym, ap, ◌∙◌}
 use Rattle.std.specs.List.{list_all, list_any}
 use Rattle.std.specs.Map.{keys_of as entry_keys}
 use Rattle.std.specs.Option.{ok_or}
@@ -9,7 +9,6 @@ use Rattle.toml.specs.Data.{Data, Items, Members, as_array, as_str}
 use Rattle.toml.specs.Parse.{parse_document}
 use Rattle.toml.specs.View.{view, items_view, members_view}
 use Rattle.toml.specs.declared.value.Value.{Value}
-use Rattle.rbac_words.specs.Name.{Permission}
 use Rattle.rbac_lines.specs.Steps.{◌>>=◌}
 use Rattle.rbac_lines.specs.FoundingFile.{Reading, document_of, longest_file, has_only, each, two, as_permission}
 use Rattle.rbac_lines.specs.declared.founding.refusal.FoundingRefusal.TheVariants.{NotToml, WrongKind, BadName}

@@ -2,7 +2,7 @@
 use Rattle.std.proofs.Common.{◌≡◌, ℕ, List, length, Bool, true, Option, Some, None, IfSome, Ok, sym, ap, ◌∙◌, subst, append-nil, ◌++◌}
 use Rattle.std.specs.Io.KnownBytes.{Appends, Consumes, IsAtEnd}
 use Rattle.line_engine.specs.Lines.{lines, lines_read}
-use Rattle.line_engine.specs.Output.{Follows, OutputOutcome, Answered}
+use Rattle.line_engine.specs.Output.{Follows, OutputOutcome}
 use Rattle.line_engine.specs.declared.report.Summary.{Summary}
 use Rattle.rbac_words.specs.World.{World}
 use Rattle.rbac_lines.specs.Output.{playing, PlaysLine, read_text, is_read_refused, read_step, output, world_after, refused_lines}

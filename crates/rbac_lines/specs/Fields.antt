@@ -1,7 +1,7 @@
 -- What is read of a JSON object's fields. Each word answers the value, or the first refusal: MissingField where the key is
 -- not there, WrongKind where its value is of another kind, and for a name BadName where the text is no name.
 -- The keys of an object stand in no order. Where a key was given twice, the object has the last value.
-use Rattle.std.specs.Prelude.{ℕ, ◌≡◌, ◌≢◌, ◌^◌, List, [], ◌∷◌, nat_lt, if◌then◌else◌, Option, Some, None, ok_or, option_map, option_and_then, Result, Ok, Err, ⊤, Bool}
+use Rattle.std.specs.Prelude.{ℕ, ◌^◌, List, [], ◌∷◌, nat_lt, if◌then◌else◌, Option, Some, None, ok_or, option_map, option_and_then, Result, Ok, Err, ⊤, Bool}
 use Rattle.std.specs.Str.{bytes_eq}
 use Rattle.std.specs.List.{list_any, list_all}
 use Rattle.serde_json.specs.Data.{Data, Items, no_items, item, Members, no_members, member}

@@ -1,5 +1,5 @@
 -- The sample founding: one member, and a small vocabulary of bookkeeping.
-use Rattle.std.specs.Prelude.{List, [], ◌∷◌, codes}
+use Rattle.std.specs.Prelude.{[], ◌∷◌, codes}
 use Rattle.rbac_words.specs.Founding.{Group, Vocabulary}
 
 abbrev pub sample_group : Group

@@ -1,6 +1,6 @@
 -- Which founding a file stands for: a TOML document of a group's numbers and a vocabulary's lists. A file is refused for
 -- the first check that fails, in the order in which they stand here; each of them is made over the whole file.
-use Rattle.std.specs.Prelude.{ℕ, ℤ, pos, negsuc, Bool, true, false, not, ◌&&◌, ◌||◌, nat_le, nat_lt, List, [], ◌∷◌, length, codes, if◌then◌else◌, Option, None, Some, is_some, unwrap_or, ok_or, option_map, option_and_then, Result, Ok, Err, ⊤}
+use Rattle.std.specs.Prelude.{ℕ, ℤ, pos, negsuc, Bool, false, not, ◌&&◌, ◌||◌, nat_le, nat_lt, List, [], ◌∷◌, length, codes, if◌then◌else◌, Option, None, Some, is_some, unwrap_or, ok_or, option_map, option_and_then, Result, Ok, Err, ⊤}
 use Rattle.std.specs.Str.{is_utf8}
 use Rattle.std.specs.List.{list_all}
 use Rattle.toml.specs.Data.{Data, integer, Items, no_items, item, Members, no_members, member, get_member, as_str, as_integer, as_array}

@@ -1,5 +1,5 @@
 -- What is written for an input that is played on a world, and the world after it.
-use Rattle.std.specs.Prelude.{ℕ, ◌≡◌, List, Bool, true, false, Option, Some, None, Result, Ok, Err, option_map, is_err}
+use Rattle.std.specs.Prelude.{ℕ, ◌≡◌, List, Bool, true, Option, None, Result, Ok, Err, option_map, is_err}
 use Rattle.line_engine.specs.Lines.{lines}
 use Rattle.line_engine.specs.Output.{Taker, texts, state_after, refused_count}
 use Rattle.rbac_words.specs.World.{World, node, due, record_of, step, step_outcome}

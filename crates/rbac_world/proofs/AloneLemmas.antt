@@ -1,23 +1,19 @@
 -- A world of one member: what it has heard, what is due, and its history.
-use Rattle.std.proofs.Common.{ℕ, zero, suc, Bool, true, false, not, cond, ◌≡◌, ◌≤◌, ◌<◌, ◌==◌, ◌&&◌, ◌||◌, nat_le, List, [], ◌∷◌, ◌++◌, length, map, Option, Some, None, refl, sym, ap, subst, ◌∙◌, arith, append-nil, get_or}
-use Rattle.std.specs.List.{AllByRecursion as Each, filter, list_any}
+use Rattle.std.proofs.Common.{ℕ, zero, suc, Bool, true, false, not, ◌≡◌, ◌≤◌, ◌==◌, ◌&&◌, nat_le, List, [], ◌∷◌, ◌++◌, refl, sym, ap, ◌∙◌, arith, append-nil}
+use Rattle.std.specs.List.{AllByRecursion as Each, filter}
 use Rattle.std.proofs.lemmas.Bool.Decides.{nat_tests}
 use Rattle.std.proofs.lemmas.Bool.{or_left, or_right}
 use Rattle.std.proofs.lemmas.List.Elements.{filter-append}
-use Rattle.rbac_words.specs.Founding.{Vocabulary}
-use Rattle.rbac_words.specs.State.{founding_state}
 use Rattle.rbac_words.specs.Effect.{reply}
-use Rattle.rbac_words.specs.Replay.{state_after}
-use Rattle.rbac_words.specs.Stamp.{IsBefore, IsRising, sort_by_stamp, last_stamp, up_to, is_same_stamp}
-use Rattle.rbac_words.specs.Message.{submitted_at, submissions, submission_of, told}
-use Rattle.rbac_words.specs.Front.{is_of, command_of}
-use Rattle.rbac_words.specs.World.{World, Node, nobody, node, is_member, heard_of, heard_commands, is_told, is_stable, least, if_stable, due, record_of}
-use Rattle.rbac_words.specs.Right.{IsRight, AreHistoriesRight, all_commands}
+use Rattle.rbac_words.specs.Stamp.{IsBefore, sort_by_stamp, last_stamp, up_to, is_same_stamp}
+use Rattle.rbac_words.specs.Message.{submitted_at, submissions, told}
+use Rattle.rbac_words.specs.Front.{is_of}
+use Rattle.rbac_words.specs.World.{is_member, heard_of, heard_commands, is_told, is_stable, least, if_stable, due, record_of}
+use Rattle.rbac_words.specs.Right.{AreHistoriesRight, all_commands}
 use Rattle.rbac_words.specs.declared.message.Submission.{Submission}
 use Rattle.rbac_words.specs.declared.record.Record.{Record}
-use Rattle.rbac_words.specs.declared.stamp.Stamp.{Stamp}
 use Rattle.rbac_words.proofs.StampLemmas.{Each-weaker, filter-all, filter-none, sort-rising, up_to-front, Rising-across, same_stamp_itself, same_stamp_below}
-use Rattle.rbac_member.specs.Member.{Member, IsMember, IsOfGroup, node_of, line, delivery}
+use Rattle.rbac_member.specs.Member.{Member, IsOfGroup, node_of, line, delivery}
 use Rattle.rbac_world.specs.Inside.{world_of, IsAlone}
 
 same_number : (n : ℕ) → (n == n) ≡ true

@@ -1,7 +1,7 @@
 -- What the step of a world of one member is.
-use Rattle.std.proofs.Common.{ℕ, Bool, true, false, cond, ◌≡◌, ◌≢◌, ◌+◌, ◌==◌, ◌&&◌, ◌⊎◌, inl, inr, List, [], ◌∷◌, ◌++◌, length, map, Option, Some, None, is_some, Result, Ok, Err, refl, sym, ap, subst, ◌∙◌, arith, true≢false}
+use Rattle.std.proofs.Common.{ℕ, Bool, true, false, ◌≡◌, ◌≢◌, ◌+◌, ◌==◌, ◌⊎◌, inl, inr, List, [], ◌∷◌, ◌++◌, Option, Some, None, is_some, Ok, Err, refl, sym, ap, subst, ◌∙◌, arith, true≢false}
 use Rattle.std.proofs.lemmas.Bool.Decides.{nat_tests}
-use Rattle.rbac_words.specs.World.{World, Node, node, is_member, stamp, submit_refusal, submit_at, deliver_at, with_node, place_of, due, least, record_of, refusal, outcome, after, answer_unless, world_unless, step, step_outcome}
+use Rattle.rbac_words.specs.World.{World, Node, is_member, stamp, submit_refusal, deliver_at, with_node, place_of, least, refusal, outcome, after, answer_unless, world_unless}
 use Rattle.rbac_words.specs.declared.command.Command.{Command}
 use Rattle.rbac_words.specs.declared.event.Event.{Event}
 use Rattle.rbac_words.specs.declared.event.Event.TheVariants.{Submit, Receive, Deliver}
@@ -15,7 +15,7 @@ use Rattle.rbac_words.specs.declared.stamp.Stamp.{Stamp}
 use Rattle.rbac_member.specs.declared.refusal.SubmitRefusal.{SubmitRefusal}
 use Rattle.rbac_member.specs.declared.refusal.SubmitRefusal.TheVariants.{ClockFull, SentFull, BadSerial, NoMemory}
 use Rattle.rbac_member.specs.Calls.{refusal_of, place_of_delivery}
-use Rattle.rbac_member.specs.Member.{Member, node_of, submitted, delivery, delivered, deliver_least}
+use Rattle.rbac_member.specs.Member.{Member, node_of, submitted, deliver_least}
 use Rattle.rbac_world.specs.Inside.{world_of, IsAlone}
 use Rattle.rbac_world.specs.Steps.{submit_refused, grows, IsStep}
 use Rattle.rbac_world.proofs.AloneLemmas.{own_number, due_held, record_due}

@@ -1,5 +1,5 @@
 -- A world's member as the world of the definitions.
-use Rattle.std.specs.Prelude.{ℕ, ◌≡◌, [], ◌∷◌}
+use Rattle.std.specs.Prelude.{◌≡◌, [], ◌∷◌}
 use Rattle.rbac_words.specs.World.{World}
 use Rattle.rbac_member.specs.Member.{Member, IsMember, node_of}
 use Rattle.rbac_world.specs.declared.world.World.TheInside.{Inside}

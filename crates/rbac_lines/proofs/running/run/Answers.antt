@@ -1,5 +1,4 @@
-use Rattle.std.proofs.Common.{Ok, Err, IfSome}
-use Rattle.line_engine.specs.Output.{OutputOutcome}
+use Rattle.std.proofs.Common.{Ok, Err}
 use Rattle.rbac_lines.proofs.RunLemmas.{follows, whole_run}
 use Rattle.rbac_lines.proofs.running.run.Goals as goal
 

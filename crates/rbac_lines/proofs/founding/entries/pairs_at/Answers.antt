@@ -1,8 +1,8 @@
-use Rattle.std.proofs.Common.{◌≡◌, ◌∙◌, sym, ap, [], true, false, Some, None, map, is_some, if◌then◌else◌}
+use Rattle.std.proofs.Common.{◌∙◌, sym, ap, [], Some, None, map, if◌then◌else◌}
 use Rattle.std.specs.Option.{ok_or}
 use Rattle.toml.specs.Data.{get_member}
 use Rattle.toml.specs.View.{items_view, table_view}
-use Rattle.rbac_lines.specs.FoundingFile.{each, as_permission}
+use Rattle.rbac_lines.specs.FoundingFile.{as_permission}
 use Rattle.rbac_lines.specs.FoundingEntries.{pair_of}
 use Rattle.rbac_lines.specs.declared.founding.refusal.FoundingRefusal.TheVariants.{WrongKind}
 use Rattle.rbac_lines.proofs.FoundingLemmas.{at_array, each_of}

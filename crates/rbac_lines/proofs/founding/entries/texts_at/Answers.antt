@@ -1,8 +1,7 @@
-use Rattle.std.proofs.Common.{◌≡◌, ◌∙◌, sym, ap, [], true, false, Some, None, map, is_some, if◌then◌else◌}
+use Rattle.std.proofs.Common.{◌∙◌, sym, ap, [], Some, None, map, if◌then◌else◌}
 use Rattle.std.specs.Option.{ok_or}
 use Rattle.toml.specs.Data.{get_member, as_str}
 use Rattle.toml.specs.View.{items_view, table_view}
-use Rattle.rbac_lines.specs.FoundingFile.{each}
 use Rattle.rbac_lines.specs.FoundingEntries.{text_of}
 use Rattle.rbac_lines.specs.declared.founding.refusal.FoundingRefusal.TheVariants.{WrongKind}
 use Rattle.rbac_lines.proofs.FoundingLemmas.{at_array, each_of}

@@ -1,4 +1,4 @@
-use Rattle.std.proofs.Common.{subst, sym, ap, Ok, Err, Result}
+use Rattle.std.proofs.Common.{subst, sym, Err, Result}
 use Rattle.rbac_words.specs.World.{World}
 use Rattle.rbac_words.specs.declared.event.Event.TheVariants.{Deliver}
 use Rattle.rbac_words.specs.declared.event.Outcome.{Outcome}

@@ -1,4 +1,4 @@
-use Rattle.std.proofs.Common.{◌≡◌, ◌==◌, sym, ap, ◌∙◌}
+use Rattle.std.proofs.Common.{sym, ap, ◌∙◌}
 use Rattle.rbac_words.specs.World.{World, is_member}
 use Rattle.rbac_world.proofs.AloneLemmas.{member_one}
 use Rattle.rbac_world.proofs.world.World.has_member.Goals as goal
