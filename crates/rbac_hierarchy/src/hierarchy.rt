@@ -22,7 +22,7 @@ fn with_all(alloc: Global, names: NameSet, added: &[Name]) -> Result<NameSet, Al
 {
     let mut more = names;
     for name in added {
-        more.add_copy(alloc, name)?;
+        more.add_copy(name)?;
     }
     Ok(more)
 }
@@ -89,7 +89,7 @@ impl Hierarchy {
             return Ok(());
         }
         let names = lone_row(alloc, role)?;
-        let role = role.copy(alloc)?;
+        let role = role.copy()?;
         self.juniors.insert(role, names)
     }
 
@@ -114,7 +114,7 @@ impl Hierarchy {
         ensures ok { let h = self.old.content in OnOk result (self.new.content ≡ record h { roles = without name_cmp role.now h.roles; declared = without_pairs_of role.now h.declared }) }
         ensures err { OnErr result (self.new.content ≡ self.old.content) }
     {
-        let mut declared = self.declared.copy(alloc)?;
+        let mut declared = self.declared.copy()?;
         declared.retain(&OtherPairs { role });
         self.replace_pairs(alloc, declared)?;
         self.juniors.remove(role);
@@ -133,9 +133,9 @@ impl Hierarchy {
         ensures ok { let h = self.old.content in OnOk result (self.new.content ≡ record h { declared = with_key pair_cmp (ascendant.now, descendant.now) h.declared }) }
         ensures err { OnErr result (self.new.content ≡ self.old.content) }
     {
-        let mut declared = self.declared.copy(alloc)?;
-        let first = ascendant.copy(alloc)?;
-        let second = descendant.copy(alloc)?;
+        let mut declared = self.declared.copy()?;
+        let first = ascendant.copy()?;
+        let second = descendant.copy()?;
         declared.insert((first, second))?;
         self.replace_pairs(alloc, declared)
     }
@@ -150,7 +150,7 @@ impl Hierarchy {
         ensures ok { let h = self.old.content in OnOk result (self.new.content ≡ record h { declared = without pair_cmp (ascendant.now, descendant.now) h.declared }) }
         ensures err { OnErr result (self.new.content ≡ self.old.content) }
     {
-        let mut declared = self.declared.copy(alloc)?;
+        let mut declared = self.declared.copy()?;
         declared.remove(&PairProbe {
             first: ascendant,
             second: descendant,
@@ -163,7 +163,7 @@ impl Hierarchy {
         ensures { let h = self.now.content in IfOk result (λ names. names ≡ juniors h.roles h.declared role.now) }
     {
         match self.juniors.get(role) {
-            Some(names) => names.copy(alloc),
+            Some(names) => names.copy(),
             None => Ok(NameSet::new(alloc)),
         }
     }
@@ -213,12 +213,12 @@ impl Hierarchy {
     }
 
     /// An equal hierarchy.
-    pub fn copy(&self, alloc: Global) -> Result<Hierarchy, AllocError>
+    pub fn copy(&self) -> Result<Hierarchy, AllocError>
         ensures { IfOk result (λ copy. copy.content ≡ self.now.content) }
     {
         Ok(Hierarchy {
-            declared: self.declared.copy(alloc)?,
-            juniors: self.juniors.copy(alloc)?,
+            declared: self.declared.copy()?,
+            juniors: self.juniors.copy()?,
         })
     }
 

@@ -22,7 +22,7 @@ pub fn renewed_rows(
     let mut renewed = SortedMap::new(alloc);
     for entry in rows.entries() {
         let names = walk(alloc, &entry.0, declared)?;
-        let role = entry.0.copy(alloc)?;
+        let role = entry.0.copy()?;
         renewed.insert(role, names)?;
     }
     Ok(renewed)
@@ -40,7 +40,7 @@ pub fn roles_where<T: KeyTest<Name>>(
     let mut roles = NameSet::new(alloc);
     for entry in rows {
         if test.test(&entry.0) {
-            roles.add_copy(alloc, &entry.0)?;
+            roles.add_copy(&entry.0)?;
         }
     }
     Ok(roles)
@@ -51,6 +51,6 @@ pub fn lone_row(alloc: Global, role: &Name) -> Result<NameSet, AllocError>
     ensures { IfOk result (λ names. names ≡ role.now ∷ []) }
 {
     let mut names = NameSet::new(alloc);
-    names.add(role.copy(alloc)?)?;
+    names.add(role.copy()?)?;
     Ok(names)
 }

@@ -111,7 +111,7 @@ fn assert_seniors(
 }
 
 fn copy_of(rt: &impl Abort, alloc: Global, hierarchy: &Hierarchy) -> Hierarchy {
-    hierarchy.copy(alloc).expect(rt, "memory")
+    hierarchy.copy().expect(rt, "memory")
 }
 
 // Two paths lead from a to c.

@@ -15,9 +15,9 @@ pub fn walk(
     ensures { IfOk result (λ names. AreJuniors declared.now.content role.now names) }
 {
     let mut found = NameSet::new(alloc);
-    found.add(role.copy(alloc)?)?;
+    found.add(role.copy()?)?;
     let mut pending = Vec::new(alloc);
-    pending.push(role.copy(alloc)?)?;
+    pending.push(role.copy()?)?;
     while let Some(ascendant) = pending.pop() {
         let pairs = declared.beginning_with(&ascendant);
         find_descendants(alloc, pairs, &mut found, &mut pending)?;
@@ -36,8 +36,8 @@ fn find_descendants(
 {
     for pair in pairs {
         if !found.contains(&pair.1) {
-            found.add(pair.1.copy(alloc)?)?;
-            pending.push(pair.1.copy(alloc)?)?;
+            found.add(pair.1.copy()?)?;
+            pending.push(pair.1.copy()?)?;
         }
     }
     Ok(())

@@ -46,7 +46,7 @@ fn operations_of(
         roles,
         vocabulary,
     };
-    vocabulary.operations_where(alloc, &operations)
+    vocabulary.operations_where(&operations)
 }
 
 impl Parts<'_> {

@@ -52,7 +52,7 @@ fn granted_to_one(
 ) -> Result<PermissionSet, AllocError>
     ensures { IfOk result (λ permissions. permissions ≡ filter (is_granted_to_one roles.now sets.now.content.granted) vocabulary.now.permissions) }
 {
-    vocabulary.permissions_where(alloc, &GrantedToOne { sets, roles })
+    vocabulary.permissions_where(&GrantedToOne { sets, roles })
 }
 
 impl Parts<'_> {

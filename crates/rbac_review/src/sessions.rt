@@ -14,7 +14,7 @@ impl Parts<'_> {
         ensures { IfOk result (λ roles. roles ≡ active_roles (state_of self.now) session.now) }
     {
         match self.sessions.roles(session) {
-            Some(active) => active.copy(alloc),
+            Some(active) => active.copy(),
             None => Ok(NameSet::new(alloc)),
         }
     }

@@ -29,7 +29,7 @@ impl Parts<'_> {
         ensures { IfOk result (λ roles. roles ≡ roles_in (find name_cmp set.now (sets_of kind (state_of self.now)))) }
     {
         match self.sets_of(kind).roles(set) {
-            Some(roles) => roles.copy(alloc),
+            Some(roles) => roles.copy(),
             None => Ok(NameSet::new(alloc)),
         }
     }

@@ -127,7 +127,7 @@ impl RoleSets {
     ) -> Result<NameSet, AllocError>
         ensures { IfOk result (λ users. users ≡ filter (T.passes test.now) self.now.content.users) }
     {
-        Ok(NameSet::of(self.users.copy_where(alloc, test)?))
+        Ok(NameSet::of(self.users.copy_where(test)?))
     }
 
     /// The users that the role is assigned to.
@@ -142,7 +142,7 @@ impl RoleSets {
         ensures { let s = self.now.content in IfOk result (λ roles. roles ≡ roles_of user.now s.roles s.assigned) }
     {
         let assigned = RolesOf { sets: self, user };
-        Ok(NameSet::of(self.roles.copy_where(alloc, &assigned)?))
+        Ok(NameSet::of(self.roles.copy_where(&assigned)?))
     }
 
     /// Adds a user. Where it is there, nothing changes.
@@ -219,14 +219,14 @@ impl RoleSets {
     }
 
     /// Equal sets.
-    pub fn copy(&self, alloc: Global) -> Result<RoleSets, AllocError>
+    pub fn copy(&self) -> Result<RoleSets, AllocError>
         ensures { IfOk result (λ copy. copy.content ≡ self.now.content) }
     {
         Ok(RoleSets {
-            users: self.users.copy(alloc)?,
-            roles: self.roles.copy(alloc)?,
-            assigned: self.assigned.copy(alloc)?,
-            granted: self.granted.copy(alloc)?,
+            users: self.users.copy()?,
+            roles: self.roles.copy()?,
+            assigned: self.assigned.copy()?,
+            granted: self.granted.copy()?,
         })
     }
 

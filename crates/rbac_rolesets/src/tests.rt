@@ -233,7 +233,7 @@ fn a_role_is_removed_with_its_users_and_permissions(rt: HostRuntime) -> Result<(
 fn a_copy_is_the_same_until_it_is_changed(rt: HostRuntime) -> Result<(), Fail> {
     let alloc = rt.alloc();
     let sets = small_office(&rt, alloc);
-    let mut copy = sets.copy(alloc)?;
+    let mut copy = sets.copy()?;
     assert!(rt; copy.same(&sets));
     copy.add_user(name(&rt, alloc, "carol"))?;
     assert!(rt; !copy.same(&sets));

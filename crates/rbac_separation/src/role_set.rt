@@ -48,9 +48,9 @@ impl RoleSet {
 }
 
 impl Duplicate for RoleSet {
-    fn duplicate(&self, alloc: Global) -> Result<RoleSet, AllocError> {
+    fn duplicate(&self) -> Result<RoleSet, AllocError> {
         Ok(RoleSet {
-            roles: self.roles.copy(alloc)?,
+            roles: self.roles.copy()?,
             cardinality: self.cardinality,
         })
     }

@@ -37,7 +37,7 @@ fn names_of(alloc: Global, sets: &[(Name, RoleSet)]) -> Result<NameSet, AllocErr
 {
     let mut names = NameSet::new(alloc);
     for entry in sets {
-        names.add(entry.0.copy(alloc)?)?;
+        names.add(entry.0.copy()?)?;
     }
     Ok(names)
 }
@@ -178,11 +178,11 @@ impl SetTable {
     }
 
     /// Equal sets.
-    pub fn copy(&self, alloc: Global) -> Result<SetTable, AllocError>
+    pub fn copy(&self) -> Result<SetTable, AllocError>
         ensures { IfOk result (λ copy. copy.content ≡ self.now.content) }
     {
         Ok(SetTable {
-            sets: self.sets.copy(alloc)?,
+            sets: self.sets.copy()?,
         })
     }
 

@@ -207,7 +207,7 @@ fn a_set_of_the_same_name_is_replaced(rt: HostRuntime) -> Result<(), Fail> {
 fn a_change_of_a_set_that_is_not_there_changes_nothing(rt: HostRuntime) -> Result<(), Fail> {
     let alloc = rt.alloc();
     let sets = two_sets(&rt, alloc);
-    let mut copy = sets.copy(alloc)?;
+    let mut copy = sets.copy()?;
     let other = name(&rt, alloc, "f");
     add(&rt, alloc, &mut copy, "f", "a");
     copy.remove_member(&other, &name(&rt, alloc, "a"));
@@ -221,7 +221,7 @@ fn a_change_of_a_set_that_is_not_there_changes_nothing(rt: HostRuntime) -> Resul
 fn a_copy_is_the_same_until_a_number_changes(rt: HostRuntime) -> Result<(), Fail> {
     let alloc = rt.alloc();
     let sets = two_sets(&rt, alloc);
-    let mut copy = sets.copy(alloc)?;
+    let mut copy = sets.copy()?;
     assert!(rt; copy.same(&sets));
     copy.set_cardinality(&name(&rt, alloc, "e"), 3);
     assert!(rt; !copy.same(&sets));
@@ -232,7 +232,7 @@ fn a_copy_is_the_same_until_a_number_changes(rt: HostRuntime) -> Result<(), Fail
 fn a_copy_is_the_same_until_roles_change(rt: HostRuntime) -> Result<(), Fail> {
     let alloc = rt.alloc();
     let sets = two_sets(&rt, alloc);
-    let mut copy = sets.copy(alloc)?;
+    let mut copy = sets.copy()?;
     add(&rt, alloc, &mut copy, "e", "b");
     assert!(rt; !copy.same(&sets));
     Ok(())
@@ -245,7 +245,7 @@ fn one_set_is_copied_and_compared(rt: HostRuntime) -> Result<(), Fail> {
         roles: roles(&rt, alloc, &["a", "b"]),
         cardinality: 2,
     };
-    let mut copy = set.duplicate(alloc)?;
+    let mut copy = set.duplicate()?;
     assert!(rt; copy.same(&set));
     copy.cardinality = 3;
     assert!(rt; !copy.same(&set));

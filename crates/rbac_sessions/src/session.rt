@@ -22,10 +22,10 @@ impl Model for Session {
 }
 
 impl Duplicate for Session {
-    fn duplicate(&self, alloc: Global) -> Result<Session, AllocError> {
+    fn duplicate(&self) -> Result<Session, AllocError> {
         Ok(Session {
-            owner: self.owner.copy(alloc)?,
-            active: self.active.copy(alloc)?,
+            owner: self.owner.copy()?,
+            active: self.active.copy()?,
         })
     }
 }

@@ -158,11 +158,11 @@ impl Sessions {
     }
 
     /// Equal sessions.
-    pub fn copy(&self, alloc: Global) -> Result<Sessions, AllocError>
+    pub fn copy(&self) -> Result<Sessions, AllocError>
         ensures { IfOk result (λ copy. copy.content ≡ self.now.content) }
     {
         Ok(Sessions {
-            sessions: self.sessions.copy(alloc)?,
+            sessions: self.sessions.copy()?,
         })
     }
 

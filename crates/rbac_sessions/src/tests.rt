@@ -167,7 +167,7 @@ fn the_sessions_that_pass_a_test_are_deleted(rt: HostRuntime) -> Result<(), Fail
 fn a_copy_is_the_same_until_it_is_changed(rt: HostRuntime) -> Result<(), Fail> {
     let alloc = rt.alloc();
     let sessions = two_sessions(&rt, alloc);
-    let mut copy = sessions.copy(alloc)?;
+    let mut copy = sessions.copy()?;
     assert!(rt; copy.same(&sessions));
     copy.drop_role(&name(&rt, alloc, "s2"), &name(&rt, alloc, "clerk"));
     assert!(rt; !copy.same(&sessions));
@@ -181,7 +181,7 @@ fn one_session_is_copied_and_compared(rt: HostRuntime) -> Result<(), Fail> {
         owner: name(&rt, alloc, "alice"),
         active: set(&rt, alloc, &["clerk"]),
     };
-    let mut copy = session.duplicate(alloc)?;
+    let mut copy = session.duplicate()?;
     assert!(rt; copy.same(&session));
     copy.active.remove(&name(&rt, alloc, "clerk"));
     assert!(rt; !copy.same(&session));

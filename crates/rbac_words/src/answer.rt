@@ -5,7 +5,7 @@ ghost use Rattle.rbac_words.specs.Denials.{denial_number, denial_word};
 use crate::name_set::NameSet;
 use crate::permission_set::PermissionSet;
 use sorted_keys::Same;
-use std::alloc::{AllocError, Global};
+use std::alloc::AllocError;
 
 /// Why a command is denied: the first failing precondition of its row.
 #[derive(Clone, Copy, Debug, PartialEq, Eq, Drop)]
@@ -41,7 +41,7 @@ pub enum Denial {
 }
 
 /// The answer to a command: that it is done, whether access is granted, what a review lists, or why it is denied.
-#[derive(Drop)]
+#[derive(Clone, Drop)]
 pub enum Answer {
     Done,
     Granted,
@@ -54,18 +54,10 @@ pub enum Answer {
 
 impl Answer {
     /// An equal answer.
-    pub fn copy(&self, alloc: Global) -> Result<Answer, AllocError>
+    pub fn copy(&self) -> Result<Answer, AllocError>
         ensures { IfOk result (λ copy. copy ≡ self.now) }
     {
-        match self {
-            Answer::Done => Ok(Answer::Done),
-            Answer::Granted => Ok(Answer::Granted),
-            Answer::Refused => Ok(Answer::Refused),
-            Answer::Names(names) => Ok(Answer::Names(names.copy(alloc)?)),
-            Answer::Permissions(permissions) => Ok(Answer::Permissions(permissions.copy(alloc)?)),
-            Answer::Count(count) => Ok(Answer::Count(*count)),
-            Answer::Denied(denial) => Ok(Answer::Denied(*denial)),
-        }
+        self.clone()
     }
 
     /// Whether both are equal.

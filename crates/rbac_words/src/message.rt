@@ -4,7 +4,7 @@ ghost use Rattle.rbac_words.specs.Message.{stamp_of};
 
 use crate::command::Command;
 use crate::stamp::Stamp;
-use std::alloc::{AllocError, Global};
+use std::alloc::AllocError;
 
 /// A command as it was submitted: when and where, by which caller of that member, and as the how manieth of that
 /// caller's commands, counted from 0.
@@ -17,7 +17,7 @@ pub struct Submission {
 }
 
 /// What a member sends to all others: a command, or an acknowledgement that it received one (Lamport 1978).
-#[derive(Drop)]
+#[derive(Clone, Drop)]
 pub enum Message {
     Call {
         stamp: Stamp,
@@ -42,22 +42,9 @@ impl Message {
     }
 
     /// An equal message.
-    pub fn copy(&self, alloc: Global) -> Result<Message, AllocError>
+    pub fn copy(&self) -> Result<Message, AllocError>
         ensures { IfOk result (λ copy. copy ≡ self.now) }
     {
-        match self {
-            Message::Call {
-                stamp,
-                caller,
-                serial,
-                command,
-            } => Ok(Message::Call {
-                stamp: *stamp,
-                caller: *caller,
-                serial: *serial,
-                command: command.copy(alloc)?,
-            }),
-            Message::Ack { stamp } => Ok(Message::Ack { stamp: *stamp }),
-        }
+        self.clone()
     }
 }

@@ -131,12 +131,23 @@ impl Name {
     }
 
     /// An equal name.
-    pub fn copy(&self, alloc: Global) -> Result<Name, AllocError>
+    pub fn copy(&self) -> Result<Name, AllocError>
         ensures { IfOk result (λ copy. copy ≡ self.now) }
     {
         Ok(Name {
-            bytes: Vec::from_slice(alloc, &self.bytes)?,
+            bytes: self.bytes.clone()?,
         })
+    }
+}
+
+/// A clone is equal.
+impl Clone for Name {
+    ghost use Rattle.std.specs.Prelude.{◌≡◌};
+
+    ghost is_clone = { λ name clone. clone ≡ name };
+
+    fn clone(&self) -> Result<Name, AllocError> {
+        self.copy()
     }
 }
 
@@ -148,8 +159,8 @@ impl Exact for Name {
 }
 
 impl Duplicate for Name {
-    fn duplicate(&self, alloc: Global) -> Result<Name, AllocError> {
-        self.copy(alloc)
+    fn duplicate(&self) -> Result<Name, AllocError> {
+        self.clone()
     }
 }
 

@@ -5,7 +5,7 @@ ghost use Rattle.rbac_words.specs.Name.{pair_cmp};
 
 use crate::name::Name;
 use sorted_keys::{Same, SortedSet};
-use std::alloc::{AllocError, Global};
+use std::alloc::AllocError;
 use std::marker::Model;
 
 /// A set of permissions, each an operation and an object. A contract sees the list of them, sorted by operation and then by
@@ -41,12 +41,23 @@ impl PermissionSet {
     }
 
     /// An equal set.
-    pub fn copy(&self, alloc: Global) -> Result<PermissionSet, AllocError>
+    pub fn copy(&self) -> Result<PermissionSet, AllocError>
         ensures { IfOk result (λ copy. copy ≡ self.now) }
     {
         Ok(PermissionSet {
-            permissions: self.permissions.copy(alloc)?,
+            permissions: self.permissions.copy()?,
         })
+    }
+}
+
+/// A clone is equal.
+impl Clone for PermissionSet {
+    ghost use Rattle.std.specs.Prelude.{◌≡◌};
+
+    ghost is_clone = { λ set clone. clone ≡ set };
+
+    fn clone(&self) -> Result<PermissionSet, AllocError> {
+        self.copy()
     }
 }
 

@@ -4,7 +4,7 @@ ghost use Rattle.std.specs.Prelude.{◌≡◌, IfOk};
 use crate::answer::Answer;
 use crate::command::Command;
 use crate::stamp::Stamp;
-use std::alloc::{AllocError, Global};
+use std::alloc::AllocError;
 
 /// A delivered command with its answer.
 #[derive(Drop)]
@@ -18,15 +18,15 @@ pub struct Record {
 
 impl Record {
     /// An equal record.
-    pub fn copy(&self, alloc: Global) -> Result<Record, AllocError>
+    pub fn copy(&self) -> Result<Record, AllocError>
         ensures { IfOk result (λ copy. copy ≡ self.now) }
     {
         Ok(Record {
             stamp: self.stamp,
             caller: self.caller,
             serial: self.serial,
-            command: self.command.copy(alloc)?,
-            answer: self.answer.copy(alloc)?,
+            command: self.command.copy()?,
+            answer: self.answer.copy()?,
         })
     }
 }

@@ -12,8 +12,7 @@ use std::process::Abort;
 use std::test::Fail;
 
 mod answers;
-mod commands;
-mod messages;
+mod copies;
 
 fn name(rt: &impl Abort, alloc: Global, text: &str) -> Name {
     Name::read(alloc, text.as_bytes()).expect(rt, "a name")
@@ -58,7 +57,7 @@ fn names_are_read(rt: HostRuntime) -> Result<(), Fail> {
     for good in [b"a".as_slice(), b"Z", b"0", b"AZaz09_-.", &[b'x'; 64]] {
         let name = Name::read(alloc, good)?;
         assert_eq!(rt; name.as_bytes(), good);
-        assert!(rt; name.copy(alloc)? == name);
+        assert!(rt; name.copy()? == name);
     }
     for bad in [b"".as_slice(), &[b'x'; 65]] {
         assert!(rt; matches!(Name::read(alloc, bad), Err(NameRefusal::BadName)));
@@ -102,7 +101,7 @@ fn a_set_of_names(rt: HostRuntime) -> Result<(), Fail> {
     assert!(rt; set.contains(&name(&rt, alloc, "auditor")));
     assert!(rt; !set.contains(&name(&rt, alloc, "boss")));
     assert_names(&rt, set.names(), &["Boss", "auditor", "clerk"]);
-    let copy = set.copy(alloc)?;
+    let copy = set.copy()?;
     set.remove(&name(&rt, alloc, "auditor"));
     set.remove(&name(&rt, alloc, "boss"));
     assert_names(&rt, set.names(), &["Boss", "clerk"]);
@@ -316,7 +315,7 @@ fn a_vocabulary_and_its_copy(rt: HostRuntime) -> Result<(), Fail> {
     let pay = name(&rt, alloc, "pay");
     let ledger = name(&rt, alloc, "ledger");
     let invoice = name(&rt, alloc, "invoice");
-    for vocabulary in [&vocabulary, &vocabulary.copy(alloc)?] {
+    for vocabulary in [&vocabulary, &vocabulary.copy()?] {
         assert!(rt; vocabulary.has_operation(&read) && vocabulary.has_operation(&pay));
         assert!(rt; !vocabulary.has_operation(&ledger));
         assert!(rt; vocabulary.has_object(&ledger) && vocabulary.has_object(&invoice));
@@ -348,7 +347,7 @@ fn stamps_are_ordered_by_clock_and_member(rt: HostRuntime) {
 fn equal_names_are_the_same(rt: HostRuntime) -> Result<(), Fail> {
     let alloc = rt.alloc();
     let clerk = name(&rt, alloc, "clerk");
-    assert!(rt; clerk.same(&clerk.copy(alloc)?));
+    assert!(rt; clerk.same(&clerk.copy()?));
     assert!(rt; !clerk.same(&name(&rt, alloc, "clerks")));
     let roles = set(&rt, alloc, &["clerk", "payer"]);
     assert!(rt; roles.same(&set(&rt, alloc, &["payer", "clerk"])));
@@ -396,9 +395,9 @@ fn parts_of_a_vocabulary_are_copied(rt: HostRuntime) -> Result<(), Fail> {
         pairs(&rt, alloc, &[("read", "ledger"), ("pay", "invoice")]),
     )?;
     let (pay, ledger) = (name(&rt, alloc, "pay"), name(&rt, alloc, "ledger"));
-    let operations = vocabulary.operations_where(alloc, &Only(&pay))?;
+    let operations = vocabulary.operations_where(&Only(&pay))?;
     assert_names(&rt, operations.names(), &["pay"]);
-    let permissions = vocabulary.permissions_where(alloc, &On(&ledger))?;
+    let permissions = vocabulary.permissions_where(&On(&ledger))?;
     assert_eq!(rt; permissions.permissions().len(), 1);
     assert!(rt; permissions.permissions()[0].1 == ledger);
     Ok(())
@@ -408,7 +407,7 @@ fn parts_of_a_vocabulary_are_copied(rt: HostRuntime) -> Result<(), Fail> {
 fn equal_vocabularies_are_the_same(rt: HostRuntime) -> Result<(), Fail> {
     let alloc = rt.alloc();
     let vocabulary = small_vocabulary(&rt, alloc, &[("read", "ledger")]);
-    assert!(rt; vocabulary.same(&vocabulary.copy(alloc)?));
+    assert!(rt; vocabulary.same(&vocabulary.copy()?));
     assert!(rt; !vocabulary.same(&small_vocabulary(&rt, alloc, &[("pay", "ledger")])));
     Ok(())
 }

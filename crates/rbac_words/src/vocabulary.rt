@@ -10,7 +10,7 @@ use crate::name::Name;
 use crate::name_set::NameSet;
 use crate::permission_set::PermissionSet;
 use sorted_keys::{Exact, KeyTest, PairProbe, SortedSet};
-use std::alloc::{AllocError, Global};
+use std::alloc::AllocError;
 use std::marker::Model;
 
 /// At most 256 operations, 4,096 objects, and 16,384 pairs of these, the permissions. No command changes them.
@@ -128,25 +128,20 @@ impl Vocabulary {
     }
 
     /// The operations that pass a test.
-    pub fn operations_where<T: KeyTest<Name>>(
-        &self,
-        alloc: Global,
-        test: &T,
-    ) -> Result<NameSet, AllocError>
+    pub fn operations_where<T: KeyTest<Name>>(&self, test: &T) -> Result<NameSet, AllocError>
         ensures { IfOk result (λ operations. operations ≡ filter (T.passes test.now) self.now.operations) }
     {
-        Ok(NameSet::of(self.operations.copy_where(alloc, test)?))
+        Ok(NameSet::of(self.operations.copy_where(test)?))
     }
 
     /// The permissions that pass a test.
     pub fn permissions_where<T: KeyTest<(Name, Name)>>(
         &self,
-        alloc: Global,
         test: &T,
     ) -> Result<PermissionSet, AllocError>
         ensures { IfOk result (λ permissions. permissions ≡ filter (T.passes test.now) self.now.permissions) }
     {
-        Ok(PermissionSet::of(self.permissions.copy_where(alloc, test)?))
+        Ok(PermissionSet::of(self.permissions.copy_where(test)?))
     }
 
     /// Each vocabulary is within the limits, and its permissions speak of its own operations and objects.
@@ -157,13 +152,13 @@ impl Vocabulary {
     }
 
     /// An equal vocabulary.
-    pub fn copy(&self, alloc: Global) -> Result<Vocabulary, AllocError>
+    pub fn copy(&self) -> Result<Vocabulary, AllocError>
         ensures { IfOk result (λ copy. copy ≡ self.now) }
     {
         Ok(Vocabulary {
-            operations: self.operations.copy(alloc)?,
-            objects: self.objects.copy(alloc)?,
-            permissions: self.permissions.copy(alloc)?,
+            operations: self.operations.copy()?,
+            objects: self.objects.copy()?,
+            permissions: self.permissions.copy()?,
         })
     }
 

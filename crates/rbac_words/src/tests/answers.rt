@@ -13,8 +13,8 @@ fn permissions(rt: &impl Abort, alloc: Global, texts: &[(&str, &str)]) -> Permis
 }
 
 // Whether the copy of an answer is the same answer.
-fn expect_answer_copied(rt: &impl Abort, alloc: Global, answer: Answer) {
-    let copy = answer.copy(alloc).expect(rt, "memory");
+fn expect_answer_copied(rt: &impl Abort, answer: Answer) {
+    let copy = answer.copy().expect(rt, "memory");
     assert!(rt; copy.same(&answer));
 }
 
@@ -24,10 +24,10 @@ fn expect_other_answer(rt: &impl Abort, answer: Answer, other: Answer) {
 
 #[test]
 fn words_are_copied(rt: HostRuntime) {
-    expect_answer_copied(&rt, rt.alloc(), Answer::Done);
-    expect_answer_copied(&rt, rt.alloc(), Answer::Granted);
-    expect_answer_copied(&rt, rt.alloc(), Answer::Refused);
-    expect_answer_copied(&rt, rt.alloc(), Answer::Denied(Denial::NoSet));
+    expect_answer_copied(&rt, Answer::Done);
+    expect_answer_copied(&rt, Answer::Granted);
+    expect_answer_copied(&rt, Answer::Refused);
+    expect_answer_copied(&rt, Answer::Denied(Denial::NoSet));
     expect_other_answer(&rt, Answer::Granted, Answer::Refused);
     expect_other_answer(
         &rt,
@@ -41,9 +41,9 @@ fn lists_are_copied(rt: HostRuntime) {
     let alloc = rt.alloc();
     let names = || Answer::Names(set(&rt, alloc, &["payer", "boss"]));
     let reads = || Answer::Permissions(permissions(&rt, alloc, &[("read", "ledger")]));
-    expect_answer_copied(&rt, alloc, names());
-    expect_answer_copied(&rt, alloc, reads());
-    expect_answer_copied(&rt, alloc, Answer::Count(2));
+    expect_answer_copied(&rt, names());
+    expect_answer_copied(&rt, reads());
+    expect_answer_copied(&rt, Answer::Count(2));
     expect_other_answer(&rt, names(), Answer::Names(NameSet::new(alloc)));
     expect_other_answer(
         &rt,
@@ -58,7 +58,7 @@ fn permissions_stand_by_operation_and_then_by_object(rt: HostRuntime) -> Result<
     let alloc = rt.alloc();
     let texts = [("read", "ledger"), ("pay", "ledger"), ("pay", "invoice")];
     let sorted = permissions(&rt, alloc, &texts);
-    assert!(rt; sorted.copy(alloc)?.same(&sorted));
+    assert!(rt; sorted.copy()?.same(&sorted));
     for (pair, (operation, object)) in sorted.permissions().iter().zip([
         ("pay", "invoice"),
         ("pay", "ledger"),
@@ -76,7 +76,7 @@ fn copies_of_names_are_added(rt: HostRuntime) -> Result<(), Fail> {
     let alloc = rt.alloc();
     let mut names = NameSet::of(SortedSet::new(alloc));
     for text in ["payer", "boss", "payer"] {
-        names.add_copy(alloc, &name(&rt, alloc, text))?;
+        names.add_copy(&name(&rt, alloc, text))?;
     }
     assert_names(&rt, names.names(), &["boss", "payer"]);
     Ok(())
