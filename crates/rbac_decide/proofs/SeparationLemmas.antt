@@ -22,10 +22,10 @@ use Rattle.rbac_words.specs.declared.separation.Separation.{Separation}
 use Rattle.rbac_words.specs.declared.separation.Separation.TheVariants.{Static, Dynamic}
 use Rattle.rbac_words.specs.declared.command.Command.TheVariants.{AssignUser, AddInheritance, CreateSession, AddActiveRole}
 use Rattle.rbac_words.proofs.NameLemmas.{names_total, names_exact, pairs_total, pairs_exact, one_key, ties_itself, same_bits, any_member, member_any}
-use Rattle.rbac_words.proofs.InheritanceLemmas.{joined, inherits_iff, inherits_still, inherits_over}
-use Rattle.rbac_words.proofs.AuthorizationLemmas.{is_authorized_iff}
-use Rattle.rbac_words.proofs.SoundParts.{still}
-use Rattle.rbac_words.proofs.SoundSeparation.{is_false}
+use Rattle.rbac_rules.proofs.InheritanceLemmas.{joined, inherits_iff, inherits_still, inherits_over}
+use Rattle.rbac_rules.proofs.AuthorizationLemmas.{is_authorized_iff}
+use Rattle.rbac_rules.proofs.SoundParts.{still}
+use Rattle.rbac_rules.proofs.SoundSeparation.{is_false}
 use Rattle.rbac_decide.specs.Breaking.{breaks_with, breaks_below, breaks_set}
 
 -- ---- Sets

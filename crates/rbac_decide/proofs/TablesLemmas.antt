@@ -7,8 +7,8 @@ use Rattle.rbac_words.specs.State.{State}
 use Rattle.rbac_words.specs.Change.{change}
 use Rattle.rbac_words.specs.declared.command.Command.TheVariants.{AddRole}
 use Rattle.rbac_words.proofs.NameLemmas.{names_total}
-use Rattle.rbac_words.proofs.SoundParts.{still}
-use Rattle.rbac_words.proofs.SoundRoles.{is_there}
+use Rattle.rbac_rules.proofs.SoundParts.{still}
+use Rattle.rbac_rules.proofs.SoundRoles.{is_there}
 use Rattle.rbac_hierarchy.specs.Order.{Hierarchy}
 use Rattle.rbac_decide.specs.Tables.{state_of}
 use Rattle.rbac_decide.specs.declared.tables.Tables.{Tables}

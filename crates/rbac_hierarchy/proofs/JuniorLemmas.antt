@@ -10,7 +10,7 @@ use Rattle.sorted_keys.proofs.KeyPlace.{sorted_with_key}
 use Rattle.sorted_keys.proofs.Members.{has-filter, has-with_key, same_keys}
 use Rattle.rbac_words.specs.Name.{Name, name_cmp}
 use Rattle.rbac_words.specs.Inheritance.{IsChain, Inherits, inherits, juniors}
-use Rattle.rbac_words.proofs.InheritanceLemmas.{inherits_iff}
+use Rattle.rbac_rules.proofs.InheritanceLemmas.{inherits_iff}
 use Rattle.rbac_words.proofs.NameLemmas.{names_total, names_exact, one_key, ties_itself, same_bits}
 use Rattle.rbac_hierarchy.specs.Rows.{RangesOver}
 use Rattle.rbac_hierarchy.proofs.Kept.{keeps_none}

@@ -11,7 +11,7 @@ use Rattle.sorted_keys.proofs.Members.{has-filter, has-with_key}
 use Rattle.rbac_words.specs.Name.{Name, name_cmp, pair_cmp}
 use Rattle.rbac_words.specs.Relations.{begins_with}
 use Rattle.rbac_words.specs.Inheritance.{IsChain, Inherits}
-use Rattle.rbac_words.proofs.InheritanceLemmas.{joined}
+use Rattle.rbac_rules.proofs.InheritanceLemmas.{joined}
 use Rattle.rbac_words.proofs.NameLemmas.{names_total, names_exact, pairs_total, pairs_exact, one_key, ties_itself}
 use Rattle.rbac_hierarchy.specs.Rows.{RangesOver}
 use Rattle.rbac_hierarchy.specs.Walk.{AreJuniors, FindsDescendants, unfound}

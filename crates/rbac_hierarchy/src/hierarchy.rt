@@ -17,7 +17,7 @@ use std::alloc::{AllocError, Global};
 use std::marker::Model;
 
 // The names, and copies of these.
-fn with_all(alloc: Global, names: NameSet, added: &[Name]) -> Result<NameSet, AllocError>
+fn with_all(names: NameSet, added: &[Name]) -> Result<NameSet, AllocError>
     ensures { IfOk result (λ more. (r : NameValue) → has name_cmp r more ≡ (has name_cmp r names || has name_cmp r added.now)) }
 {
     let mut more = names;
@@ -169,16 +169,11 @@ impl Hierarchy {
     }
 
     /// The names, and the roles that the role inherits, itself among them.
-    pub fn with_juniors(
-        &self,
-        alloc: Global,
-        names: NameSet,
-        role: &Name,
-    ) -> Result<NameSet, AllocError>
+    pub fn with_juniors(&self, names: NameSet, role: &Name) -> Result<NameSet, AllocError>
         ensures { let h = self.now.content in IfOk result (λ more. (r : NameValue) → has name_cmp r more ≡ (has name_cmp r names || inherits h.roles h.declared role.now r)) }
     {
         match self.juniors.get(role) {
-            Some(juniors) => with_all(alloc, names, juniors.names()),
+            Some(juniors) => with_all(names, juniors.names()),
             None => Ok(names),
         }
     }

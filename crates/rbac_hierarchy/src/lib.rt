@@ -1,6 +1,7 @@
 //! The role hierarchy: the roles, the declared pairs of roles (RH), and for each role the roles that it inherits.
 #![tactic(auto)]
 
+mod below;
 mod hierarchy;
 mod removal;
 mod rows;
@@ -8,7 +9,6 @@ mod seniors;
 mod walk;
 
 pub use hierarchy::Hierarchy;
-pub use seniors::SeniorsOf;
 
 #[cfg(test)]
 mod tests;

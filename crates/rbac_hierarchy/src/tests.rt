@@ -1,5 +1,6 @@
 //! Each public call with ample memory. What is expected was written by hand.
-use crate::{Hierarchy, SeniorsOf};
+use crate::Hierarchy;
+use crate::seniors::SeniorsOf;
 use rbac_words::{Name, NameSet};
 use std::alloc::{AllocError, Global};
 use std::process::Abort;
@@ -184,10 +185,27 @@ fn juniors_are_added_to_names(rt: HostRuntime) -> Result<(), Fail> {
     let alloc = rt.alloc();
     let hierarchy = hierarchy_of(&rt, alloc, &[("b", "c"), ("a", "b"), ("d", "c")]);
     let names = hierarchy.juniors(alloc, &name(&rt, alloc, "d"))?;
-    let names = hierarchy.with_juniors(alloc, names, &name(&rt, alloc, "b"))?;
+    let names = hierarchy.with_juniors(names, &name(&rt, alloc, "b"))?;
     assert_names(&rt, &names, &["b", "c", "d"]);
-    let names = hierarchy.with_juniors(alloc, names, &name(&rt, alloc, "z"))?;
+    let names = hierarchy.with_juniors(names, &name(&rt, alloc, "z"))?;
     assert_names(&rt, &names, &["b", "c", "d"]);
+    Ok(())
+}
+
+#[test]
+fn juniors_of_several_roles_are_gathered(rt: HostRuntime) -> Result<(), Fail> {
+    let alloc = rt.alloc();
+    let hierarchy = hierarchy_of(&rt, alloc, &[("b", "c"), ("a", "b"), ("d", "c")]);
+    let (ann, b, d) = (
+        name(&rt, alloc, "ann"),
+        name(&rt, alloc, "b"),
+        name(&rt, alloc, "d"),
+    );
+    let none = NameSet::new(alloc);
+    let gathered = hierarchy.juniors_of_all(alloc, &[b.copy()?, d])?;
+    assert_names(&rt, &gathered, &["b", "c", "d"]);
+    let added = hierarchy.with_juniors_of_assigned(none, &[(ann, b)])?;
+    assert_names(&rt, &added, &["b", "c"]);
     Ok(())
 }
 

@@ -20,14 +20,13 @@ pub fn walk(
     pending.push(role.copy()?)?;
     while let Some(ascendant) = pending.pop() {
         let pairs = declared.beginning_with(&ascendant);
-        find_descendants(alloc, pairs, &mut found, &mut pending)?;
+        find_descendants(pairs, &mut found, &mut pending)?;
     }
     Ok(found)
 }
 
 // Finds the descendants of the pairs. Those that were not found before are pending.
 fn find_descendants(
-    alloc: Global,
     pairs: &[(Name, Name)],
     found: &mut NameSet,
     pending: &mut Vec<Name>,

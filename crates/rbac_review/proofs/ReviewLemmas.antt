@@ -14,8 +14,8 @@ use Rattle.rbac_words.specs.Inheritance.{inherits, juniors, seniors}
 use Rattle.rbac_words.specs.Authorization.{inherits_in, is_authorized, has_permission}
 use Rattle.rbac_words.specs.Reviews.{authorized_roles, role_permissions, permissions_of, user_permissions, operations_on}
 use Rattle.rbac_words.proofs.NameLemmas.{names_total, names_exact, pairs_exact, grants_total, grants_exact, same_bits, any_member, member_any}
-use Rattle.rbac_words.proofs.InheritanceLemmas.{inherits_iff, joined, chain_end}
-use Rattle.rbac_words.proofs.AuthorizationLemmas.{is_authorized_iff}
+use Rattle.rbac_rules.proofs.InheritanceLemmas.{inherits_iff, joined, chain_end}
+use Rattle.rbac_rules.proofs.AuthorizationLemmas.{is_authorized_iff}
 use Rattle.rbac_hierarchy.proofs.JuniorLemmas.{has_juniors, between_roles}
 use Rattle.rbac_review.specs.Among.{is_assigned_one, is_granted_to_one}
 

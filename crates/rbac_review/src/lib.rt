@@ -2,7 +2,6 @@
 //! exists, so it is sorted and without repeats; a review of what does not exist lists nothing.
 #![tactic(auto)]
 
-mod below;
 mod operations;
 mod parts;
 mod permissions;
@@ -10,7 +9,6 @@ mod sessions;
 mod sets;
 mod users;
 
-pub use below::with_juniors_of_assigned;
 pub use parts::Parts;
 
 #[cfg(test)]

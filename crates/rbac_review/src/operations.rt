@@ -46,7 +46,7 @@ fn operations_of(
         roles,
         vocabulary,
     };
-    vocabulary.operations_where(&operations)
+    vocabulary.operations_where(alloc, &operations)
 }
 
 impl Parts<'_> {

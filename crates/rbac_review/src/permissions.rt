@@ -7,7 +7,6 @@ ghost use Rattle.rbac_words.specs.Authorization.{inherits_in};
 ghost use Rattle.rbac_words.specs.Reviews.{active_roles, role_permissions, user_permissions, session_permissions};
 ghost use Rattle.rbac_review.specs.Among.{is_granted_to_one};
 
-use crate::below::juniors_of;
 use crate::parts::Parts;
 use rbac_rolesets::RoleSets;
 use rbac_words::{Name, NameSet, PermissionSet, Vocabulary};
@@ -52,7 +51,7 @@ fn granted_to_one(
 ) -> Result<PermissionSet, AllocError>
     ensures { IfOk result (λ permissions. permissions ≡ filter (is_granted_to_one roles.now sets.now.content.granted) vocabulary.now.permissions) }
 {
-    vocabulary.permissions_where(&GrantedToOne { sets, roles })
+    vocabulary.permissions_where(alloc, &GrantedToOne { sets, roles })
 }
 
 impl Parts<'_> {
@@ -79,7 +78,7 @@ impl Parts<'_> {
         ensures { let s = state_of self.now in IfOk result (λ roles. (r : NameValue) → has name_cmp r roles ≡ list_any (λ role. inherits_in s role r) (active_roles s session.now)) }
     {
         match self.sessions.roles(session) {
-            Some(active) => juniors_of(alloc, self.hierarchy, active.names()),
+            Some(active) => self.hierarchy.juniors_of_all(alloc, active.names()),
             None => Ok(NameSet::new(alloc)),
         }
     }

@@ -1,5 +1,5 @@
 //! Each review with ample memory. What is expected was written by hand.
-use crate::{Parts, with_juniors_of_assigned};
+use crate::Parts;
 use rbac_hierarchy::Hierarchy;
 use rbac_rolesets::RoleSets;
 use rbac_separation::SetTable;
@@ -393,16 +393,4 @@ fn sets_of_separation_are_reviewed(rt: HostRuntime) {
     expect_set(&rt, alloc, &office, late, &["Auditor", "boss", "payer"], 3);
     let none = (Separation::Dynamic, "late");
     expect_set(&rt, alloc, &office, none, &[], 0);
-}
-
-#[test]
-fn juniors_of_assigned_roles_are_added(rt: HostRuntime) -> Result<(), Fail> {
-    let alloc = rt.alloc();
-    let office = small_office(&rt, alloc);
-    let names = set(&rt, alloc, &["Auditor", "clerk"]);
-    let ann = name(&rt, alloc, "ann");
-    let assignments = office.sets.assignments_of(&ann);
-    let more = with_juniors_of_assigned(alloc, &office.hierarchy, names, assignments)?;
-    assert_names(&rt, &more, &["Auditor", "boss", "clerk", "payer"]);
-    Ok(())
 }

@@ -7,7 +7,6 @@ ghost use Rattle.rbac_words.specs.Relations.{users_of, roles_of};
 ghost use Rattle.rbac_words.specs.Reviews.{authorized_users, authorized_roles};
 ghost use Rattle.rbac_review.specs.Among.{is_assigned_one};
 
-use crate::below::with_juniors_of_assigned;
 use crate::parts::Parts;
 use rbac_hierarchy::Hierarchy;
 use rbac_rolesets::{RoleSets, RolesOf};
@@ -92,7 +91,7 @@ impl Parts<'_> {
         self.hierarchy.invariants();
         let none = NameSet::new(alloc);
         let assignments = self.sets.assignments_of(user);
-        let roles = with_juniors_of_assigned(alloc, self.hierarchy, none, assignments)?;
+        let roles = self.hierarchy.with_juniors_of_assigned(none, assignments)?;
         let _in_order = roles.names();
         Ok(roles)
     }

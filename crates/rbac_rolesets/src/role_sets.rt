@@ -4,7 +4,7 @@ ghost use Rattle.std.specs.Ordering.{eq_by_cmp};
 ghost use Rattle.sorted_keys.specs.Keys.{has, with_key, without};
 ghost use Rattle.rbac_words.specs.Name.{name_cmp, pair_cmp, grant_cmp};
 ghost use Rattle.rbac_words.specs.Relations.{begins_with, users_of, roles_of, without_user, without_role};
-ghost use Rattle.rbac_rolesets.specs.Sets.{Sets, no_sets};
+ghost use Rattle.rbac_rolesets.specs.Sets.{Sets, no_sets, AreInOrder};
 
 use crate::assigned::{RolesOf, UsersOf};
 use crate::removal::{OtherRoles, OtherUsers};
@@ -127,7 +127,7 @@ impl RoleSets {
     ) -> Result<NameSet, AllocError>
         ensures { IfOk result (λ users. users ≡ filter (T.passes test.now) self.now.content.users) }
     {
-        Ok(NameSet::of(self.users.copy_where(test)?))
+        Ok(NameSet::of(self.users.copy_where(alloc, test)?))
     }
 
     /// The users that the role is assigned to.
@@ -142,7 +142,7 @@ impl RoleSets {
         ensures { let s = self.now.content in IfOk result (λ roles. roles ≡ roles_of user.now s.roles s.assigned) }
     {
         let assigned = RolesOf { sets: self, user };
-        Ok(NameSet::of(self.roles.copy_where(&assigned)?))
+        Ok(NameSet::of(self.roles.copy_where(alloc, &assigned)?))
     }
 
     /// Adds a user. Where it is there, nothing changes.
@@ -216,6 +216,16 @@ impl RoleSets {
             first: &permission,
             second: role,
         });
+    }
+
+    /// Users, roles, UA and PA are sets: each list is in order and without repeats.
+    pub fn invariants(&self)
+        ensures { AreInOrder self.now.content }
+    {
+        let _users = self.users.keys();
+        let _roles = self.roles.keys();
+        let _assigned = self.assigned.keys();
+        let _granted = self.granted.keys();
     }
 
     /// Equal sets.

@@ -6,7 +6,7 @@ ghost use Rattle.rbac_words.specs.Separation.{is_broken};
 
 use rbac_words::{Name, NameSet};
 use sorted_keys::{Duplicate, Same};
-use std::alloc::{AllocError, Global};
+use std::alloc::AllocError;
 use std::marker::Model;
 
 /// Roles of which fewer than a number may come together.

@@ -5,6 +5,7 @@ ghost use Rattle.std.specs.Option.{option_copied, option_map};
 ghost use Rattle.std.specs.FinMap.Entries.{find, put};
 ghost use Rattle.sorted_keys.specs.Keys.{with_key, without, without_key, updated};
 ghost use Rattle.rbac_words.specs.Name.{Name as NameValue, name_cmp};
+ghost use Rattle.rbac_sessions.specs.Sessions.{AreInOrder};
 
 use crate::change::{Activation, Deactivation};
 use crate::session::Session;
@@ -155,6 +156,13 @@ impl Sessions {
         ensures { self.new.content ≡ filter (λ e. not (T.passes test.now e.0 e.1.owner e.1.active)) self.old.content }
     {
         self.sessions.retain(&FailsTest { test });
+    }
+
+    /// The sessions are a map: in the order of their names, each once.
+    pub fn invariants(&self)
+        ensures { AreInOrder self.now.content }
+    {
+        let _sessions = self.sessions.entries();
     }
 
     /// Equal sessions.

@@ -1,17 +1,20 @@
 -- What holds of each policy, whatever commands it was given.
-use Rattle.std.specs.Prelude.{◌≡◌, ◌≤◌, false, List, length, IsTrue}
+use Rattle.std.specs.Prelude.{◌≡◌, ◌≤◌, ⊤, false, List, length, IsTrue}
 use Rattle.std.specs.List.{AllByRecursion as Each}
 use Rattle.std.specs.List.Sorted.{IsStrictlySortedBy}
 use Rattle.sorted_keys.specs.Keys.{has, by_key}
 use Rattle.rbac_words.specs.Name.{Name, Permission, name_cmp, pair_cmp, grant_cmp}
 use Rattle.rbac_words.specs.Limits.{most_users, most_roles, most_sessions, most_sets, most_operations, most_objects, most_permissions}
+use Rattle.rbac_words.specs.Founding.{IsVocabulary}
 use Rattle.rbac_words.specs.Separation.{RoleSet, is_well_sized}
 use Rattle.rbac_words.specs.State.{State, Session}
 use Rattle.rbac_words.specs.Authorization.{InheritsIn, IsAuthorized}
 use Rattle.rbac_words.specs.Constraints.{is_violated}
 use Rattle.rbac_words.specs.declared.separation.Separation.TheVariants.{Static, Dynamic}
+use Rattle.rbac_words.specs.declared.command.Command.{Command}
+use Rattle.rbac_words.specs.declared.command.Command.TheVariants.{CreateSet, CreateSession}
 
--- each set is a sorted list without repeats
+-- each set that commands change is a sorted list without repeats
 pub record IsInOrder (s : State) : Type 0 where
   pub users : IsStrictlySortedBy name_cmp s.users
   pub roles : IsStrictlySortedBy name_cmp s.roles
@@ -39,13 +42,15 @@ pub record IsWithinLimits (s : State) : Type 0 where
 abbrev pub HasNoCycle : State → Type 0
 HasNoCycle s = (ascendant descendant : Name) → IsTrue (has pair_cmp (ascendant, descendant) s.declared) → ¬ (InheritsIn s descendant ascendant)
 
--- a session's owner exists, and is authorized for each of its active roles
+-- a session's owner exists, its active roles are a set, and the owner is authorized for each of them
 pub record IsSessionSound (s : State) (session : Session) : Type 0 where
   pub owned : IsTrue (has name_cmp session.owner s.users)
+  pub active : IsStrictlySortedBy name_cmp session.active
   pub authorized : (role : Name) → IsTrue (has name_cmp role session.active) → IsAuthorized s session.owner role
 
--- a set has roles that exist, and 2 ≤ n ≤ |rs|
+-- the roles of a set are a set, they exist, and 2 ≤ n ≤ |rs|
 pub record IsRoleSet (roles : List Name) (set : RoleSet) : Type 0 where
+  pub in_order : IsStrictlySortedBy name_cmp set.roles
   pub exist : (role : Name) → IsTrue (has name_cmp role set.roles) → IsTrue (has name_cmp role roles)
   pub sized : IsTrue (is_well_sized set)
 
@@ -63,9 +68,16 @@ pub record IsSeparated (s : State) : Type 0 where
   pub dynamic : is_violated Dynamic s ≡ false
 
 pub record IsSound (s : State) : Type 0 where
+  pub vocabulary : IsVocabulary (record { operations = s.operations; objects = s.objects; permissions = s.permissions })
   pub in_order : IsInOrder s
   pub references : HasReferences s
   pub limits : IsWithinLimits s
   pub no_cycle : HasNoCycle s
   pub separation : IsSeparated s
   pub sessions : Each (λ e. IsSessionSound s e.1) s.sessions
+
+-- the roles that a command brings are a set: sorted and without repeats
+abbrev pub BringsASet : Command → Type 0
+BringsASet (CreateSet kind set roles n) = IsStrictlySortedBy name_cmp roles
+BringsASet (CreateSession user session roles) = IsStrictlySortedBy name_cmp roles
+BringsASet c = ⊤

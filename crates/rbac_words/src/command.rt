@@ -111,6 +111,23 @@ pub enum Command {
 }
 
 impl Command {
+    ghost use Rattle.rbac_words.specs.Sound.{BringsASet};
+
+    /// The roles that a command brings are a set.
+    pub fn invariants(&self)
+        ensures { BringsASet self.now }
+    {
+        match self {
+            Command::CreateSet { roles, .. } => {
+                let _in_order = roles.names();
+            }
+            Command::CreateSession { roles, .. } => {
+                let _in_order = roles.names();
+            }
+            _ => {}
+        }
+    }
+
     /// An equal command.
     pub fn copy(&self) -> Result<Command, AllocError>
         ensures { IfOk result (λ copy. copy ≡ self.now) }

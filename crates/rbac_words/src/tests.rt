@@ -395,9 +395,9 @@ fn parts_of_a_vocabulary_are_copied(rt: HostRuntime) -> Result<(), Fail> {
         pairs(&rt, alloc, &[("read", "ledger"), ("pay", "invoice")]),
     )?;
     let (pay, ledger) = (name(&rt, alloc, "pay"), name(&rt, alloc, "ledger"));
-    let operations = vocabulary.operations_where(&Only(&pay))?;
+    let operations = vocabulary.operations_where(alloc, &Only(&pay))?;
     assert_names(&rt, operations.names(), &["pay"]);
-    let permissions = vocabulary.permissions_where(&On(&ledger))?;
+    let permissions = vocabulary.permissions_where(alloc, &On(&ledger))?;
     assert_eq!(rt; permissions.permissions().len(), 1);
     assert!(rt; permissions.permissions()[0].1 == ledger);
     Ok(())

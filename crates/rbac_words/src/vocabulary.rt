@@ -10,7 +10,7 @@ use crate::name::Name;
 use crate::name_set::NameSet;
 use crate::permission_set::PermissionSet;
 use sorted_keys::{Exact, KeyTest, PairProbe, SortedSet};
-use std::alloc::AllocError;
+use std::alloc::{AllocError, Global};
 use std::marker::Model;
 
 /// At most 256 operations, 4,096 objects, and 16,384 pairs of these, the permissions. No command changes them.
@@ -128,20 +128,25 @@ impl Vocabulary {
     }
 
     /// The operations that pass a test.
-    pub fn operations_where<T: KeyTest<Name>>(&self, test: &T) -> Result<NameSet, AllocError>
+    pub fn operations_where<T: KeyTest<Name>>(
+        &self,
+        alloc: Global,
+        test: &T,
+    ) -> Result<NameSet, AllocError>
         ensures { IfOk result (λ operations. operations ≡ filter (T.passes test.now) self.now.operations) }
     {
-        Ok(NameSet::of(self.operations.copy_where(test)?))
+        Ok(NameSet::of(self.operations.copy_where(alloc, test)?))
     }
 
     /// The permissions that pass a test.
     pub fn permissions_where<T: KeyTest<(Name, Name)>>(
         &self,
+        alloc: Global,
         test: &T,
     ) -> Result<PermissionSet, AllocError>
         ensures { IfOk result (λ permissions. permissions ≡ filter (T.passes test.now) self.now.permissions) }
     {
-        Ok(PermissionSet::of(self.permissions.copy_where(test)?))
+        Ok(PermissionSet::of(self.permissions.copy_where(alloc, test)?))
     }
 
     /// Each vocabulary is within the limits, and its permissions speak of its own operations and objects.

@@ -1,7 +1,7 @@
 use Rattle.std.proofs.Common.{◌≡◌, subst, sym, ap, ◌∙◌}
 use Rattle.rbac_words.specs.Sound.{IsSound}
 use Rattle.rbac_words.specs.Effect.{effect}
-use Rattle.rbac_words.proofs.SoundLemmas.{sound_effect}
+use Rattle.rbac_rules.proofs.SoundLemmas.{sound_effect}
 use Rattle.rbac_decide.specs.declared.tables.Tables.{Tables}
 use Rattle.rbac_decide.specs.Tables.{state_of, HasSameRoles}
 use Rattle.rbac_decide.proofs.ApplyLemmas.{undenied_reply, changed}

@@ -1,5 +1,5 @@
 use Rattle.std.proofs.Common.{◌∙◌}
-use Rattle.rbac_words.proofs.ReviewLemmas.{holds_what_is_listed}
+use Rattle.rbac_rules.proofs.ReviewLemmas.{holds_what_is_listed}
 use Rattle.rbac_decide.proofs.policy.Policy.check.Goals as goal
 
 pub returns-clause-listed : goal.returns-clause-listed

@@ -1,6 +1,6 @@
 use Rattle.std.proofs.Common.{subst, sym}
 use Rattle.rbac_words.specs.Sound.{IsSound}
-use Rattle.rbac_words.proofs.SoundLemmas.{sound_founding}
+use Rattle.rbac_rules.proofs.SoundLemmas.{sound_founding}
 use Rattle.rbac_decide.proofs.policy.Policy.found.Goals as goal
 
 pub invariant_of-result : goal.invariant_of-result

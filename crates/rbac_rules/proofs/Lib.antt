@@ -1,0 +1,10 @@
+pub mod AuthorizationLemmas
+pub mod InheritanceLemmas
+pub mod PurgeLemmas
+pub mod ReviewLemmas
+pub mod SeparationLaws
+pub mod SoundLemmas
+pub mod SoundParts
+pub mod SoundRoles
+pub mod SoundSeparation
+pub mod SoundSets

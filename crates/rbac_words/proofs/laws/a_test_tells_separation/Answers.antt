@@ -1,5 +1,0 @@
-use Rattle.rbac_words.proofs.SeparationLaws.{static_iff, dynamic_iff}
-use Rattle.rbac_words.proofs.laws.a_test_tells_separation.Goals as goal
-
-pub returns : goal.returns
-returns c = record { of_users = static_iff; of_sessions = dynamic_iff }
