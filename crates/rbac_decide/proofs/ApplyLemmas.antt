@@ -1,16 +1,43 @@
 -- What a command that is not denied answers and leaves.
-use Rattle.std.proofs.Common.{◌≡◌, Option, None, ap, ◌∙◌}
+use Rattle.std.proofs.Common.{◌≡◌, Bool, false, true, true≢false, Option, Some, None, Ok, Err, refl, sym, ap, ◌∙◌}
 use Rattle.rbac_words.specs.State.{State}
 use Rattle.rbac_words.specs.Rows.{first_denial}
 use Rattle.rbac_words.specs.Change.{change}
 use Rattle.rbac_words.specs.Effect.{effect, effect_unless, answer, reply, reply_unless}
 use Rattle.rbac_words.specs.declared.command.Command.{Command}
+use Rattle.rbac_words.specs.declared.command.Command.TheVariants.{CheckAccess, Review as ReviewCommand}
 use Rattle.rbac_words.specs.declared.answer.Answer.{Answer}
+use Rattle.rbac_words.specs.declared.answer.Answer.TheVariants.{Done, Denied}
 use Rattle.rbac_words.specs.declared.answer.Denial.{Denial}
+use Rattle.rbac_decide.specs.Asking.{is_question}
+use Rattle.rbac_decide.specs.Denying.{unless_denied}
 
-pub undenied_reply : (c : Command) (s : State) (a : Answer) → None ≡ first_denial c s → a ≡ answer c s → a ≡ reply c s
-undenied_reply c s a none e = e ∙ ap (λ (o : Option Denial). reply_unless o c s) none
+-- a command that asks nothing is answered that it is done
+change-answer : (c : Command) (s : State) → is_question c ≡ false → Done ≡ answer c s
+change-answer (CheckAccess session operation object) s e = absurd (true≢false e)
+change-answer (ReviewCommand review) s e = absurd (true≢false e)
+change-answer c s e = refl
+
+pub change-reply : (c : Command) (s : State) → is_question c ≡ false → first_denial c s ≡ None → Done ≡ reply c s
+change-reply c s asks none = change-answer c s asks ∙ ap (λ (o : Option Denial). reply_unless o c s) (sym none)
 
 -- a copy is changed
-pub changed : (c : Command) (s copy new inside : State) → None ≡ first_denial c s → inside ≡ s → copy ≡ inside → new ≡ change c copy → new ≡ effect c s
-changed c s copy new inside none seen copied made = made ∙ ap (change c) (copied ∙ seen) ∙ ap (λ (o : Option Denial). effect_unless o c s) none
+pub changed : (c : Command) (s copy new inside : State) → first_denial c s ≡ None → inside ≡ s → copy ≡ inside → new ≡ change c copy → new ≡ effect c s
+changed c s copy new inside none seen copied made = made ∙ ap (change c) (copied ∙ seen) ∙ ap (λ (o : Option Denial). effect_unless o c s) (sym none)
+
+-- a denied command changes nothing
+pub denied-effect : (c : Command) (s : State) (denial : Denial) → first_denial c s ≡ Some denial → s ≡ effect c s
+denied-effect c s denial e = ap (λ (o : Option Denial). effect_unless o c s) (sym e)
+
+-- nor does a command without a change, denied or not
+unless-same : (o : Option Denial) (c : Command) (s : State) → change c s ≡ s → s ≡ effect_unless o c s
+unless-same None c s same = sym same
+unless-same (Some denial) c s same = refl
+
+pub question-effect : (c : Command) (s : State) → change c s ≡ s → s ≡ effect c s
+question-effect c s same = unless-same (first_denial c s) c s same
+
+-- what is denied is answered by its denial
+pub denied-reply : (o : Option Denial) (denial : Denial) (c : Command) (s : State) → Err denial ≡ unless_denied o → Denied denial ≡ reply_unless o c s
+denied-reply None denial c s e = let never : ⊥ = cc in absurd never
+denied-reply (Some first) denial c s e = let same : denial ≡ first = cc in ap Denied same

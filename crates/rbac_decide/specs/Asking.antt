@@ -3,6 +3,11 @@ use Rattle.std.specs.Prelude.{Bool, true, false}
 use Rattle.rbac_words.specs.declared.command.Command.{Command}
 use Rattle.rbac_words.specs.declared.command.Command.TheVariants.{CheckAccess, Review as ReviewCommand}
 
+-- CheckAccess
+abbrev pub is_check : Command → Bool
+is_check (CheckAccess session operation object) = true
+is_check c = false
+
 -- a check, and each review
 abbrev pub is_question : Command → Bool
 is_question (CheckAccess session operation object) = true

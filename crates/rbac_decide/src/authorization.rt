@@ -8,7 +8,6 @@ ghost use Rattle.rbac_words.specs.Authorization.{inherits_in, is_authorized, is_
 ghost use Rattle.rbac_decide.specs.Tables.{state_of_roles};
 
 use rbac_hierarchy::Hierarchy;
-use rbac_review::with_juniors_of_assigned;
 use rbac_rolesets::RoleSets;
 use rbac_words::{Name, NameSet};
 use std::alloc::{AllocError, Global};
@@ -77,7 +76,7 @@ pub fn authorized_with(
         has name_cmp r names ≡ (inherits_in s role.now r || is_authorized s user.now r)) }
 {
     let juniors = hierarchy.juniors(alloc, role)?;
-    with_juniors_of_assigned(alloc, hierarchy, juniors, sets.assignments_of(user))
+    hierarchy.with_juniors_of_assigned(juniors, sets.assignments_of(user))
 }
 
 /// How many of the roles the user is authorized for.

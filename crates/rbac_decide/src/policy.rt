@@ -1,22 +1,22 @@
 //! A policy: what commands answer, and what they change.
-ghost use Rattle.std.specs.Prelude.{◌≡◌, ◌↔◌, IsTrue, IfOk, IfErr, OnOk, OnErr, Some, None};
+ghost use Rattle.std.specs.Prelude.{◌≡◌, ◌↔◌, false, IsTrue, IfOk, IfErr, OnOk, OnErr, Some, None};
 ghost use Rattle.std.specs.FinMap.Entries.{find};
 ghost use Rattle.sorted_keys.specs.Keys.{has};
 ghost use Rattle.rbac_words.specs.Name.{name_cmp, pair_cmp};
 ghost use Rattle.rbac_words.specs.State.{founding_state};
 ghost use Rattle.rbac_words.specs.Rows.{first_denial};
-ghost use Rattle.rbac_words.specs.Effect.{answer as answer_of, effect, reply, session_holds};
+ghost use Rattle.rbac_words.specs.Effect.{effect, reply, session_holds};
 ghost use Rattle.rbac_words.specs.Reviews.{session_permissions};
 ghost use Rattle.rbac_words.specs.Sound.{IsSound};
 
 mod access;
-mod asking;
 mod denial;
+mod hindrance;
 mod review;
 mod separation;
 mod violation;
 
-use crate::policy::asking::asks;
+use crate::policy::hindrance::Hindrance;
 use crate::tables::Tables;
 use rbac_words::{Answer, Command, Denial, Name, Vocabulary};
 use std::alloc::{AllocError, Global};
@@ -54,38 +54,43 @@ impl Policy {
 }
 
 impl Policy {
-    // The answer to a command that is not denied.
-    fn answer(&self, alloc: Global, command: &Command) -> Result<Answer, AllocError>
-        ensures { IfOk result (λ answer. answer ≡ answer_of command.now self.now) }
+    ghost use Rattle.rbac_decide.specs.Asking.{is_check, is_question};
+
+    // Makes the change of a command that asks nothing: in a copy, which is put in place at the end.
+    fn change(&mut self, alloc: Global, command: &Command) -> Result<Answer, AllocError>
+        requires { is_question command.now ≡ false }
+        ensures reply { IfOk result (λ answer. answer ≡ reply command.now self.old) }
+        ensures effect { OnOk result (self.new ≡ effect command.now self.old) }
+        ensures unchanged { OnErr result (self.new ≡ self.old) }
+    {
+        command.invariants();
+        match self.may_apply(alloc, command) {
+            Ok(()) => {}
+            Err(Hindrance::Denied(denial)) => return Ok(Answer::Denied(denial)),
+            Err(Hindrance::NoMemory) => return Err(AllocError),
+        }
+        let mut next = self.tables.copy()?;
+        next.change(alloc, command)?;
+        self.tables = next;
+        Ok(Answer::Done)
+    }
+
+    /// Answers a command, and makes its change. CheckAccess takes no memory.
+    pub fn apply(&mut self, alloc: Global, command: &Command) -> Result<Answer, AllocError>
+        ensures reply { IfOk result (λ answer. answer ≡ reply command.now self.old) }
+        ensures effect { OnOk result (self.new ≡ effect command.now self.old) }
+        ensures unchanged { OnErr result (self.new ≡ self.old) }
+        ensures check { OnErr result (is_check command.now ≡ false) }
     {
         match command {
             Command::CheckAccess {
                 session,
                 operation,
                 object,
-            } => Ok(self.access(session, operation, object)),
-            Command::Review(review) => self.review(alloc, review),
-            _ => Ok(Answer::Done),
+            } => Ok(self.check_access(session, operation, object)),
+            Command::Review(review) => self.answer_review(alloc, review),
+            _ => self.change(alloc, command),
         }
-    }
-
-    /// Answers a command, and makes its change: in a copy, which is put in place at the end.
-    pub fn apply(&mut self, alloc: Global, command: &Command) -> Result<Answer, AllocError>
-        ensures reply { IfOk result (λ answer. answer ≡ reply command.now self.old) }
-        ensures effect { OnOk result (self.new ≡ effect command.now self.old) }
-        ensures unchanged { OnErr result (self.new ≡ self.old) }
-    {
-        if let Some(denial) = self.first_denial(alloc, command)? {
-            return Ok(Answer::Denied(denial));
-        }
-        let answer = self.answer(alloc, command)?;
-        if asks(command) {
-            return Ok(answer);
-        }
-        let mut next = self.tables.copy(alloc)?;
-        next.change(alloc, command)?;
-        self.tables = next;
-        Ok(answer)
     }
 
     /// Whether the session may perform the operation on the object: the answer of CheckAccess, without a command. It may exactly
@@ -97,9 +102,7 @@ impl Policy {
         ensures listed { IfOk result (λ granted. granted ≡ has pair_cmp (operation.now, object.now) (session_permissions self.now session.now)) }
     {
         self.invariants();
-        if let Some(denial) = self.first_check_access(session, operation, object) {
-            return Err(denial);
-        }
+        self.may_check_access(session, operation, object)?;
         Ok(self.session_holds(session, operation, object))
     }
 
@@ -120,12 +123,12 @@ impl Policy {
     }
 
     /// An equal policy.
-    pub fn copy(&self, alloc: Global) -> Result<Policy, AllocError>
+    pub fn copy(&self) -> Result<Policy, AllocError>
         ensures { IfOk result (λ copy. copy ≡ self.now) }
     {
         Ok(Policy {
-            tables: self.tables.copy(alloc)?,
-            vocabulary: self.vocabulary.copy(alloc)?,
+            tables: self.tables.copy()?,
+            vocabulary: self.vocabulary.copy()?,
         })
     }
 }

@@ -46,15 +46,15 @@ impl Tables {
     }
 
     /// Equal sets.
-    pub fn copy(&self, alloc: Global) -> Result<Tables, AllocError>
+    pub fn copy(&self) -> Result<Tables, AllocError>
         ensures { IfOk result (λ copy. copy ≡ self.now) }
     {
         Ok(Tables {
-            sets: self.sets.copy(alloc)?,
-            hierarchy: self.hierarchy.copy(alloc)?,
-            static_sets: self.static_sets.copy(alloc)?,
-            dynamic_sets: self.dynamic_sets.copy(alloc)?,
-            sessions: self.sessions.copy(alloc)?,
+            sets: self.sets.copy()?,
+            hierarchy: self.hierarchy.copy()?,
+            static_sets: self.static_sets.copy()?,
+            dynamic_sets: self.dynamic_sets.copy()?,
+            sessions: self.sessions.copy()?,
         })
     }
 
@@ -104,23 +104,19 @@ impl Tables {
         ensures same_roles { HasSameRoles self.old → OnOk result (HasSameRoles self.new) }
     {
         match command {
-            Command::AddUser { user } => self.sets.add_user(user.copy(alloc)?)?,
+            Command::AddUser { user } => self.sets.add_user(user.copy()?)?,
             Command::DeleteUser { user } => self.delete_user(user),
             Command::AddRole { role } => self.add_role(alloc, role)?,
             Command::DeleteRole { role } => self.delete_role(alloc, role)?,
-            Command::AssignUser { user, role } => {
-                self.sets.assign(user.copy(alloc)?, role.copy(alloc)?)?
-            }
+            Command::AssignUser { user, role } => { self.sets.assign(user.copy()?, role.copy()?)? }
             Command::DeassignUser { user, role } => self.deassign_user(user, role),
             Command::GrantPermission {
                 operation,
                 object,
                 role,
-            } => self.sets.grant(
-                operation.copy(alloc)?,
-                object.copy(alloc)?,
-                role.copy(alloc)?,
-            )?,
+            } => self
+                .sets
+                .grant(operation.copy()?, object.copy()?, role.copy()?)?,
             Command::RevokePermission {
                 operation,
                 object,
@@ -147,10 +143,10 @@ impl Tables {
                 set,
                 roles,
                 n,
-            } => self.create_set(alloc, *kind, set, roles, *n)?,
+            } => self.create_set(*kind, set, roles, *n)?,
             Command::DeleteSet { kind, set } => self.delete_set(*kind, set),
             Command::AddRoleMember { kind, set, role } => {
-                self.add_role_member(alloc, *kind, set, role)?
+                self.add_role_member(*kind, set, role)?
             }
             Command::DeleteRoleMember { kind, set, role } => {
                 self.delete_role_member(*kind, set, role)
@@ -160,10 +156,12 @@ impl Tables {
                 user,
                 session,
                 roles,
-            } => self.sessions.create(session.copy(alloc)?, user.copy(alloc)?, roles.copy(alloc)?)?,
+            } => self
+                .sessions
+                .create(session.copy()?, user.copy()?, roles.copy()?)?,
             Command::DeleteSession { session, .. } => self.sessions.delete(session),
             Command::AddActiveRole { session, role, .. } => {
-                self.sessions.activate(session, role.copy(alloc)?)?
+                self.sessions.activate(session, role.copy()?)?
             }
             Command::DropActiveRole { session, role, .. } => {
                 self.sessions.drop_role(session, role)

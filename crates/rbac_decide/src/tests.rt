@@ -148,7 +148,7 @@ fn checks_without_a_command(rt: HostRuntime) {
     play(&rt, rt.alloc(), &mut policy, &opened);
     policy.invariants();
     expect_checks(&rt, rt.alloc(), &policy);
-    let copy = policy.copy(rt.alloc()).expect(&rt, "memory");
+    let copy = policy.copy().expect(&rt, "memory");
     expect_checks(&rt, rt.alloc(), &copy);
 }
 
@@ -160,7 +160,7 @@ fn expect_same(rt: &impl Abort, policy: &Policy, other: &Policy, wanted: bool) {
 #[test]
 fn tells_equal_policies(rt: HostRuntime) {
     let mut policy = played(&rt, rt.alloc(), &A_CLERK);
-    let copy = policy.copy(rt.alloc()).expect(&rt, "memory");
+    let copy = policy.copy().expect(&rt, "memory");
     expect_same(&rt, &policy, &copy, true);
     let opened = [("CreateSession ann s1 clerk", "Done")];
     play(&rt, rt.alloc(), &mut policy, &opened);

@@ -7,7 +7,7 @@ ghost use Rattle.std.specs.FinMap.Entries.{find};
 ghost use Rattle.rbac_words.specs.Name.{name_cmp};
 ghost use Rattle.rbac_words.specs.Authorization.{inherits_in, is_authorized as is_authorized_in, has_permission};
 ghost use Rattle.rbac_words.specs.Rows.{is_owner, is_active};
-ghost use Rattle.rbac_words.specs.Effect.{answer, session_holds};
+ghost use Rattle.rbac_words.specs.Effect.{reply, session_holds};
 ghost use Rattle.rbac_words.specs.declared.command.Command.TheVariants.{CheckAccess};
 
 use crate::authorization::{is_authorized, is_authorized_for_all, some_inherits_some};
@@ -17,42 +17,42 @@ use rbac_words::{Answer, Name};
 
 impl Policy {
     /// Whether it is one of the roles.
-    pub fn has_role(&self, role: &Name) -> bool
+    pub(crate) fn has_role(&self, role: &Name) -> bool
         ensures { result ≡ has name_cmp role.now self.now.roles }
     {
         self.tables.sets.has_role(role)
     }
 
     /// How many roles there are.
-    pub fn role_count(&self) -> usize
+    pub(crate) fn role_count(&self) -> usize
         ensures { result ≡ length self.now.roles }
     {
         self.tables.sets.role_count()
     }
 
     /// Whether the senior inherits the junior.
-    pub fn inherits(&self, senior: &Name, junior: &Name) -> bool
+    pub(crate) fn inherits(&self, senior: &Name, junior: &Name) -> bool
         ensures { result ≡ inherits_in self.now senior.now junior.now }
     {
         self.tables.hierarchy.inherits(senior, junior)
     }
 
     /// Whether the user is authorized for the role.
-    pub fn is_authorized(&self, user: &Name, role: &Name) -> bool
+    pub(crate) fn is_authorized(&self, user: &Name, role: &Name) -> bool
         ensures { result ≡ is_authorized_in self.now user.now role.now }
     {
         is_authorized(&self.tables.sets, &self.tables.hierarchy, user, role)
     }
 
     /// Whether the user is authorized for each of the roles.
-    pub fn is_authorized_for_all(&self, user: &Name, roles: &[Name]) -> bool
+    pub(crate) fn is_authorized_for_all(&self, user: &Name, roles: &[Name]) -> bool
         ensures { result ≡ list_all (is_authorized_in self.now user.now) roles.now }
     {
         is_authorized_for_all(&self.tables.sets, &self.tables.hierarchy, user, roles)
     }
 
     /// Whether the session is the user's.
-    pub fn is_owner(&self, session: &Name, user: &Name) -> bool
+    pub(crate) fn is_owner(&self, session: &Name, user: &Name) -> bool
         ensures { result ≡ is_owner self.now session.now user.now }
     {
         match self.tables.sessions.get(session) {
@@ -62,7 +62,7 @@ impl Policy {
     }
 
     /// Whether the role is active in the session.
-    pub fn is_active(&self, session: &Name, role: &Name) -> bool
+    pub(crate) fn is_active(&self, session: &Name, role: &Name) -> bool
         ensures { result ≡ is_active self.now session.now role.now }
     {
         match self.tables.sessions.get(session) {
@@ -80,14 +80,14 @@ impl Policy {
     }
 
     /// The session of this name.
-    pub fn session(&self, session: &Name) -> Option<&Session>
+    pub(crate) fn session(&self, session: &Name) -> Option<&Session>
         ensures { option_copied result ≡ find name_cmp session.now self.now.sessions }
     {
         self.tables.sessions.get(session)
     }
 
     /// Whether there is the session, and it holds the permission.
-    pub fn session_holds(&self, session: &Name, operation: &Name, object: &Name) -> bool
+    pub(crate) fn session_holds(&self, session: &Name, operation: &Name, object: &Name) -> bool
         ensures { result ≡ session_holds (find name_cmp session.now self.now.sessions) self.now (operation.now, object.now) }
     {
         match self.session(session) {
@@ -96,14 +96,14 @@ impl Policy {
         }
     }
 
-    /// The answer to CheckAccess, where it is not denied.
-    pub fn access(&self, session: &Name, operation: &Name, object: &Name) -> Answer
-        ensures { result ≡ answer (CheckAccess session.now operation.now object.now) self.now }
+    /// The answer to CheckAccess.
+    pub(crate) fn check_access(&self, session: &Name, operation: &Name, object: &Name) -> Answer
+        ensures { result ≡ reply (CheckAccess session.now operation.now object.now) self.now }
     {
-        if self.session_holds(session, operation, object) {
-            Answer::Granted
-        } else {
-            Answer::Refused
+        match self.check(session, operation, object) {
+            Ok(true) => Answer::Granted,
+            Ok(false) => Answer::Refused,
+            Err(denial) => Answer::Denied(denial),
         }
     }
 }

@@ -1,6 +1,8 @@
 //! The answers to reviews.
 ghost use Rattle.std.specs.Prelude.{◌≡◌, IfOk};
+ghost use Rattle.rbac_words.specs.Effect.{reply};
 ghost use Rattle.rbac_words.specs.Reviews.{review_answer};
+ghost use Rattle.rbac_words.specs.declared.command.Command.TheVariants.{Review as ReviewCommand};
 ghost use Rattle.rbac_review.specs.Parts.{state_of as state_of_parts};
 
 use crate::policy::Policy;
@@ -23,8 +25,8 @@ impl Policy {
         }
     }
 
-    /// The answer to a review that is not denied.
-    pub fn review(&self, alloc: Global, review: &Review) -> Result<Answer, AllocError>
+    // The answer to a review that is not denied.
+    fn review(&self, alloc: Global, review: &Review) -> Result<Answer, AllocError>
         ensures { IfOk result (λ answer. answer ≡ review_answer review.now self.now) }
     {
         let parts = self.parts();
@@ -66,6 +68,16 @@ impl Policy {
             Review::RoleSetCardinality { kind, set } => {
                 Ok(Answer::Count(parts.role_set_cardinality(*kind, set)))
             }
+        }
+    }
+
+    /// The answer to a review.
+    pub(crate) fn answer_review(&self, alloc: Global, review: &Review) -> Result<Answer, AllocError>
+        ensures { IfOk result (λ answer. answer ≡ reply (ReviewCommand review.now) self.now) }
+    {
+        match self.may_review(review) {
+            Ok(()) => self.review(alloc, review),
+            Err(denial) => Ok(Answer::Denied(denial)),
         }
     }
 }

@@ -21,7 +21,7 @@ use rbac_words::{Name, NameSet, Separation};
 use std::alloc::{AllocError, Global};
 
 /// Whether a set of so many roles may have this number.
-pub fn is_well_sized(n: u32, roles: usize) -> bool
+pub(crate) fn is_well_sized(n: u32, roles: usize) -> bool
     ensures { result ≡ (nat_le 2 n && nat_le n roles) }
 {
     2 <= n && n as usize <= roles
@@ -53,28 +53,28 @@ impl Policy {
     }
 
     /// How many sets of a kind there are.
-    pub fn set_count(&self, kind: Separation) -> usize
+    pub(crate) fn set_count(&self, kind: Separation) -> usize
         ensures { result ≡ length (sets_of kind self.now) }
     {
         self.sets(kind).len()
     }
 
     /// Whether there is a set of this name of the kind.
-    pub fn is_set(&self, kind: Separation, set: &Name) -> bool
+    pub(crate) fn is_set(&self, kind: Separation, set: &Name) -> bool
         ensures { result ≡ is_set kind self.now set.now }
     {
         self.sets(kind).contains(set)
     }
 
     /// The set of this name of the kind.
-    pub fn set(&self, kind: Separation, set: &Name) -> Option<&RoleSet>
+    pub(crate) fn set(&self, kind: Separation, set: &Name) -> Option<&RoleSet>
         ensures { option_copied result ≡ find name_cmp set.now (sets_of kind self.now) }
     {
         self.sets(kind).get(set)
     }
 
     /// Whether the role is in the set of the kind.
-    pub fn is_member(&self, kind: Separation, set: &Name, role: &Name) -> bool
+    pub(crate) fn is_member(&self, kind: Separation, set: &Name, role: &Name) -> bool
         ensures { result ≡ is_member kind self.now set.now role.now }
     {
         match self.set(kind, set) {
@@ -84,14 +84,19 @@ impl Policy {
     }
 
     /// Whether the role is in a set of either kind.
-    pub fn is_constrained(&self, role: &Name) -> bool
+    pub(crate) fn is_constrained(&self, role: &Name) -> bool
         ensures { result ≡ (is_constrained role.now self.now.static_sets || is_constrained role.now self.now.dynamic_sets) }
     {
         self.tables.static_sets.holds_role(role) || self.tables.dynamic_sets.holds_role(role)
     }
 
     /// Whether the user would break a static set with this role, and what it inherits, besides.
-    pub fn breaks_with(&self, alloc: Global, role: &Name, user: &Name) -> Result<bool, AllocError>
+    pub(crate) fn breaks_with(
+        &self,
+        alloc: Global,
+        role: &Name,
+        user: &Name,
+    ) -> Result<bool, AllocError>
         ensures { IfOk result (λ breaks. breaks ≡ breaks_with self.now role.now user.now) }
     {
         let roles = authorized_with(alloc, &self.tables.sets, &self.tables.hierarchy, user, role)?;
@@ -115,7 +120,7 @@ impl Policy {
     }
 
     /// Whether some user who is authorized for the ascendant would break a static set with the descendant.
-    pub fn breaks_below(
+    pub(crate) fn breaks_below(
         &self,
         alloc: Global,
         ascendant: &Name,
@@ -132,7 +137,7 @@ impl Policy {
     }
 
     /// Whether as many of the active roles are in some dynamic set as its number.
-    pub fn breaks_dynamic(&self, active: &NameSet) -> bool
+    pub(crate) fn breaks_dynamic(&self, active: &NameSet) -> bool
         ensures { (owner : NameValue) → result ≡ breaks_dynamic self.now (record { owner = owner; active = active.now }) }
     {
         is_over(&self.tables.dynamic_sets, active)
@@ -169,7 +174,7 @@ impl Policy {
     }
 
     /// Whether some user, or some session, would break a set of these roles with this number.
-    pub fn breaks_set(&self, kind: Separation, roles: &NameSet, n: u32) -> bool
+    pub(crate) fn breaks_set(&self, kind: Separation, roles: &NameSet, n: u32) -> bool
         ensures { result ≡ breaks_set kind self.now (record { roles = roles.now; cardinality = n }) }
     {
         match kind {
@@ -179,9 +184,8 @@ impl Policy {
     }
 
     /// Whether some user, or some session, would break the set with this role besides.
-    pub fn breaks_with_member(
+    pub(crate) fn breaks_with_member(
         &self,
-        alloc: Global,
         kind: Separation,
         set: &Name,
         role: &Name,
@@ -190,8 +194,8 @@ impl Policy {
     {
         match self.set(kind, set) {
             Some(set) => {
-                let mut roles = set.roles.copy(alloc)?;
-                roles.add(role.copy(alloc)?)?;
+                let mut roles = set.roles.copy()?;
+                roles.add(role.copy()?)?;
                 Ok(self.breaks_set(kind, &roles, set.cardinality))
             }
             None => Ok(false),
@@ -199,7 +203,7 @@ impl Policy {
     }
 
     /// Whether the set may have its number without the role.
-    pub fn is_well_sized_without(&self, kind: Separation, set: &Name, role: &Name) -> bool
+    pub(crate) fn is_well_sized_without(&self, kind: Separation, set: &Name, role: &Name) -> bool
         ensures { result ≡ found_and (λ x. is_well_sized (without_member role.now x)) (find name_cmp set.now (sets_of kind self.now)) }
     {
         match self.set(kind, set) {
@@ -209,7 +213,7 @@ impl Policy {
     }
 
     /// Whether the set may have this number.
-    pub fn is_well_sized_with(&self, kind: Separation, set: &Name, n: u32) -> bool
+    pub(crate) fn is_well_sized_with(&self, kind: Separation, set: &Name, n: u32) -> bool
         ensures { result ≡ found_and (λ x. is_well_sized (with_cardinality n x)) (find name_cmp set.now (sets_of kind self.now)) }
     {
         match self.set(kind, set) {
@@ -219,7 +223,7 @@ impl Policy {
     }
 
     /// Whether some user, or some session, would break the set with this number.
-    pub fn breaks_with_cardinality(&self, kind: Separation, set: &Name, n: u32) -> bool
+    pub(crate) fn breaks_with_cardinality(&self, kind: Separation, set: &Name, n: u32) -> bool
         ensures { result ≡ found_and (λ x. breaks_set kind self.now (with_cardinality n x)) (find name_cmp set.now (sets_of kind self.now)) }
     {
         match self.set(kind, set) {
@@ -229,18 +233,13 @@ impl Policy {
     }
 
     /// Whether as many roles of some dynamic set as its number would be active in the session with this role besides.
-    pub fn breaks_active(
-        &self,
-        alloc: Global,
-        session: &Name,
-        role: &Name,
-    ) -> Result<bool, AllocError>
+    pub(crate) fn breaks_active(&self, session: &Name, role: &Name) -> Result<bool, AllocError>
         ensures { IfOk result (λ breaks. breaks ≡ found_and (λ x. breaks_dynamic self.now (with_active role.now x)) (find name_cmp session.now self.now.sessions)) }
     {
         match self.session(session) {
             Some(session) => {
-                let mut active = session.active.copy(alloc)?;
-                active.add(role.copy(alloc)?)?;
+                let mut active = session.active.copy()?;
+                active.add(role.copy()?)?;
                 Ok(self.breaks_dynamic(&active))
             }
             None => Ok(false),

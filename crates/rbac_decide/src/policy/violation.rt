@@ -55,7 +55,6 @@ impl Policy {
     /// Whether the session would break dynamic separation with the role active besides.
     pub(crate) fn activation_violates(
         &self,
-        alloc: Global,
         user: &Name,
         session: &Name,
         role: &Name,
@@ -64,7 +63,7 @@ impl Policy {
         ensures { IfOk result (λ violates. violates ≡ is_violated Dynamic (change (AddActiveRole user.now session.now role.now) self.now)) }
     {
         self.invariants();
-        self.breaks_active(alloc, session, role)
+        self.breaks_active(session, role)
     }
 
     /// Whether the set would be badly sized.
@@ -98,7 +97,6 @@ impl Policy {
     /// Whether some user, or some session, would break the set with the role besides.
     pub(crate) fn addition_violates(
         &self,
-        alloc: Global,
         kind: Separation,
         set: &Name,
         role: &Name,
@@ -107,7 +105,7 @@ impl Policy {
         ensures { IfOk result (λ violates. violates ≡ is_violated kind (change (AddRoleMember kind set.now role.now) self.now)) }
     {
         self.invariants();
-        self.breaks_with_member(alloc, kind, set, role)
+        self.breaks_with_member(kind, set, role)
     }
 
     /// Whether the set would be badly sized without the role.

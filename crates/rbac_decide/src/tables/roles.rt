@@ -18,7 +18,7 @@ impl Tables {
         ensures state { OnOk result ((v : VocabularyValue) → state_of self.new v ≡ change (AddRole role.now) (state_of self.old v)) }
         ensures same_roles { HasSameRoles self.old → OnOk result (HasSameRoles self.new) }
     {
-        self.sets.add_role(role.copy(alloc)?)?;
+        self.sets.add_role(role.copy()?)?;
         self.hierarchy.add_role(alloc, role)
     }
 

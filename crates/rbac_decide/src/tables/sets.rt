@@ -6,14 +6,13 @@ ghost use Rattle.rbac_words.specs.declared.command.Command.TheVariants.{CreateSe
 
 use crate::tables::Tables;
 use rbac_words::{Name, NameSet, Separation};
-use std::alloc::{AllocError, Global};
+use std::alloc::AllocError;
 
 impl Tables {
     ghost use Rattle.rbac_decide.specs.Tables.{state_of, HasSameRoles};
 
     pub fn create_set(
         &mut self,
-        alloc: Global,
         kind: Separation,
         set: &Name,
         roles: &NameSet,
@@ -22,8 +21,8 @@ impl Tables {
         ensures state { OnOk result ((v : VocabularyValue) → state_of self.new v ≡ change (CreateSet kind set.now roles.now n) (state_of self.old v)) }
         ensures same_roles { HasSameRoles self.old → OnOk result (HasSameRoles self.new) }
     {
-        let set = set.copy(alloc)?;
-        let roles = roles.copy(alloc)?;
+        let set = set.copy()?;
+        let roles = roles.copy()?;
         match kind {
             Separation::Static => self.static_sets.create(set, roles, n)?,
             Separation::Dynamic => self.dynamic_sets.create(set, roles, n)?,
@@ -43,7 +42,6 @@ impl Tables {
 
     pub fn add_role_member(
         &mut self,
-        alloc: Global,
         kind: Separation,
         set: &Name,
         role: &Name,
@@ -51,7 +49,7 @@ impl Tables {
         ensures state { OnOk result ((v : VocabularyValue) → state_of self.new v ≡ change (AddRoleMember kind set.now role.now) (state_of self.old v)) }
         ensures same_roles { HasSameRoles self.old → OnOk result (HasSameRoles self.new) }
     {
-        let role = role.copy(alloc)?;
+        let role = role.copy()?;
         match kind {
             Separation::Static => self.static_sets.add_member(set, role)?,
             Separation::Dynamic => self.dynamic_sets.add_member(set, role)?,

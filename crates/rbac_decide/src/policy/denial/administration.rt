@@ -1,11 +1,14 @@
 //! The first failing precondition of each command about users, roles, assignments and permissions.
-ghost use Rattle.std.specs.Prelude.{◌≡◌, IfOk};
+ghost use Rattle.std.specs.Prelude.{◌≡◌};
 ghost use Rattle.rbac_words.specs.Rows.{first_denial};
 ghost use Rattle.rbac_words.specs.declared.command.Command.TheVariants.{AddUser, DeleteUser, AddRole, DeleteRole, AssignUser, DeassignUser, GrantPermission, RevokePermission};
+ghost use Rattle.rbac_decide.specs.Denying.{verdict, TellsDenial};
 
 use crate::policy::Policy;
+use crate::policy::denial::deny_if;
+use crate::policy::hindrance::Hindrance;
 use rbac_words::{Denial, Name};
-use std::alloc::{AllocError, Global};
+use std::alloc::Global;
 
 const MOST_USERS: usize = 4096;
 
@@ -13,123 +16,97 @@ const MOST_USERS: usize = 4096;
 pub const MOST_ROLES: usize = 1024;
 
 impl Policy {
-    pub fn first_add_user(&self, user: &Name) -> Option<Denial>
-        ensures { result ≡ first_denial (AddUser user.now) self.now }
+    pub(crate) fn may_add_user(&self, user: &Name) -> Result<(), Denial>
+        ensures { result ≡ verdict (AddUser user.now) self.now }
     {
-        if self.tables.sets.has_user(user) {
-            return Some(Denial::UserExists);
-        }
-        if self.tables.sets.user_count() >= MOST_USERS {
-            return Some(Denial::Limit);
-        }
-        None
+        deny_if(self.tables.sets.has_user(user), Denial::UserExists)?;
+        deny_if(self.tables.sets.user_count() >= MOST_USERS, Denial::Limit)?;
+        Ok(())
     }
 
-    pub fn first_delete_user(&self, user: &Name) -> Option<Denial>
-        ensures { result ≡ first_denial (DeleteUser user.now) self.now }
+    pub(crate) fn may_delete_user(&self, user: &Name) -> Result<(), Denial>
+        ensures { result ≡ verdict (DeleteUser user.now) self.now }
     {
-        if !self.tables.sets.has_user(user) {
-            return Some(Denial::NoUser);
-        }
-        None
+        deny_if(!self.tables.sets.has_user(user), Denial::NoUser)?;
+        Ok(())
     }
 
-    pub fn first_add_role(&self, role: &Name) -> Option<Denial>
-        ensures { result ≡ first_denial (AddRole role.now) self.now }
+    pub(crate) fn may_add_role(&self, role: &Name) -> Result<(), Denial>
+        ensures { result ≡ verdict (AddRole role.now) self.now }
     {
-        if self.has_role(role) {
-            return Some(Denial::RoleExists);
-        }
-        if self.role_count() >= MOST_ROLES {
-            return Some(Denial::Limit);
-        }
-        None
+        deny_if(self.has_role(role), Denial::RoleExists)?;
+        deny_if(self.role_count() >= MOST_ROLES, Denial::Limit)?;
+        Ok(())
     }
 
-    pub fn first_delete_role(&self, role: &Name) -> Option<Denial>
-        ensures { result ≡ first_denial (DeleteRole role.now) self.now }
+    pub(crate) fn may_delete_role(&self, role: &Name) -> Result<(), Denial>
+        ensures { result ≡ verdict (DeleteRole role.now) self.now }
     {
-        if !self.has_role(role) {
-            return Some(Denial::NoRole);
-        }
-        if self.is_constrained(role) {
-            return Some(Denial::RoleConstrained);
-        }
-        None
+        deny_if(!self.has_role(role), Denial::NoRole)?;
+        deny_if(self.is_constrained(role), Denial::RoleConstrained)?;
+        Ok(())
     }
 
-    pub fn first_assign_user(
+    pub(crate) fn may_assign_user(
         &self,
         alloc: Global,
         user: &Name,
         role: &Name,
-    ) -> Result<Option<Denial>, AllocError>
-        ensures { IfOk result (λ denial. denial ≡ first_denial (AssignUser user.now role.now) self.now) }
+    ) -> Result<(), Hindrance>
+        ensures { TellsDenial (first_denial (AssignUser user.now role.now) self.now) result }
     {
-        if !self.tables.sets.has_user(user) {
-            return Ok(Some(Denial::NoUser));
-        }
-        if !self.has_role(role) {
-            return Ok(Some(Denial::NoRole));
-        }
-        if self.tables.sets.assigned(user, role) {
-            return Ok(Some(Denial::Assigned));
-        }
-        if self.assignment_violates(alloc, user, role)? {
-            return Ok(Some(Denial::SsdViolated));
-        }
-        Ok(None)
+        deny_if(!self.tables.sets.has_user(user), Denial::NoUser)?;
+        deny_if(!self.has_role(role), Denial::NoRole)?;
+        deny_if(self.tables.sets.assigned(user, role), Denial::Assigned)?;
+        deny_if(
+            self.assignment_violates(alloc, user, role)?,
+            Denial::SsdViolated,
+        )?;
+        Ok(())
     }
 
-    pub fn first_deassign_user(&self, user: &Name, role: &Name) -> Option<Denial>
-        ensures { result ≡ first_denial (DeassignUser user.now role.now) self.now }
+    pub(crate) fn may_deassign_user(&self, user: &Name, role: &Name) -> Result<(), Denial>
+        ensures { result ≡ verdict (DeassignUser user.now role.now) self.now }
     {
-        if !self.tables.sets.has_user(user) {
-            return Some(Denial::NoUser);
-        }
-        if !self.has_role(role) {
-            return Some(Denial::NoRole);
-        }
-        if !self.tables.sets.assigned(user, role) {
-            return Some(Denial::NotAssigned);
-        }
-        None
+        deny_if(!self.tables.sets.has_user(user), Denial::NoUser)?;
+        deny_if(!self.has_role(role), Denial::NoRole)?;
+        deny_if(!self.tables.sets.assigned(user, role), Denial::NotAssigned)?;
+        Ok(())
     }
 
-    pub fn first_grant_permission(
+    pub(crate) fn may_grant_permission(
         &self,
         operation: &Name,
         object: &Name,
         role: &Name,
-    ) -> Option<Denial>
-        ensures { result ≡ first_denial (GrantPermission operation.now object.now role.now) self.now }
+    ) -> Result<(), Denial>
+        ensures { result ≡ verdict (GrantPermission operation.now object.now role.now) self.now }
     {
-        if !self.vocabulary.has_permission(operation, object) {
-            return Some(Denial::NoPermission);
-        }
-        if !self.has_role(role) {
-            return Some(Denial::NoRole);
-        }
-        None
+        deny_if(
+            !self.vocabulary.has_permission(operation, object),
+            Denial::NoPermission,
+        )?;
+        deny_if(!self.has_role(role), Denial::NoRole)?;
+        Ok(())
     }
 
-    pub fn first_revoke_permission(
+    pub(crate) fn may_revoke_permission(
         &self,
         operation: &Name,
         object: &Name,
         role: &Name,
-    ) -> Option<Denial>
-        ensures { result ≡ first_denial (RevokePermission operation.now object.now role.now) self.now }
+    ) -> Result<(), Denial>
+        ensures { result ≡ verdict (RevokePermission operation.now object.now role.now) self.now }
     {
-        if !self.vocabulary.has_permission(operation, object) {
-            return Some(Denial::NoPermission);
-        }
-        if !self.has_role(role) {
-            return Some(Denial::NoRole);
-        }
-        if !self.tables.sets.granted(operation, object, role) {
-            return Some(Denial::NotGranted);
-        }
-        None
+        deny_if(
+            !self.vocabulary.has_permission(operation, object),
+            Denial::NoPermission,
+        )?;
+        deny_if(!self.has_role(role), Denial::NoRole)?;
+        deny_if(
+            !self.tables.sets.granted(operation, object, role),
+            Denial::NotGranted,
+        )?;
+        Ok(())
     }
 }

@@ -1,12 +1,15 @@
 //! The first failing precondition of each command about the role hierarchy.
-ghost use Rattle.std.specs.Prelude.{◌≡◌, IfOk};
+ghost use Rattle.std.specs.Prelude.{◌≡◌};
 ghost use Rattle.rbac_words.specs.Rows.{first_denial, are_roles};
 ghost use Rattle.rbac_words.specs.declared.command.Command.TheVariants.{AddInheritance, DeleteInheritance, AddAscendant, AddDescendant};
+ghost use Rattle.rbac_decide.specs.Denying.{verdict, TellsDenial};
 
 use crate::policy::Policy;
 use crate::policy::denial::administration::MOST_ROLES;
+use crate::policy::denial::deny_if;
+use crate::policy::hindrance::Hindrance;
 use rbac_words::{Denial, Name};
-use std::alloc::{AllocError, Global};
+use std::alloc::Global;
 
 impl Policy {
     // Whether both are roles.
@@ -16,68 +19,65 @@ impl Policy {
         self.has_role(first) && self.has_role(second)
     }
 
-    pub fn first_add_inheritance(
+    pub(crate) fn may_add_inheritance(
         &self,
         alloc: Global,
         ascendant: &Name,
         descendant: &Name,
-    ) -> Result<Option<Denial>, AllocError>
-        ensures { IfOk result (λ denial. denial ≡ first_denial (AddInheritance ascendant.now descendant.now) self.now) }
+    ) -> Result<(), Hindrance>
+        ensures { TellsDenial (first_denial (AddInheritance ascendant.now descendant.now) self.now) result }
     {
-        if !self.are_roles(ascendant, descendant) {
-            return Ok(Some(Denial::NoRole));
-        }
-        if self.tables.hierarchy.declared(ascendant, descendant) {
-            return Ok(Some(Denial::Inherits));
-        }
-        if self.inherits(descendant, ascendant) {
-            return Ok(Some(Denial::Cycle));
-        }
-        if self.inheritance_violates(alloc, ascendant, descendant)? {
-            return Ok(Some(Denial::SsdViolated));
-        }
-        Ok(None)
+        deny_if(!self.are_roles(ascendant, descendant), Denial::NoRole)?;
+        deny_if(
+            self.tables.hierarchy.declared(ascendant, descendant),
+            Denial::Inherits,
+        )?;
+        deny_if(self.inherits(descendant, ascendant), Denial::Cycle)?;
+        deny_if(
+            self.inheritance_violates(alloc, ascendant, descendant)?,
+            Denial::SsdViolated,
+        )?;
+        Ok(())
     }
 
-    pub fn first_delete_inheritance(&self, ascendant: &Name, descendant: &Name) -> Option<Denial>
-        ensures { result ≡ first_denial (DeleteInheritance ascendant.now descendant.now) self.now }
+    pub(crate) fn may_delete_inheritance(
+        &self,
+        ascendant: &Name,
+        descendant: &Name,
+    ) -> Result<(), Denial>
+        ensures { result ≡ verdict (DeleteInheritance ascendant.now descendant.now) self.now }
     {
-        if !self.are_roles(ascendant, descendant) {
-            return Some(Denial::NoRole);
-        }
-        if !self.tables.hierarchy.declared(ascendant, descendant) {
-            return Some(Denial::NoInheritance);
-        }
-        None
+        deny_if(!self.are_roles(ascendant, descendant), Denial::NoRole)?;
+        deny_if(
+            !self.tables.hierarchy.declared(ascendant, descendant),
+            Denial::NoInheritance,
+        )?;
+        Ok(())
     }
 
-    pub fn first_add_ascendant(&self, ascendant: &Name, descendant: &Name) -> Option<Denial>
-        ensures { result ≡ first_denial (AddAscendant ascendant.now descendant.now) self.now }
+    pub(crate) fn may_add_ascendant(
+        &self,
+        ascendant: &Name,
+        descendant: &Name,
+    ) -> Result<(), Denial>
+        ensures { result ≡ verdict (AddAscendant ascendant.now descendant.now) self.now }
     {
-        if self.has_role(ascendant) {
-            return Some(Denial::RoleExists);
-        }
-        if !self.has_role(descendant) {
-            return Some(Denial::NoRole);
-        }
-        if self.role_count() >= MOST_ROLES {
-            return Some(Denial::Limit);
-        }
-        None
+        deny_if(self.has_role(ascendant), Denial::RoleExists)?;
+        deny_if(!self.has_role(descendant), Denial::NoRole)?;
+        deny_if(self.role_count() >= MOST_ROLES, Denial::Limit)?;
+        Ok(())
     }
 
-    pub fn first_add_descendant(&self, ascendant: &Name, descendant: &Name) -> Option<Denial>
-        ensures { result ≡ first_denial (AddDescendant ascendant.now descendant.now) self.now }
+    pub(crate) fn may_add_descendant(
+        &self,
+        ascendant: &Name,
+        descendant: &Name,
+    ) -> Result<(), Denial>
+        ensures { result ≡ verdict (AddDescendant ascendant.now descendant.now) self.now }
     {
-        if self.has_role(descendant) {
-            return Some(Denial::RoleExists);
-        }
-        if !self.has_role(ascendant) {
-            return Some(Denial::NoRole);
-        }
-        if self.role_count() >= MOST_ROLES {
-            return Some(Denial::Limit);
-        }
-        None
+        deny_if(self.has_role(descendant), Denial::RoleExists)?;
+        deny_if(!self.has_role(ascendant), Denial::NoRole)?;
+        deny_if(self.role_count() >= MOST_ROLES, Denial::Limit)?;
+        Ok(())
     }
 }
