@@ -6,8 +6,7 @@ mod golden;
 
 use anyhow::{Context, Result, bail, ensure};
 use golden::Golden;
-use rbac_lines::founding::{Founding, sample_founding};
-use rbac_lines::{run, watch};
+use rbac_lines::{Founding, run, sample_founding, watch};
 use rbac_world::World;
 use std::alloc::Global;
 use std::fs;

@@ -14,7 +14,8 @@ use Rattle.sorted_keys.proofs.Members.{has-with_key, same_keys}
 use Rattle.sorted_keys.proofs.Gathered.{has-set_of, sorted_set_of}
 use Rattle.rbac_words.specs.Name.{Name, is_name, name_cmp}
 use Rattle.rbac_words.proofs.NameLemmas.{names_total, names_exact}
-use Rattle.rbac_lines.specs.Steps.{◌>>=◌}
+use Rattle.rbac_founding.specs.Steps.{◌>>=◌}
+use Rattle.rbac_founding.proofs.ReadingLemmas.{of_kind_more}
 use Rattle.rbac_lines.specs.Fields.{Reading, name_of, names_of, texts_of}
 use Rattle.rbac_lines.specs.declared.refusal.LineRefusal.TheVariants.{WrongKind, BadName}
 
@@ -80,13 +81,6 @@ names_from_next set array i value text answer within here is read =
 -- after the last element the set is read
 pub names_from_end : (set : List Name) (array : List Value) (i : ℕ) → length array ≤ i → names_from set (map text_of (drop i array)) ≡ Ok set
 names_from_end set array i h = at_drop_all (λ values. names_from set (map text_of values)) array i h
-
--- one more element of an array of which each has to be of one kind
-pub of_kind_more : {T : Type 0} (found : Option T) (all : Bool) (others : List T) (instead : T)
-    → option_and_then (λ first. option_map (λ later. first ∷ later) (if all then Some others else None)) found ≡ (if is_some found && all then Some (unwrap_or found instead ∷ others) else None)
-of_kind_more None all others instead = refl
-of_kind_more (Some first) true others instead = refl
-of_kind_more (Some first) false others instead = refl
 
 -- an array has texts if each element is one
 pub texts_of_array : (array : List Value) → texts_of (items_view array) ≡ (if list_all (λ value. is_some (as_str (view value))) array then Some (map text_of array) else None)

@@ -1,8 +1,11 @@
 -- A run over an input that was read to its end.
-use Rattle.std.proofs.Common.{◌≡◌, ℕ, List, length, Bool, true, Option, Some, None, IfSome, Ok, sym, ap, ◌∙◌, subst, append-nil, ◌++◌}
+use Rattle.std.proofs.Common.{◌≡◌, ℕ, List, length, Bool, true, Option, IfSome, Result, Ok, Err, ap, ◌∙◌, subst}
+use Rattle.std.specs.Result.{IfOk, OnOk}
 use Rattle.std.specs.Io.KnownBytes.{Appends, Consumes, IsAtEnd}
+use Rattle.std.proofs.KnownBytes.{Consumes-whole}
 use Rattle.line_engine.specs.Lines.{lines, lines_read}
 use Rattle.line_engine.specs.Output.{Follows, OutputOutcome}
+use Rattle.line_engine.specs.declared.report.RunFault.{RunFault}
 use Rattle.line_engine.specs.declared.report.Summary.{Summary}
 use Rattle.rbac_words.specs.World.{World}
 use Rattle.rbac_lines.specs.Output.{playing, PlaysLine, read_text, is_read_refused, read_step, output, world_after, refused_lines}
@@ -16,25 +19,24 @@ follows old number line text is_refused new plays = (
   plays.1.1 ∙ ap (read_step old) (event_clip line),
 )
 
--- an input that was read to its end is all that there was
-for_whole : (P : List ℕ → Type 0) (had left : Option (List ℕ)) (input : List ℕ) → Consumes had left input → IsAtEnd left → P input → IfSome had P
-for_whole P None left input c e p = tt
-for_whole P (Some whole) None input c e p = absurd c
-for_whole P (Some whole) (Some rest) input c e p = subst P (sym (c ∙ ap (λ l. input ++ l) e ∙ append-nil input)) p
-
 -- what a run over the whole input leaves
 pub record Whole (old new : World) (before after : Option (List ℕ)) (summary : Summary) (input : List ℕ) : Type 0 where
   pub written : Appends before after (output input old)
   pub played : new ≡ world_after input old
-  pub lines : summary.lines ≡ length (lines input)
-  pub refused : summary.refused ≡ refused_lines input old
+  pub counted : (summary.lines ≡ length (lines input)) × (summary.refused ≡ refused_lines input old)
 
-whole_of : (old new : World) (before after : Option (List ℕ)) (summary : Summary) (input : List ℕ) (ended : Bool) → ended ≡ true
-    → OutputOutcome playing old before (lines_read ended input) new after (Ok summary) → Whole old new before after summary input
-whole_of old new before after summary input ended e o =
-    let at_end : OutputOutcome playing old before (lines input) new after (Ok summary) = subst (λ b. OutputOutcome playing old before (lines_read b input) new after (Ok summary)) e o in
-    record { written = at_end.0.written; played = at_end.0.state; lines = at_end.1; refused = at_end.2 }
+-- where the run met the end of the input, that was all that the reader had
+pub whole_run : (P : Summary → List ℕ → Type 0) (old new : World) (before after had left : Option (List ℕ)) (result : Result Summary RunFault) (input : List ℕ) (ended : Bool)
+    → Consumes had left input → (ended ≡ true → IsAtEnd left) → OnOk result (ended ≡ true) → OutputOutcome playing old before (lines_read ended input) new after result
+    → ((summary : Summary) (whole : List ℕ) → Whole old new before after summary whole → P summary whole) → IfOk result (λ summary. IfSome had (P summary))
+whole_run P old new before after had left (Ok summary) input ended consumed at_end met outcome then_so =
+    let at : OutputOutcome playing old before (lines input) new after (Ok summary) =
+    subst (λ b. OutputOutcome playing old before (lines_read b input) new after (Ok summary)) met outcome in
+    Consumes-whole had left input (P summary) consumed (at_end met)
+    (then_so summary input (record { written = at.0.written; played = at.0.state; counted = (at.1, at.2) }))
+whole_run P old new before after had left (Err fault) input ended consumed at_end met outcome then_so = tt
 
-pub whole_run : (P : List ℕ → Type 0) (old new : World) (before after had left : Option (List ℕ)) (summary : Summary) (input : List ℕ) (ended : Bool) → Consumes had left input → IsAtEnd left → ended ≡ true
-    → OutputOutcome playing old before (lines_read ended input) new after (Ok summary) → ((whole : List ℕ) → Whole old new before after summary whole → P whole) → IfSome had P
-whole_run P old new before after had left summary input ended c e t o then_so = for_whole P had left input c e (then_so input (whole_of old new before after summary input ended t o))
+-- what the end of the input means, where the run met it
+pub where_ended : (result : Result Summary RunFault) (ended : Bool) (P : Type 0) → OnOk result (ended ≡ true) → (ended ≡ true → P) → OnOk result P
+where_ended (Ok summary) ended P met so = so met
+where_ended (Err fault) ended P met so = tt

@@ -8,7 +8,7 @@ use Rattle.rbac_words.specs.declared.review.Review.{Review}
 use Rattle.rbac_words.specs.declared.review.Review.TheVariants.{AssignedUsers, AssignedRoles, AuthorizedUsers, AuthorizedRoles, RolePermissions, UserPermissions, SessionRoles, SessionPermissions, RoleOperationsOnObject, UserOperationsOnObject, RoleSets, RoleSetRoles, RoleSetCardinality}
 use Rattle.rbac_words.specs.declared.command.Command.{Command}
 use Rattle.rbac_words.specs.declared.command.Command.TheVariants.{AddUser, DeleteUser, AddRole, DeleteRole, AssignUser, DeassignUser, GrantPermission, RevokePermission, AddInheritance, DeleteInheritance, AddAscendant, AddDescendant, CreateSet, DeleteSet, AddRoleMember, DeleteRoleMember, SetCardinality, CreateSession, DeleteSession, AddActiveRole, DropActiveRole, CheckAccess, Review as ReviewCommand}
-use Rattle.rbac_lines.specs.Steps.{◌>>=◌, ◌>>◌}
+use Rattle.rbac_founding.specs.Steps.{◌>>=◌, ◌>>◌}
 use Rattle.rbac_lines.specs.Fields.{Reading, whole_in, text_in, name_in, names_in, only_keys, by_word}
 
 -- the name at this key, where there is no other key but the command's name

@@ -6,10 +6,11 @@ use Rattle.std.specs.Str.{is_utf8}
 use Rattle.serde_json.specs.Data.{Data, Members}
 use Rattle.serde_json.specs.Read.{read}
 use Rattle.serde_json.specs.Find.{as_object}
+use Rattle.line_engine.specs.Lines.{longest_line}
 use Rattle.rbac_words.specs.declared.event.Event.{Event}
 use Rattle.rbac_words.specs.declared.event.Event.TheVariants.{Submit, Receive, Deliver}
 use Rattle.rbac_lines.specs.declared.refusal.LineRefusal.TheVariants.{TooLong, NotJson, NotObject}
-use Rattle.rbac_lines.specs.Steps.{◌>>=◌, ◌>>◌}
+use Rattle.rbac_founding.specs.Steps.{◌>>=◌, ◌>>◌}
 use Rattle.rbac_lines.specs.Fields.{Reading, whole_in, text_in, object_in, only_keys, by_word}
 use Rattle.rbac_lines.specs.Command.{command_of}
 
@@ -57,10 +58,6 @@ event_of object = do
 -- the value of a JSON text, which is UTF-8
 abbrev pub json_of : List ℕ → Option Data
 json_of text = if is_utf8 text then read text else None
-
--- the most bytes that a line has
-abbrev pub longest_line : ℕ
-longest_line = 65536
 
 -- the value of a line
 abbrev pub value_of : List ℕ → Reading Data

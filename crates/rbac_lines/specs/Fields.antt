@@ -1,14 +1,15 @@
 -- What is read of a JSON object's fields. Each word answers the value, or the first refusal: MissingField where the key is
 -- not there, WrongKind where its value is of another kind, and for a name BadName where the text is no name.
 -- The keys of an object stand in no order. Where a key was given twice, the object has the last value.
-use Rattle.std.specs.Prelude.{ℕ, ◌^◌, List, [], ◌∷◌, nat_lt, if◌then◌else◌, Option, Some, None, ok_or, option_map, option_and_then, Result, Ok, Err, ⊤, Bool}
+use Rattle.std.specs.Prelude.{ℕ, ◌^◌, List, [], ◌∷◌, nat_lt, if◌then◌else◌, Option, Some, None, ok_or, option_map, option_and_then, Result, Ok, Err, ⊤}
 use Rattle.std.specs.Str.{bytes_eq}
-use Rattle.std.specs.List.{list_any, list_all}
+use Rattle.std.specs.List.{list_all}
 use Rattle.serde_json.specs.Data.{Data, Items, no_items, item, Members, no_members, member}
 use Rattle.serde_json.specs.Find.{get_member, as_str, as_number, as_u64, as_array, as_object}
 use Rattle.sorted_keys.specs.Keys.{set_of}
 use Rattle.rbac_words.specs.Name.{Name, is_name, name_cmp}
-use Rattle.rbac_lines.specs.Steps.{◌>>=◌, ReadsBut}
+use Rattle.rbac_founding.specs.Keys.{is_one_of}
+use Rattle.rbac_founding.specs.Steps.{◌>>=◌, ReadsBut}
 use Rattle.rbac_lines.specs.declared.refusal.LineRefusal.{LineRefusal}
 use Rattle.rbac_lines.specs.declared.refusal.LineRefusal.TheVariants.{UnknownWord, MissingField, WrongKind, BadName, ExtraField, NoMemory}
 
@@ -91,10 +92,6 @@ names_in key object = do
 abbrev pub keys_of : Members → List (List ℕ)
 keys_of no_members = []
 keys_of (member key value rest) = key ∷ keys_of rest
-
--- whether a key is one of these
-abbrev pub is_one_of : List (List ℕ) → List ℕ → Bool
-is_one_of keys key = list_any (bytes_eq key) keys
 
 -- ExtraField where there is a key besides these
 abbrev pub only_keys : List (List ℕ) → Members → Reading ⊤

@@ -1,9 +1,5 @@
 pub mod Command
 pub mod Event
-pub mod Steps
 pub mod Fields
 pub mod Text
 pub mod Output
-pub mod Founding
-pub mod FoundingFile
-pub mod FoundingEntries

@@ -58,6 +58,10 @@ PlaysLine old number line text is_refused new =
 
 -- ---- A whole input
 
+-- how often it is read at most
+abbrev pub most_reads : ℕ
+most_reads = 268435456
+
 -- the texts of all its lines, in order
 abbrev pub output : List ℕ → World → List ℕ
 output input w = texts playing 1 w (lines input)

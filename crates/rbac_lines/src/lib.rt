@@ -1,16 +1,14 @@
 //! Lines of JSON as events, what came of them as lines of JSON, and a whole input played on a world.
 #![tactic(auto)]
 
-pub mod founding;
 mod playing;
 pub mod reading;
 pub mod refusal;
 mod running;
 pub mod text;
 
-pub use founding::{Founding, FoundingRefusal, read_founding, sample_founding};
 pub use line_engine::{RunFault, Summary, Watched, watch};
-pub use rbac_world as world;
+pub use rbac_founding::{Founding, FoundingRefusal, read_founding, sample_founding};
 pub use reading::read_line;
 pub use refusal::LineRefusal;
 pub use running::run;

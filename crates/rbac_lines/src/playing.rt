@@ -38,10 +38,10 @@ impl Taking for Playing {
         match read_line(alloc, line) {
             Ok(event) => play(alloc, world, number, &event, text),
             Err(LineRefusal::NoMemory) => Err(AllocError),
-            Err(refusal) => match put_line_refused(text, number, refusal) {
-                Ok(()) => Ok(true),
-                Err(AllocError) => Err(AllocError),
-            },
+            Err(refusal) => {
+                put_line_refused(text, number, refusal)?;
+                Ok(true)
+            }
         }
     }
 }
@@ -62,16 +62,14 @@ fn play(
     match world.step(alloc, event) {
         Ok(outcome) => {
             let delivered = record_of(world, event, outcome);
-            match put_outcome(text, number, outcome, delivered) {
-                Ok(()) => Ok(false),
-                Err(AllocError) => Err(AllocError),
-            }
+            put_outcome(text, number, outcome, delivered)?;
+            Ok(false)
         }
         Err(Refusal::NoMemory) => Err(AllocError),
-        Err(refusal) => match put_refused(text, number, &refusal) {
-            Ok(()) => Ok(true),
-            Err(AllocError) => Err(AllocError),
-        },
+        Err(refusal) => {
+            put_refused(text, number, &refusal)?;
+            Ok(true)
+        }
     }
 }
 

@@ -4,7 +4,9 @@ ghost use Rattle.rbac_lines.specs.Text.{line_refusal_word};
 
 use std::alloc::AllocError;
 
-/// Why a line is no event: the first reason that applies, in this order. Memory may run out at any of the checks.
+/// Why a line is no event: the first reason in the order of the checks, which is that of the definition of events. The line
+/// is checked as a whole, then its object (its word, its fields from left to right, and no other key), and only then its
+/// command, in the same way. Memory may run out at any of the checks.
 #[derive(Clone, Copy, Debug, PartialEq, Eq, Drop)]
 pub enum LineRefusal {
     /// It has more than 65,536 bytes.

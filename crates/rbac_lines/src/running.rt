@@ -1,21 +1,25 @@
 //! A whole input played on a world.
-ghost use Rattle.std.specs.Prelude.{◌≡◌, ◌≤◌, ◌≢◌, true, false, ℕ, List, length, IfOk, IfSome, OnOk, Err};
+ghost use Rattle.std.specs.Prelude.{◌≡◌, ◌≤◌, true, false, ℕ, List, length, IfOk, IfSome, OnOk, Err};
 ghost use Rattle.std.specs.Io.KnownBytes.{Appends, Consumes, IsAtEnd};
 ghost use Rattle.line_engine.specs.Lines.{lines, lines_read};
 ghost use Rattle.line_engine.specs.Output.{OutputOutcome};
 ghost use Rattle.line_engine.specs.Runs.{is_read_fault, is_write_fault};
 ghost use Rattle.line_engine.specs.Watched.{ended_of, failed_of, inner_of, reads_of};
-ghost use Rattle.rbac_lines.specs.Output.{playing, output, world_after, refused_lines};
+ghost use Rattle.rbac_words.specs.Right.{AreHistoriesRight};
+ghost use Rattle.rbac_lines.specs.Output.{most_reads, playing, output, world_after, refused_lines};
 
 use crate::playing::Playing;
-use line_engine::{MOST_READS, RunFault, Summary, Watched, output_of_run, run_lines};
+use line_engine::{RunFault, Summary, Watched, output_of_run, run_lines};
 use rbac_world::World;
 use std::alloc::Global;
 use std::io::{Read, Write};
 
+/// How often a run reads at most.
+const MOST_READS: u32 = 268_435_456;
+
 /// Plays all lines of the reader on the world, and writes each line's text right after its step. On Ok the input was read
 /// to its end, and exactly its output was written. A fault says why the run ended early; the clause `outcome` says which
-/// lines were played and what was written by then.
+/// lines were played and what was written by then. However it ends, each history is right.
 pub fn run<R: Read, W: Write>(
     alloc: Global,
     reader: &mut Watched<R>,
@@ -32,21 +36,22 @@ pub fn run<R: Read, W: Write>(
     ensures counted { IfOk result (λ summary. IfSome (R.remaining (inner_of reader.old))
         (λ input. (summary.lines ≡ length (lines input)) × (summary.refused ≡ refused_lines input world.old))) }
 
+    ensures right { AreHistoriesRight world.new }
+
     // What was read, and what of it was played and written, at Ok and at each fault.
     ensures outcome { (input : List ℕ) × Consumes (R.remaining (inner_of reader.old)) (R.remaining (inner_of reader.new)) input
         × OutputOutcome playing world.old (W.contents (inner_of writer.old)) (lines_read (ended_of reader.new) input) world.new (W.contents (inner_of writer.new)) result }
     ensures ended { OnOk result (ended_of reader.new ≡ true) }
     ensures read_fault { result ≡ Err RunFault.Read → ended_of reader.new ≡ false }
-    ensures too_many_reads { result ≡ Err RunFault.TooManyReads → (ended_of reader.new ≡ false) × (reads_of reader.new ≡ MOST_READS) }
-    ensures reads { reads_of reader.new ≤ MOST_READS }
+    ensures too_many_reads { result ≡ Err RunFault.TooManyReads → (ended_of reader.new ≡ false) × (reads_of reader.new ≡ most_reads) }
+    ensures reads { reads_of reader.new ≤ most_reads }
     ensures reader_failed { failed_of reader.new ≡ is_read_fault result }
     ensures writer_failed { failed_of writer.new ≡ is_write_fault result }
 {
     output_of_run::<Playing>();
-    match run_lines::<Playing, R, W>(alloc, reader, writer, world) {
-        Ok(summary) => Ok(summary),
-        Err(fault) => Err(fault),
-    }
+    let ended = run_lines::<Playing, R, W>(alloc, reader, writer, world, MOST_READS);
+    world.right_histories();
+    ended
 }
 
 #[cfg(test)]

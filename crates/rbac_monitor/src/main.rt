@@ -1,18 +1,9 @@
 //! Plays a schedule of JSON lines on a founding, and answers each line on standard output.
 #![tactic(auto)]
 
-mod command;
-mod fault;
-mod founding_file;
-mod play;
-mod words;
-
-use command::program;
+use rbac_program::command::program;
 use std::process::ExitCode;
 
 fn main(rt: HostRuntime) -> ExitCode {
     ExitCode::from(program(&rt, rt.stdin(), rt.stdout(), &mut rt.stderr()))
 }
-
-#[cfg(test)]
-mod tests;

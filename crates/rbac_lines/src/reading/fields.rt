@@ -6,10 +6,11 @@ ghost use Rattle.std.specs.List.{list_all, list_any};
 ghost use Rattle.std.specs.Str.{bytes_eq};
 ghost use Rattle.serde_json.specs.Find.{as_str};
 ghost use Rattle.serde_json.specs.View.{view, items_view, members_view};
-ghost use Rattle.rbac_lines.specs.Steps.{seen};
+ghost use Rattle.rbac_founding.specs.Steps.{seen};
 ghost use Rattle.rbac_lines.specs.Fields.{Reads, value_in, whole_in, text_in, object_in, name_of, name_in, names_of, names_in, only_keys};
 
 use crate::refusal::LineRefusal;
+use rbac_founding::keys::is_one_of;
 use rbac_words::{Name, NameRefusal, NameSet};
 use serde_json::{Map, Value};
 use std::alloc::Global;
@@ -105,13 +106,6 @@ pub(crate) fn names_in(alloc: Global, object: &Object, key: &str) -> Result<Name
     let value = value_in(object, key)?;
     let array = value.as_array().ok_or(LineRefusal::WrongKind)?;
     names_of(alloc, array)
-}
-
-/// Whether a key is one of these.
-pub(crate) fn is_one_of(keys: &[&str], key: &str) -> bool
-    ensures { result ≡ list_any (λ known. bytes_eq key.now known.now) keys.now }
-{
-    keys.iter().any(|known| key == *known)
 }
 
 fn has_only(object: &Object, keys: &[&str]) -> bool

@@ -2,9 +2,9 @@ use Rattle.std.proofs.Common.{ap, ◌∙◌, option_map}
 use Rattle.std.specs.Option.{ok_or}
 use Rattle.serde_json.specs.View.{view}
 use Rattle.serde_json.proofs.Views.{view_of_ref, view-lookup}
-use Rattle.rbac_lines.specs.Steps.{seen}
+use Rattle.rbac_founding.specs.Steps.{seen}
 use Rattle.rbac_lines.specs.declared.refusal.LineRefusal.TheVariants.{MissingField}
-use Rattle.rbac_lines.proofs.FieldLemmas.{seen-ok_or}
+use Rattle.rbac_founding.proofs.ReadingLemmas.{seen-ok_or}
 use Rattle.rbac_lines.proofs.reading.fields.value_in.Goals as goal
 
 pub returns : goal.returns

@@ -1,0 +1,4 @@
+pub mod LongLemmas
+pub mod Utf8Lemmas
+pub mod ReadingLemmas
+pub mod FoundingLemmas

@@ -1,0 +1,5 @@
+pub mod Steps
+pub mod Keys
+pub mod FoundingFile
+pub mod FoundingEntries
+pub mod Sample

@@ -1,0 +1,21 @@
+//! What a world is founded with: a founding file is read as a group and a vocabulary, and there is a sample.
+#![tactic(auto)]
+
+mod document;
+mod entries;
+mod founding;
+pub mod keys;
+pub mod limits;
+mod names;
+mod reading;
+mod refusal;
+mod sample;
+mod values;
+
+pub use founding::Founding;
+pub use reading::read_founding;
+pub use refusal::FoundingRefusal;
+pub use sample::sample_founding;
+
+#[cfg(test)]
+mod tests;

@@ -1,0 +1,88 @@
+//! Reading a founding file.
+ghost use Rattle.std.specs.Prelude.{◌≡◌, ◌≢◌, ◌≤◌, IfOk, IfErr, Ok, Err, IsTrue, OnOk, length};
+ghost use Rattle.rbac_founding.specs.FoundingFile.{Reads, are_few, founding_of, group_of, in_range, vocabulary_of};
+ghost use Rattle.rbac_founding.specs.FoundingEntries.{entries_view};
+
+use crate::document::{document_of, right_keys};
+use crate::entries::entries_of;
+use crate::founding::Founding;
+use crate::limits::{
+    FOUNDED_MEMBERS, LAST_CLOCK, MOST_OBJECTS, MOST_OPERATIONS, MOST_PERMISSIONS, MOST_SENT,
+};
+use crate::names::{names_of, permissions_of};
+use crate::refusal::FoundingRefusal;
+use crate::values::Entries;
+use rbac_words::{Group, Vocabulary, VocabularyRefusal};
+use std::alloc::Global;
+
+/// Reads a founding file. It is refused for the first of these, each over the whole file: it is too long, it is no
+/// TOML; its version is another one, it has a key too much, it has one too little; a value is of another kind; a number
+/// is out of range or a list too long; a text is no name, something stands twice, a permission speaks of what is not
+/// listed.
+#[tactic(auto, unfolding(crate::specs::FoundingFile::founding_of))]
+pub fn read_founding(alloc: Global, file: &[u8]) -> Result<Founding, FoundingRefusal>
+    ensures founding_read { IfOk result (λ founding. founding_of file.now ≡ Ok founding) }
+    ensures first_refusal { IfErr result (λ refusal. refusal ≢ FoundingRefusal.NoMemory → founding_of file.now ≡ Err refusal) }
+    ensures of_one { IfOk result (λ founding. founding.group.members ≡ 1) }
+{
+    let document = document_of(alloc, file)?;
+    right_keys(&document)?;
+    let entries = entries_of(&document)?;
+    let group = group_of(&entries)?;
+    let vocabulary = vocabulary_of(alloc, &entries)?;
+    Ok(Founding { group, vocabulary })
+}
+
+/// The number, if it is one of these.
+fn in_range(number: i64, least: u64, most: u64) -> Result<u64, FoundingRefusal>
+    ensures number { result ≡ in_range least most number }
+    ensures within { IfOk result (λ natural. (least ≤ natural) × (natural ≤ most)) }
+{
+    match u64::try_from(number) {
+        Ok(natural) if least <= natural && natural <= most => Ok(natural),
+        _ => Err(FoundingRefusal::OutOfRange),
+    }
+}
+
+fn are_few(entries: &Entries) -> bool
+    ensures { result ≡ are_few (entries_view entries.now) }
+{
+    entries.operations.len() <= MOST_OPERATIONS
+        && entries.objects.len() <= MOST_OBJECTS
+        && entries.permissions.len() <= MOST_PERMISSIONS
+}
+
+/// The group, where all numbers and all lists are in range.
+fn group_of(entries: &Entries) -> Result<Group, FoundingRefusal>
+    ensures group { result ≡ group_of (entries_view entries.now) }
+    ensures of_one { IfOk result (λ group. group.members ≡ 1) }
+    ensures few { OnOk result (IsTrue (are_few (entries_view entries.now))) }
+{
+    let members = in_range(entries.members, 1, FOUNDED_MEMBERS)?;
+    let clock = in_range(entries.clock, 0, LAST_CLOCK)?;
+    let sent_limit = in_range(entries.sent_limit, 1, u64::from(MOST_SENT))?;
+    if !are_few(entries) {
+        return Err(FoundingRefusal::OutOfRange);
+    }
+    let Ok(group) = Group::build(members as u32, clock, sent_limit as u32) else {
+        unreachable!()
+    };
+    Ok(group)
+}
+
+/// The vocabulary of lists that are within their limits.
+fn vocabulary_of(alloc: Global, entries: &Entries) -> Result<Vocabulary, FoundingRefusal>
+    requires { IsTrue (are_few (entries_view entries.now)) }
+    ensures { Reads (vocabulary_of (entries_view entries.now)) result }
+{
+    let operations = names_of(alloc, entries.operations)?;
+    let objects = names_of(alloc, entries.objects)?;
+    let permissions = permissions_of(alloc, entries.permissions)?;
+    match Vocabulary::build(operations, objects, permissions) {
+        Ok(vocabulary) => Ok(vocabulary),
+        Err(VocabularyRefusal::TooMany) => unreachable!(),
+        Err(VocabularyRefusal::Repeated) => Err(FoundingRefusal::Repeated),
+        Err(VocabularyRefusal::UnknownName) => Err(FoundingRefusal::UnknownName),
+        Err(VocabularyRefusal::NoMemory) => Err(FoundingRefusal::NoMemory),
+    }
+}

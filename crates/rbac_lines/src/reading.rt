@@ -1,0 +1,94 @@
+//! Lines as events.
+ghost use Rattle.std.specs.Prelude.{◌≡◌, ◌≢◌, IfOk, IfErr, Ok, Err};
+ghost use Rattle.serde_json.specs.View.{view, members_view};
+ghost use Rattle.rbac_lines.specs.Fields.{Reads};
+ghost use Rattle.rbac_lines.specs.Event.{event, event_of, value_of, submit, receive, deliver};
+
+mod commands;
+pub(crate) mod fields;
+
+use crate::reading::commands::command_of;
+use crate::reading::fields::{Object, object_in, only_keys, text_in, whole_in};
+use crate::refusal::LineRefusal;
+use line_engine::LONGEST_LINE;
+use rbac_words::Event;
+use serde_json::Value;
+use std::alloc::Global;
+
+/// Reads a line, without its line feed. It is refused for the first of these: it is too long, it is no JSON, it is no
+/// object; then for what the outer object lacks or has too much; and only then for what its command does.
+#[tactic(auto, unfolding(crate::specs::Event::event))]
+pub fn read_line(alloc: Global, line: &[u8]) -> Result<Event, LineRefusal>
+    ensures event_read { IfOk result (λ answer. event line.now ≡ Ok answer) }
+    ensures first_refusal { IfErr result (λ refusal. refusal ≢ LineRefusal.NoMemory → event line.now ≡ Err refusal) }
+{
+    let value = value_of(alloc, line)?;
+    let object = value.as_object().ok_or(LineRefusal::NotObject)?;
+    event_of(alloc, object)
+}
+
+/// The value of a line of JSON. Bytes that are not UTF-8 are no JSON.
+fn value_of(alloc: Global, line: &[u8]) -> Result<Value, LineRefusal>
+    ensures value_read { IfOk result (λ value. value_of line.now ≡ Ok (view value)) }
+    ensures first_refusal { IfErr result (λ refusal. refusal ≢ LineRefusal.NoMemory → value_of line.now ≡ Err refusal) }
+{
+    if LONGEST_LINE < line.len() {
+        return Err(LineRefusal::TooLong);
+    }
+    match Value::from_slice(alloc, line) {
+        Ok(value) => Ok(value),
+        Err(error) if error.is_memory() => Err(LineRefusal::NoMemory),
+        Err(_) => Err(LineRefusal::NotJson),
+    }
+}
+
+fn event_of(alloc: Global, object: &Object) -> Result<Event, LineRefusal>
+    ensures { Reads (event_of (members_view object.now.entries)) result }
+{
+    let word = text_in(object, "do")?;
+    match word {
+        "submit" => submit(alloc, object),
+        "receive" => receive(object),
+        "deliver" => deliver(object),
+        _ => Err(LineRefusal::UnknownWord),
+    }
+}
+
+/// The outer object is checked whole before its command is looked into.
+fn submit(alloc: Global, object: &Object) -> Result<Event, LineRefusal>
+    ensures { Reads (submit (members_view object.now.entries)) result }
+{
+    let at = whole_in(object, "at")?;
+    let caller = whole_in(object, "caller")?;
+    let serial = whole_in(object, "serial")?;
+    let fields = object_in(object, "command")?;
+    only_keys(object, &["do", "at", "caller", "serial", "command"])?;
+    let command = command_of(alloc, fields)?;
+    Ok(Event::Submit {
+        at,
+        caller,
+        serial,
+        command,
+    })
+}
+
+fn receive(object: &Object) -> Result<Event, LineRefusal>
+    ensures { result ≡ receive (members_view object.now.entries) }
+{
+    let at = whole_in(object, "at")?;
+    let from = whole_in(object, "from")?;
+    let number = whole_in(object, "number")?;
+    only_keys(object, &["do", "at", "from", "number"])?;
+    Ok(Event::Receive { at, from, number })
+}
+
+fn deliver(object: &Object) -> Result<Event, LineRefusal>
+    ensures { result ≡ deliver (members_view object.now.entries) }
+{
+    let at = whole_in(object, "at")?;
+    only_keys(object, &["do", "at"])?;
+    Ok(Event::Deliver { at })
+}
+
+#[cfg(test)]
+mod tests;

@@ -1,0 +1,20 @@
+-- The line that tells why the program ended with status 1.
+use Rattle.std.specs.Prelude.{ℕ, List, ◌++◌, codes}
+use Rattle.line_engine.specs.declared.report.RunFault.{RunFault}
+use Rattle.line_engine.specs.declared.report.RunFault.TheVariants.{Read, Write, TooManyReads, NoMemory}
+use Rattle.rbac_founding.specs.FoundingFile.{founding_refusal_word}
+use Rattle.rbac_program.specs.declared.fault.Fault.{Fault}
+use Rattle.rbac_program.specs.declared.fault.Fault.TheVariants.{File, Founding, Run}
+
+-- the word of a run's fault
+abbrev pub run_fault_word : RunFault → List ℕ
+run_fault_word Read = codes "Read"
+run_fault_word Write = codes "Write"
+run_fault_word TooManyReads = codes "TooManyReads"
+run_fault_word NoMemory = codes "NoMemory"
+
+-- the path of a file that cannot be read, the word of a founding's refusal, or that of a run's fault
+abbrev pub fault_text : Fault → List ℕ
+fault_text (File path) = codes "rbac_monitor: file: " ++ path.now
+fault_text (Founding refusal) = codes "rbac_monitor: founding: " ++ founding_refusal_word refusal
+fault_text (Run fault) = codes "rbac_monitor: run: " ++ run_fault_word fault

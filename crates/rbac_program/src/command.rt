@@ -1,0 +1,124 @@
+//! The whole program but for the standard streams.
+ghost use Rattle.std.specs.Prelude.{◌≡◌, ◌≢◌, ◌≤◌, IfSome, false, length};
+ghost use Rattle.std.specs.IoError.{error_kind};
+ghost use Rattle.std.specs.Io.KnownBytes.{Appends};
+ghost use Rattle.line_engine.specs.Watched.{failed_of, inner_of};
+ghost use Rattle.rbac_lines.specs.Output.{output};
+ghost use Rattle.rbac_program.specs.Sample.{sample_world};
+
+use crate::fault::Fault;
+use crate::play::play;
+use crate::words::read_words;
+use clap::Error;
+use rbac_lines::{Watched, watch};
+use std::alloc::AllocError;
+use std::convert::AsStr;
+use std::fmt::Display;
+use std::io::{ErrorKind, Read, Write};
+use std::rt::{Env, Files};
+use std::{env, io};
+
+/// The input was read to its end, or help was asked for.
+const DONE: u8 = 0;
+
+/// A fault of a file, of the founding or of the run.
+const FAULT: u8 = 1;
+
+/// The command line is refused.
+const REFUSED: u8 = 2;
+
+/// Does what the words say, of which the first is the program's name, and answers the status: 0 where the input was read
+/// to its end or help was asked for, 1 after a fault, 2 where the words are refused. Without other words the sample is
+/// played, as `watched_command` says.
+pub fn command<T: Files + AllocGlobal, S: AsStr, R: Read + Drop, W: Write + Drop, E: Write>(
+    rt: &T,
+    words: &[S],
+    reader: R,
+    writer: W,
+    errors: &mut E,
+) -> u8
+    ensures status { result ≤ 2 }
+    ensures not_refused { length words.now ≤ 1 → result ≤ 1 }
+{
+    watched_command(rt, words, reader, &mut watch(writer), errors)
+}
+
+// The same over a writer under watch, which tells what was written.
+fn watched_command<T: Files + AllocGlobal, S: AsStr, R: Read + Drop, W: Write, E: Write>(
+    rt: &T,
+    words: &[S],
+    reader: R,
+    writer: &mut Watched<W>,
+    errors: &mut E,
+) -> u8
+    requires { failed_of writer.old ≡ false }
+    ensures status { result ≤ 2 }
+    ensures not_refused { length words.now ≤ 1 → result ≤ 1 }
+    ensures sample_played { length words.now ≤ 1 → result ≡ 0 →
+        IfSome (R.remaining reader) (λ input. Appends (W.contents (inner_of writer.old)) (W.contents (inner_of writer.new)) (output input sample_world)) }
+{
+    match read_words(rt.alloc(), words) {
+        Ok(asked) => match play(rt, asked, reader, writer) {
+            Ok(()) => DONE,
+            Err(fault) => tell(errors, fault),
+        },
+        Err(error) if error.kind() == clap::error::ErrorKind::OutOfMemory => {
+            tell(errors, Fault::from(AllocError))
+        }
+        Err(error) if error.use_stderr() => {
+            put(errors, &error);
+            REFUSED
+        }
+        Err(help) => {
+            put(writer, &help);
+            DONE
+        }
+    }
+}
+
+fn words_of<T: Env + AllocGlobal>(rt: &T) -> io::Result<Vec<String>> {
+    let words = env::args(rt)?.collect(rt.alloc())?;
+    Ok(words)
+}
+
+/// Does what the words of the process say, as `command` does. Words that are not text are refused.
+pub fn program<T: Files + Env + AllocGlobal, R: Read + Drop, W: Write + Drop, E: Write>(
+    rt: &T,
+    reader: R,
+    writer: W,
+    errors: &mut E,
+) -> u8
+    ensures { result ≤ 2 }
+{
+    match words_of(rt) {
+        Ok(words) => command(rt, &words, reader, writer, errors),
+        Err(error) => no_words(&error, errors),
+    }
+}
+
+/// Tells why the words could not be taken: they are not text, or there is no memory.
+pub(crate) fn no_words<E: Write>(error: &io::Error, errors: &mut E) -> u8
+    ensures no_memory { error_kind error.now ≡ ErrorKind.OutOfMemory → result ≡ 1 }
+    ensures not_text { error_kind error.now ≢ ErrorKind.OutOfMemory → result ≡ 2 }
+{
+    match error.kind() {
+        ErrorKind::OutOfMemory => tell(errors, Fault::from(AllocError)),
+        _ => {
+            put(errors, &"error: a word of the command line is not text\n");
+            REFUSED
+        }
+    }
+}
+
+/// Writes a text. Where it cannot be written the status tells what happened.
+fn put<W: Write, D: Display>(stream: &mut W, text: &D) {
+    let _ = write!(stream, "{text}");
+}
+
+/// Tells a fault, and answers its status.
+fn tell<E: Write>(errors: &mut E, fault: Fault<'_>) -> u8
+    ensures { result ≡ 1 }
+{
+    let _ = writeln!(errors, "{fault}");
+    FAULT
+}

@@ -1,0 +1,77 @@
+//! What ends the program with status 1.
+ghost use Rattle.std.specs.Prelude.{◌≡◌};
+ghost use Rattle.rbac_program.specs.Faults.{run_fault_word};
+
+use rbac_founding::FoundingRefusal;
+use rbac_lines::RunFault;
+use std::alloc::AllocError;
+use std::fmt;
+use std::fmt::{Display, Formatter};
+
+/// The first fault that was found.
+#[derive(Clone, Copy, Drop)]
+pub(crate) enum Fault<'w> {
+    /// The file of this path cannot be read.
+    File(&'w str),
+    /// The founding's file is refused, or there is no memory for the founding world.
+    Founding(FoundingRefusal),
+    /// The run ended early.
+    Run(RunFault),
+}
+
+impl From<FoundingRefusal> for Fault<'_> {
+    ghost use Rattle.rbac_program.specs.declared.fault.Fault.TheVariants.{Founding};
+
+    ghost from_gives = { λ refusal fault. fault ≡ Founding refusal };
+
+    fn from(refusal: FoundingRefusal) -> Self {
+        Fault::Founding(refusal)
+    }
+}
+
+impl From<AllocError> for Fault<'_> {
+    ghost use Rattle.rbac_founding.specs.declared.refusal.FoundingRefusal.TheVariants.{NoMemory};
+    ghost use Rattle.rbac_program.specs.declared.fault.Fault.TheVariants.{Founding};
+
+    ghost from_gives = { λ _ fault. fault ≡ Founding NoMemory };
+
+    fn from(_refused: AllocError) -> Self {
+        Fault::Founding(FoundingRefusal::NoMemory)
+    }
+}
+
+impl From<RunFault> for Fault<'_> {
+    ghost use Rattle.rbac_program.specs.declared.fault.Fault.TheVariants.{Run};
+
+    ghost from_gives = { λ run fault. fault ≡ Run run };
+
+    fn from(fault: RunFault) -> Self {
+        Fault::Run(fault)
+    }
+}
+
+fn run_fault_word(fault: RunFault) -> &'static str
+    ensures { result.now ≡ run_fault_word fault }
+{
+    match fault {
+        RunFault::Read => "Read",
+        RunFault::Write => "Write",
+        RunFault::TooManyReads => "TooManyReads",
+        RunFault::NoMemory => "NoMemory",
+    }
+}
+
+impl Display for Fault<'_> {
+    ghost use Rattle.std.specs.Prelude.{Some};
+    ghost use Rattle.rbac_program.specs.Faults.{fault_text};
+
+    ghost output = { λ fault. Some (fault_text fault) };
+
+    fn fmt<W: fmt::Write>(&self, f: &mut Formatter<W>) -> fmt::Result {
+        match *self {
+            Fault::File(path) => write!(f, "rbac_monitor: file: {path}"),
+            Fault::Founding(refusal) => write!(f, "rbac_monitor: founding: {}", refusal.word()),
+            Fault::Run(fault) => write!(f, "rbac_monitor: run: {}", run_fault_word(fault)),
+        }
+    }
+}

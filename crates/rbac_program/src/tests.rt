@@ -1,0 +1,210 @@
+//! What words, files and streams get: status, output and errors.
+
+use crate::command::{command, no_words};
+use crate::fault::Fault;
+use crate::founding_file::read_file;
+use rbac_founding::FoundingRefusal;
+use std::io::{Error, ErrorKind, Read, Write};
+use std::test::Fail;
+use std::{fs, io};
+
+const SCHEDULE: &[u8] =
+    br#"{"do":"submit","at":1,"caller":0,"serial":0,"command":{"name":"AddUser","user":"ann"}}
+{"do":"deliver","at":1}
+"#;
+
+const ANSWERS: &[u8] = br#"{"line":1,"stamp":[1,1]}
+{"answer":"Done","caller":0,"line":2,"serial":0,"stamp":[1,1]}
+"#;
+
+/// A call with these words after the program's name, whose standard input is the schedule, gets this status and this
+/// output, and writes no error.
+fn expect(rt: &HostRuntime, words: &[&str], status: u8, answers: &[u8]) {
+    let mut output = Vec::new(rt.alloc());
+    let mut errors = Vec::new(rt.alloc());
+    let answered = command(rt, words, SCHEDULE, &mut output, &mut errors);
+    assert_eq!(rt; answered, status);
+    assert!(rt; output.as_slice() == answers);
+    assert!(rt; errors.is_empty());
+}
+
+#[test]
+fn plays_standard_input(rt: HostRuntime) {
+    expect(&rt, &["rbac_monitor"], 0, ANSWERS);
+    expect(&rt, &["rbac_monitor", "play", "-", "-"], 0, ANSWERS);
+}
+
+#[test]
+fn plays_on_a_founding_file(rt: HostRuntime) -> Result<(), Fail> {
+    let founding =
+        b"version = 1\nmembers = 1\nclock = 7\noperations = []\nobjects = []\npermissions = []\n";
+    fs::write(&rt, "clock_7.toml", founding)?;
+    let answers = br#"{"line":1,"stamp":[8,1]}
+{"answer":"Done","caller":0,"line":2,"serial":0,"stamp":[8,1]}
+"#;
+    expect(
+        &rt,
+        &["rbac_monitor", "play", "clock_7.toml", "-"],
+        0,
+        answers.as_slice(),
+    );
+    fs::remove_file(&rt, "clock_7.toml")?;
+    Ok(())
+}
+
+#[test]
+fn plays_a_long_schedule_file(rt: HostRuntime) -> Result<(), Fail> {
+    let mut schedule = Vec::new(rt.alloc());
+    let mut answers = Vec::new(rt.alloc());
+    for line in 1..=50_000 {
+        schedule.extend_from_slice(b"{\"do\":\"deliver\",\"at\":1}\n")?;
+        write!(answers, "{{\"answer\":null,\"line\":{line}}}\n")?;
+    }
+    assert!(rt; schedule.len() > 1_048_576);
+    fs::write(&rt, "long.jsonl", &schedule)?;
+    expect(
+        &rt,
+        &["rbac_monitor", "play", "-", "long.jsonl"],
+        0,
+        &answers,
+    );
+    fs::remove_file(&rt, "long.jsonl")?;
+    Ok(())
+}
+
+/// Gives so many blanks, and fails after them.
+#[derive(Drop)]
+struct Blanks {
+    left: usize,
+}
+
+impl Read for Blanks {
+    fn read(&mut self, buf: &mut [u8]) -> io::Result<usize> {
+        let count = self.left.min(buf.len());
+        if count == 0 {
+            return Err(Error::from(ErrorKind::ConnectionReset));
+        }
+        buf[..count].fill(b' ');
+        self.left -= count;
+        Ok(count)
+    }
+}
+
+#[test]
+fn reads_one_byte_more_than_a_founding_file_may_have(rt: HostRuntime) {
+    let too_long = read_file(rt.alloc(), "blanks", Blanks { left: 1_048_577 });
+    assert!(rt; matches!(too_long, Err(Fault::Founding(FoundingRefusal::TooLong))));
+    let unread = read_file(rt.alloc(), "blanks", Blanks { left: 1_048_576 });
+    assert!(rt; matches!(unread, Err(Fault::File("blanks"))));
+}
+
+/// Playing this founding and this schedule ends with status 1, no output and this line.
+fn expect_fault(rt: &HostRuntime, founding: &str, schedule: &str, line: &str) {
+    let mut output = Vec::new(rt.alloc());
+    let mut errors = Vec::new(rt.alloc());
+    let words = ["rbac_monitor", "play", founding, schedule];
+    let status = command(rt, &words, SCHEDULE, &mut output, &mut errors);
+    assert_eq!(rt; status, 1);
+    assert!(rt; output.is_empty());
+    assert!(rt; errors.as_slice() == line.as_bytes());
+}
+
+#[test]
+fn tells_a_fault_in_one_line(rt: HostRuntime) -> Result<(), Fail> {
+    let no_schedule = "no/schedule.jsonl";
+    let no_founding = "no/founding.toml";
+    fs::write(&rt, "version_2.toml", b"version = 2\n")?;
+    expect_fault(
+        &rt,
+        no_founding,
+        no_schedule,
+        "rbac_monitor: file: no/founding.toml\n",
+    );
+    expect_fault(&rt, "/", "-", "rbac_monitor: file: /\n");
+    expect_fault(
+        &rt,
+        "version_2.toml",
+        no_schedule,
+        "rbac_monitor: founding: BadVersion\n",
+    );
+    expect_fault(
+        &rt,
+        "-",
+        no_schedule,
+        "rbac_monitor: file: no/schedule.jsonl\n",
+    );
+    expect_fault(&rt, "-", "/", "rbac_monitor: run: Read\n");
+    fs::remove_file(&rt, "version_2.toml")?;
+    Ok(())
+}
+
+/// Fails at each call.
+#[derive(Drop)]
+struct Broken;
+
+impl Write for Broken {
+    fn write(&mut self, _buf: &[u8]) -> io::Result<usize> {
+        Err(Error::from(ErrorKind::BrokenPipe))
+    }
+
+    fn flush(&mut self) -> io::Result<()> {
+        Ok(())
+    }
+}
+
+#[test]
+fn keeps_the_status_where_nothing_can_be_written(rt: HostRuntime) {
+    let mut errors = Vec::new(rt.alloc());
+    let status = command(&rt, &["rbac_monitor"], SCHEDULE, Broken, &mut errors);
+    assert_eq!(rt; status, 1);
+    assert!(rt; errors.as_slice() == b"rbac_monitor: run: Write\n".as_slice());
+    for (words, status) in [
+        (["rbac_monitor"].as_slice(), 1),
+        (&["rbac_monitor", "fly"], 2),
+        (&["rbac_monitor", "--help"], 0),
+    ] {
+        let answered = command(&rt, words, SCHEDULE, Broken, &mut Broken);
+        assert_eq!(rt; answered, status);
+    }
+}
+
+#[test]
+fn refuses_words_that_it_does_not_know(rt: HostRuntime) {
+    for words in [
+        ["rbac_monitor", "fly"].as_slice(),
+        &["rbac_monitor", "play", "-"],
+    ] {
+        let mut output = Vec::new(rt.alloc());
+        let mut errors = Vec::new(rt.alloc());
+        let status = command(&rt, words, SCHEDULE, &mut output, &mut errors);
+        assert_eq!(rt; status, 2);
+        assert!(rt; output.is_empty());
+        assert!(rt; !errors.is_empty());
+    }
+}
+
+#[test]
+fn refuses_words_that_are_no_text(rt: HostRuntime) {
+    let mut errors = Vec::new(rt.alloc());
+    let status = no_words(&Error::from(ErrorKind::InvalidData), &mut errors);
+    assert_eq!(rt; status, 2);
+    assert!(rt; errors.as_slice() == b"error: a word of the command line is not text\n".as_slice());
+}
+
+#[test]
+fn shows_help_and_version(rt: HostRuntime) {
+    for word in ["--help", "--version"] {
+        let mut output = Vec::new(rt.alloc());
+        let mut errors = Vec::new(rt.alloc());
+        let status = command(
+            &rt,
+            &["rbac_monitor", word],
+            SCHEDULE,
+            &mut output,
+            &mut errors,
+        );
+        assert_eq!(rt; status, 0);
+        assert!(rt; !output.is_empty());
+        assert!(rt; errors.is_empty());
+    }
+}
