@@ -51,7 +51,7 @@ fn hold(alloc: Global, held: &mut VecDeque<Submission>, message: &Message) -> Re
             serial,
             command,
         } => {
-            let command = command.copy(alloc)?;
+            let command = command.copy()?;
             held.push_back(Submission {
                 stamp: *stamp,
                 caller: *caller,
@@ -297,7 +297,7 @@ impl Member {
         if let Err(refusal) = self.next_stamp(caller, serial) {
             return Err(refusal);
         }
-        match command.copy(alloc) {
+        match command.copy() {
             Ok(command) => self.submit(alloc, caller, serial, command),
             Err(AllocError) => Err(SubmitRefusal::NoMemory),
         }
