@@ -1,17 +1,15 @@
+//! Each public call with ample memory, and the limits of roles and sets. What commands answer is played by the goldens.
+
 use crate::Policy;
-use rbac_words::{Denial, Name, Vocabulary};
+use rbac_words::{Answer, Command, Denial, Name, NameSet, Review, Separation, Vocabulary};
+use sorted_keys::SortedSet;
 use std::alloc::Global;
 use std::process::Abort;
 use std::test::Fail;
 
-mod deletions;
-mod hierarchy;
-mod reviews;
-mod rows;
-mod separation;
-mod sessions;
-
-use rows::{name, play};
+fn name(rt: &impl Abort, alloc: Global, text: &str) -> Name {
+    Name::read(alloc, text.as_bytes()).expect(rt, "a name")
+}
 
 fn names(rt: &impl Abort, alloc: Global, texts: &[&str]) -> Vec<Name> {
     let mut names = Vec::new(alloc);
@@ -21,100 +19,145 @@ fn names(rt: &impl Abort, alloc: Global, texts: &[&str]) -> Vec<Name> {
     names
 }
 
-// The policy of the sample vocabulary: read ledger, pay invoice and approve invoice.
+fn set(rt: &impl Abort, alloc: Global, texts: &[&str]) -> NameSet {
+    NameSet::of(SortedSet::from_vec(names(rt, alloc, texts)).expect(rt, "no name stands twice"))
+}
+
+// The policy that may read ledgers, and nothing else.
 fn founded(rt: &impl Abort, alloc: Global) -> Policy {
     let mut permissions = Vec::new(alloc);
-    for (operation, object) in [
-        ("approve", "invoice"),
-        ("pay", "invoice"),
-        ("read", "ledger"),
-    ] {
-        permissions
-            .push((name(rt, alloc, operation), name(rt, alloc, object)))
-            .expect(rt, "memory");
-    }
+    let read = (name(rt, alloc, "read"), name(rt, alloc, "ledger"));
+    permissions.push(read).expect(rt, "memory");
     let vocabulary = Vocabulary::build(
-        names(rt, alloc, &["approve", "pay", "read"]),
-        names(rt, alloc, &["invoice", "ledger"]),
+        names(rt, alloc, &["pay", "read"]),
+        names(rt, alloc, &["ledger"]),
         permissions,
     )
     .expect(rt, "a vocabulary");
     Policy::found(alloc, vocabulary)
 }
 
-// A policy to which these rows were done.
-fn played(rt: &impl Abort, alloc: Global, rows: &[(&str, &str)]) -> Policy {
+// Applies a command, and compares its answer.
+fn expect_answer(
+    rt: &impl Abort,
+    alloc: Global,
+    policy: &mut Policy,
+    command: Command,
+    wanted: Answer,
+) {
+    let answer = policy.apply(alloc, &command).expect(rt, "memory");
+    assert!(rt; answer.same(&wanted));
+}
+
+fn expect_done(rt: &impl Abort, alloc: Global, policy: &mut Policy, command: Command) {
+    expect_answer(rt, alloc, policy, command, Answer::Done);
+}
+
+fn add_user(rt: &impl Abort, alloc: Global, policy: &mut Policy, user: &str) {
+    let user = name(rt, alloc, user);
+    expect_done(rt, alloc, policy, Command::AddUser { user });
+}
+
+fn add_role(rt: &impl Abort, alloc: Global, policy: &mut Policy, role: &str) {
+    let role = name(rt, alloc, role);
+    expect_done(rt, alloc, policy, Command::AddRole { role });
+}
+
+fn assign(rt: &impl Abort, alloc: Global, policy: &mut Policy, user: &str, role: &str) {
+    let (user, role) = (name(rt, alloc, user), name(rt, alloc, role));
+    expect_done(rt, alloc, policy, Command::AssignUser { user, role });
+}
+
+fn grant(rt: &impl Abort, alloc: Global, policy: &mut Policy, role: &str) {
+    let command = Command::GrantPermission {
+        operation: name(rt, alloc, "read"),
+        object: name(rt, alloc, "ledger"),
+        role: name(rt, alloc, role),
+    };
+    expect_done(rt, alloc, policy, command);
+}
+
+fn open_session(
+    rt: &impl Abort,
+    alloc: Global,
+    policy: &mut Policy,
+    session: &str,
+    roles: &[&str],
+) {
+    let command = Command::CreateSession {
+        user: name(rt, alloc, "ann"),
+        session: name(rt, alloc, session),
+        roles: set(rt, alloc, roles),
+    };
+    expect_done(rt, alloc, policy, command);
+}
+
+// Ann, a clerk, may read ledgers in her session s1, and not in s2.
+fn a_clerk(rt: &impl Abort, alloc: Global) -> Policy {
     let mut policy = founded(rt, alloc);
-    play(rt, alloc, &mut policy, rows);
+    add_user(rt, alloc, &mut policy, "ann");
+    add_role(rt, alloc, &mut policy, "clerk");
+    assign(rt, alloc, &mut policy, "ann", "clerk");
+    grant(rt, alloc, &mut policy, "clerk");
+    open_session(rt, alloc, &mut policy, "s1", &["clerk"]);
+    open_session(rt, alloc, &mut policy, "s2", &[]);
     policy
 }
 
-// Ann, a clerk, may read ledgers.
-const A_CLERK: [(&str, &str); 4] = [
-    ("AddUser ann", "Done"),
-    ("AddRole clerk", "Done"),
-    ("AssignUser ann clerk", "Done"),
-    ("GrantPermission read ledger clerk", "Done"),
-];
-
-#[test]
-fn denies_what_exists_and_what_does_not(rt: HostRuntime) {
-    let mut policy = played(&rt, rt.alloc(), &A_CLERK);
-    play(
-        &rt,
-        rt.alloc(),
-        &mut policy,
-        &[
-            ("AddUser ann", "UserExists"),
-            ("AddRole clerk", "RoleExists"),
-            ("AssignUser bob boss", "NoUser"),
-            ("AssignUser ann boss", "NoRole"),
-            ("AssignUser ann clerk", "Assigned"),
-            ("GrantPermission approve ledger boss", "NoPermission"),
-            ("GrantPermission read ledger boss", "NoRole"),
-            ("GrantPermission read ledger clerk", "Done"),
-        ],
-    );
+fn expect_access(
+    rt: &impl Abort,
+    alloc: Global,
+    policy: &mut Policy,
+    session: &str,
+    wanted: Answer,
+) {
+    let command = Command::CheckAccess {
+        session: name(rt, alloc, session),
+        operation: name(rt, alloc, "read"),
+        object: name(rt, alloc, "ledger"),
+    };
+    expect_answer(rt, alloc, policy, command, wanted);
 }
 
 #[test]
-fn creates_sessions(rt: HostRuntime) {
-    let mut policy = played(&rt, rt.alloc(), &A_CLERK);
-    play(
-        &rt,
-        rt.alloc(),
-        &mut policy,
-        &[
-            ("AddRole payer", "Done"),
-            ("CreateSession bob s1", "NoUser"),
-            ("CreateSession ann s1 clerk payer", "NotAuthorized"),
-            ("CreateSession ann s1 clerk", "Done"),
-            ("CreateSession ann s1 moon", "SessionExists"),
-        ],
-    );
+fn applies_changes_and_checks(rt: HostRuntime) {
+    let mut policy = a_clerk(&rt, rt.alloc());
+    policy.invariants();
+    expect_access(&rt, rt.alloc(), &mut policy, "s1", Answer::Granted);
+    expect_access(&rt, rt.alloc(), &mut policy, "s2", Answer::Refused);
+    let denied = Answer::Denied(Denial::NoSession);
+    expect_access(&rt, rt.alloc(), &mut policy, "zz", denied);
+}
+
+fn expect_review(
+    rt: &impl Abort,
+    alloc: Global,
+    policy: &mut Policy,
+    review: Review,
+    wanted: Answer,
+) {
+    expect_answer(rt, alloc, policy, Command::Review(review), wanted);
+}
+
+// The users that are assigned clerks.
+fn expect_clerks(rt: &impl Abort, alloc: Global, policy: &mut Policy, users: &[&str]) {
+    let role = name(rt, alloc, "clerk");
+    let wanted = Answer::Names(set(rt, alloc, users));
+    expect_review(rt, alloc, policy, Review::AssignedUsers { role }, wanted);
 }
 
 #[test]
-fn checks_by_command(rt: HostRuntime) {
-    let mut policy = played(&rt, rt.alloc(), &A_CLERK);
-    play(
-        &rt,
-        rt.alloc(),
-        &mut policy,
-        &[
-            ("CreateSession ann s1 clerk", "Done"),
-            ("CreateSession ann s2", "Done"),
-            ("CheckAccess s1 read ledger", "Granted"),
-            ("CheckAccess s2 read ledger", "Refused"),
-            ("CheckAccess s1 pay ledger", "Refused"),
-            ("CheckAccess zz fly moon", "NoSession"),
-            ("CheckAccess s1 fly moon", "NoOperation"),
-            ("CheckAccess s1 read moon", "NoObject"),
-        ],
-    );
+fn applies_reviews(rt: HostRuntime) {
+    let mut policy = a_clerk(&rt, rt.alloc());
+    expect_clerks(&rt, rt.alloc(), &mut policy, &["ann"]);
+    let review = Review::RoleSetCardinality {
+        kind: Separation::Static,
+        set: name(&rt, rt.alloc(), "d"),
+    };
+    let denied = Answer::Denied(Denial::NoSet);
+    expect_review(&rt, rt.alloc(), &mut policy, review, denied);
 }
 
-// Checks an access, and compares the answer.
 fn expect_check(
     rt: &impl Abort,
     alloc: Global,
@@ -128,70 +171,71 @@ fn expect_check(
     assert_eq!(rt; policy.check(&session, &operation, &object), wanted);
 }
 
-// Checks on a policy where ann's session s1 is a clerk's.
-fn expect_checks(rt: &impl Abort, alloc: Global, policy: &Policy) {
+#[test]
+fn checks_without_a_command(rt: HostRuntime) {
+    let policy = a_clerk(&rt, rt.alloc());
+    let copy = policy.copy().expect(&rt, "memory");
     for (words, wanted) in [
         (["s1", "read", "ledger"], Ok(true)),
-        (["s1", "pay", "ledger"], Ok(false)),
+        (["s2", "read", "ledger"], Ok(false)),
         (["zz", "fly", "moon"], Err(Denial::NoSession)),
         (["s1", "fly", "moon"], Err(Denial::NoOperation)),
         (["s1", "read", "moon"], Err(Denial::NoObject)),
     ] {
-        expect_check(rt, alloc, policy, words, wanted);
+        expect_check(&rt, rt.alloc(), &policy, words, wanted);
+        expect_check(&rt, rt.alloc(), &copy, words, wanted);
     }
 }
 
 #[test]
-fn checks_without_a_command(rt: HostRuntime) {
-    let mut policy = played(&rt, rt.alloc(), &A_CLERK);
-    let opened = [("CreateSession ann s1 clerk", "Done")];
-    play(&rt, rt.alloc(), &mut policy, &opened);
-    policy.invariants();
-    expect_checks(&rt, rt.alloc(), &policy);
-    let copy = policy.copy().expect(&rt, "memory");
-    expect_checks(&rt, rt.alloc(), &copy);
-}
-
-// Whether two policies are told to be the same.
-fn expect_same(rt: &impl Abort, policy: &Policy, other: &Policy, wanted: bool) {
-    assert_eq!(rt; policy.same(other), wanted);
-}
-
-#[test]
 fn tells_equal_policies(rt: HostRuntime) {
-    let mut policy = played(&rt, rt.alloc(), &A_CLERK);
+    let mut policy = a_clerk(&rt, rt.alloc());
     let copy = policy.copy().expect(&rt, "memory");
-    expect_same(&rt, &policy, &copy, true);
-    let opened = [("CreateSession ann s1 clerk", "Done")];
-    play(&rt, rt.alloc(), &mut policy, &opened);
-    expect_same(&rt, &policy, &copy, false);
-    let ended = [("DeleteSession ann s1", "Done")];
-    play(&rt, rt.alloc(), &mut policy, &ended);
-    expect_same(&rt, &policy, &copy, true);
-    let revoked = [("RevokePermission read ledger clerk", "Done")];
-    play(&rt, rt.alloc(), &mut policy, &revoked);
-    expect_same(&rt, &policy, &copy, false);
-}
-
-// Adds a role of this number.
-fn add_role(
-    rt: &impl Abort,
-    alloc: Global,
-    policy: &mut Policy,
-    number: u32,
-    wanted: &str,
-) -> Result<(), Fail> {
-    let text = format!(in alloc; "AddRole r{number}")?;
-    play(rt, alloc, policy, &[(text.as_str(), wanted)]);
-    Ok(())
+    assert!(rt; policy.same(&copy));
+    open_session(&rt, rt.alloc(), &mut policy, "s3", &[]);
+    assert!(rt; !policy.same(&copy));
 }
 
 #[test]
 fn stops_at_the_limit_of_roles(rt: HostRuntime) -> Result<(), Fail> {
     let mut policy = founded(&rt, rt.alloc());
     for number in 0..1024 {
-        add_role(&rt, rt.alloc(), &mut policy, number, "Done")?;
+        let role = format!(in rt.alloc(); "r{number}")?;
+        add_role(&rt, rt.alloc(), &mut policy, role.as_str());
     }
-    add_role(&rt, rt.alloc(), &mut policy, 1024, "Limit")?;
-    add_role(&rt, rt.alloc(), &mut policy, 1, "RoleExists")
+    let role = name(&rt, rt.alloc(), "r1024");
+    let limit = Answer::Denied(Denial::Limit);
+    expect_answer(
+        &rt,
+        rt.alloc(),
+        &mut policy,
+        Command::AddRole { role },
+        limit,
+    );
+    Ok(())
+}
+
+// The command that makes the static set of this number, of the roles a and b.
+fn set_command(rt: &impl Abort, alloc: Global, number: u32) -> Command {
+    let set_name = format!(in alloc; "d{number}").expect(rt, "memory");
+    Command::CreateSet {
+        kind: Separation::Static,
+        set: name(rt, alloc, set_name.as_str()),
+        roles: set(rt, alloc, &["a", "b"]),
+        n: 2,
+    }
+}
+
+#[test]
+fn stops_at_the_limit_of_sets(rt: HostRuntime) {
+    let mut policy = founded(&rt, rt.alloc());
+    add_role(&rt, rt.alloc(), &mut policy, "a");
+    add_role(&rt, rt.alloc(), &mut policy, "b");
+    for number in 0..256 {
+        let command = set_command(&rt, rt.alloc(), number);
+        expect_done(&rt, rt.alloc(), &mut policy, command);
+    }
+    let command = set_command(&rt, rt.alloc(), 256);
+    let limit = Answer::Denied(Denial::Limit);
+    expect_answer(&rt, rt.alloc(), &mut policy, command, limit);
 }

@@ -3,6 +3,7 @@ ghost use Rattle.std.specs.Prelude.{◌≡◌, None, Some, IfOk, IfErr, OnOk};
 ghost use Rattle.rbac_words.specs.Founding.{IsGroup};
 ghost use Rattle.rbac_words.specs.Build.{group_refusal};
 
+use crate::limits::{LAST_CLOCK, MOST_MEMBERS, MOST_SENT};
 use std::marker::Model;
 
 /// How many members a group has (1 to 8, numbered from 1), where their clocks start (0 to 9,007,199,254,740,991), and
@@ -33,12 +34,6 @@ pub enum GroupRefusal {
     BadClock,
     BadSentLimit,
 }
-
-const MOST_MEMBERS: u32 = 8;
-
-const LAST_CLOCK: u64 = 9_007_199_254_740_991;
-
-const MOST_SENT: u32 = 65_536;
 
 impl Group {
     /// A group of these numbers.

@@ -7,6 +7,7 @@ pub mod command;
 pub mod event;
 pub mod group;
 pub mod laws;
+pub mod limits;
 pub mod message;
 pub mod name;
 pub mod name_set;

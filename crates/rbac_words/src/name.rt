@@ -3,6 +3,7 @@ ghost use Rattle.std.specs.Prelude.{◌≡◌, ◌↔◌, IsTrue, IfOk, false};
 ghost use Rattle.std.specs.List.{list_all};
 ghost use Rattle.rbac_words.specs.Name.{is_name_byte as is_byte_of_a_name, is_name as is_a_name};
 
+use crate::limits::LONGEST_NAME;
 use sorted_keys::{Duplicate, Exact, Same};
 use std::alloc::{AllocError, Global};
 use std::cmp::Ordering;
@@ -103,7 +104,7 @@ fn are_name_bytes(bytes: &[u8]) -> bool
 fn is_name(bytes: &[u8]) -> bool
     ensures { result ≡ is_a_name bytes.now }
 {
-    1 <= bytes.len() && bytes.len() <= 64 && are_name_bytes(bytes)
+    1 <= bytes.len() && bytes.len() <= LONGEST_NAME && are_name_bytes(bytes)
 }
 
 impl Name {

@@ -303,29 +303,41 @@ fn too_many_is_tried_first(rt: HostRuntime) {
     assert_eq!(rt; many.err(), Some(VocabularyRefusal::TooMany));
 }
 
-#[test]
-fn a_vocabulary_and_its_copy(rt: HostRuntime) -> Result<(), Fail> {
-    let alloc = rt.alloc();
-    let operations = names(&rt, alloc, &["read", "approve", "pay"]);
-    let objects = names(&rt, alloc, &["ledger", "invoice"]);
-    let permissions = pairs(&rt, alloc, &[("read", "ledger"), ("pay", "invoice")]);
-    let vocabulary = Vocabulary::build(operations, objects, permissions)?;
-    vocabulary.invariants();
-    let read = name(&rt, alloc, "read");
-    let pay = name(&rt, alloc, "pay");
-    let ledger = name(&rt, alloc, "ledger");
-    let invoice = name(&rt, alloc, "invoice");
-    for vocabulary in [&vocabulary, &vocabulary.copy()?] {
-        assert!(rt; vocabulary.has_operation(&read) && vocabulary.has_operation(&pay));
-        assert!(rt; !vocabulary.has_operation(&ledger));
-        assert!(rt; vocabulary.has_object(&ledger) && vocabulary.has_object(&invoice));
-        assert!(rt; !vocabulary.has_object(&read));
-        assert!(rt; vocabulary.has_permission(&read, &ledger));
-        assert!(rt; vocabulary.has_permission(&pay, &invoice));
-        assert!(rt; !vocabulary.has_permission(&read, &invoice));
-        assert!(rt; !vocabulary.has_permission(&ledger, &read));
+// Whether the names are an operation, an object, and a permission of both.
+fn expect_known(
+    rt: &impl Abort,
+    alloc: Global,
+    vocabulary: &Vocabulary,
+    (operation, object): (&str, &str),
+    wanted: (bool, bool, bool),
+) {
+    let (operation, object) = (name(rt, alloc, operation), name(rt, alloc, object));
+    let has_operation = vocabulary.has_operation(&operation);
+    let has_object = vocabulary.has_object(&object);
+    let has_permission = vocabulary.has_permission(&operation, &object);
+    assert_eq!(rt; (has_operation, has_object, has_permission), wanted);
+}
+
+fn expect_small(rt: &impl Abort, alloc: Global, vocabulary: &Vocabulary) {
+    for (pair, wanted) in [
+        (("read", "ledger"), (true, true, true)),
+        (("pay", "invoice"), (true, true, true)),
+        (("read", "invoice"), (true, true, false)),
+        (("ledger", "read"), (false, false, false)),
+        (("pay", "pay"), (true, false, false)),
+    ] {
+        expect_known(rt, alloc, vocabulary, pair, wanted);
     }
-    Ok(())
+}
+
+#[test]
+fn a_vocabulary_and_its_copy(rt: HostRuntime) {
+    let permissions = [("read", "ledger"), ("pay", "invoice")];
+    let vocabulary = small_vocabulary(&rt, rt.alloc(), &permissions);
+    vocabulary.invariants();
+    expect_small(&rt, rt.alloc(), &vocabulary);
+    let copy = vocabulary.copy().expect(&rt, "memory");
+    expect_small(&rt, rt.alloc(), &copy);
 }
 
 #[test]
@@ -389,11 +401,7 @@ impl KeyTest<(Name, Name)> for On<'_> {
 #[test]
 fn parts_of_a_vocabulary_are_copied(rt: HostRuntime) -> Result<(), Fail> {
     let alloc = rt.alloc();
-    let vocabulary = Vocabulary::build(
-        names(&rt, alloc, &["read", "pay"]),
-        names(&rt, alloc, &["ledger", "invoice"]),
-        pairs(&rt, alloc, &[("read", "ledger"), ("pay", "invoice")]),
-    )?;
+    let vocabulary = small_vocabulary(&rt, alloc, &[("read", "ledger"), ("pay", "invoice")]);
     let (pay, ledger) = (name(&rt, alloc, "pay"), name(&rt, alloc, "ledger"));
     let operations = vocabulary.operations_where(alloc, &Only(&pay))?;
     assert_names(&rt, operations.names(), &["pay"]);

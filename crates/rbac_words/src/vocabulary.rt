@@ -6,6 +6,7 @@ ghost use Rattle.rbac_words.specs.Build.{vocabulary_refusal};
 ghost use Rattle.rbac_words.specs.Founding.{IsVocabulary, is_listed};
 ghost use Rattle.rbac_words.specs.Name.{name_cmp, pair_cmp};
 
+use crate::limits::{MOST_OBJECTS, MOST_OPERATIONS, MOST_PERMISSIONS};
 use crate::name::Name;
 use crate::name_set::NameSet;
 use crate::permission_set::PermissionSet;
@@ -39,12 +40,6 @@ pub enum VocabularyRefusal {
     UnknownName,
     NoMemory,
 }
-
-const MOST_OPERATIONS: usize = 256;
-
-const MOST_OBJECTS: usize = 4_096;
-
-const MOST_PERMISSIONS: usize = 16_384;
 
 // The set of a list in which nothing stands twice.
 fn gather<K: Exact + Drop>(keys: Vec<K>) -> Result<SortedSet<K>, VocabularyRefusal>

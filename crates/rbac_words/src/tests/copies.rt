@@ -41,11 +41,16 @@ fn a_command_is_copied(rt: HostRuntime) {
     expect_grant_copied(&rt, grant(&rt, rt.alloc()));
 }
 
+fn is_review_of_clerks(review: &Review) -> bool {
+    match review {
+        Review::AssignedUsers { role } => role.as_bytes() == b"clerk".as_slice(),
+        _ => false,
+    }
+}
+
 fn expect_review_copied(rt: &impl Abort, review: Review) {
     let copy = review.copy().expect(rt, "memory");
-    assert!(rt;
-        matches!(copy, Review::AssignedUsers { role } if role.as_bytes() == b"clerk".as_slice())
-    );
+    assert!(rt; is_review_of_clerks(&copy));
 }
 
 #[test]

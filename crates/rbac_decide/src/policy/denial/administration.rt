@@ -7,13 +7,9 @@ ghost use Rattle.rbac_decide.specs.Denying.{verdict, TellsDenial};
 use crate::policy::Policy;
 use crate::policy::denial::deny_if;
 use crate::policy::hindrance::Hindrance;
+use rbac_words::limits::{MOST_ROLES, MOST_USERS};
 use rbac_words::{Denial, Name};
 use std::alloc::Global;
-
-const MOST_USERS: usize = 4096;
-
-/// How many roles there may be.
-pub const MOST_ROLES: usize = 1024;
 
 impl Policy {
     pub(crate) fn may_add_user(&self, user: &Name) -> Result<(), Denial>

@@ -5,9 +5,9 @@ ghost use Rattle.rbac_words.specs.declared.command.Command.TheVariants.{AddInher
 ghost use Rattle.rbac_decide.specs.Denying.{verdict, TellsDenial};
 
 use crate::policy::Policy;
-use crate::policy::denial::administration::MOST_ROLES;
 use crate::policy::denial::deny_if;
 use crate::policy::hindrance::Hindrance;
+use rbac_words::limits::MOST_ROLES;
 use rbac_words::{Denial, Name};
 use std::alloc::Global;
 

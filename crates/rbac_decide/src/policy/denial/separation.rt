@@ -11,9 +11,8 @@ ghost use Rattle.rbac_decide.specs.Denying.{verdict, TellsDenial};
 use crate::policy::Policy;
 use crate::policy::denial::deny_if;
 use crate::policy::hindrance::Hindrance;
+use rbac_words::limits::MOST_SETS;
 use rbac_words::{Denial, Name, NameSet, Separation};
-
-const MOST_SETS: usize = 256;
 
 // The denial that names what a kind asks.
 fn violation(kind: Separation) -> Denial

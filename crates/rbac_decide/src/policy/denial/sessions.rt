@@ -7,9 +7,8 @@ ghost use Rattle.rbac_decide.specs.Denying.{verdict, TellsDenial};
 use crate::policy::Policy;
 use crate::policy::denial::deny_if;
 use crate::policy::hindrance::Hindrance;
+use rbac_words::limits::MOST_SESSIONS;
 use rbac_words::{Denial, Name, NameSet};
-
-const MOST_SESSIONS: usize = 8192;
 
 impl Policy {
     pub(crate) fn may_create_session(
