@@ -1,16 +1,13 @@
 pub mod AuthorizationLemmas
-pub mod FoundingLemmas
 pub mod InheritanceLemmas
-pub mod MessageLemmas
+pub mod ListLemmas
 pub mod NameLemmas
 pub mod PurgeLemmas
-pub mod ReplayLemmas
 pub mod ReviewLemmas
 pub mod SoundParts
 pub mod SoundSeparation
 pub mod SoundSets
 pub mod SoundRoles
 pub mod SoundLemmas
-pub mod StampLemmas
 pub mod VocabularyLemmas
 pub mod SeparationLaws

@@ -10,7 +10,7 @@ use Rattle.rbac_words.specs.Authorization.{is_authorized}
 use Rattle.rbac_words.specs.Constraints.{is_violated, KeepsStatic, KeepsDynamic}
 use Rattle.rbac_words.specs.declared.separation.Separation.TheVariants.{Static, Dynamic}
 use Rattle.rbac_words.proofs.NameLemmas.{names_total, names_exact, one_key, ties_itself}
-use Rattle.rbac_words.proofs.StampLemmas.{Each-weaker}
+use Rattle.rbac_words.proofs.ListLemmas.{Each-weaker}
 use Rattle.rbac_words.proofs.SoundSeparation.{is_false, none_passes, passes_none}
 
 -- a set that is not broken has fewer that pass than its number

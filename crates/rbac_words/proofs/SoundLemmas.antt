@@ -26,7 +26,7 @@ use Rattle.rbac_words.specs.declared.command.Command.{Command}
 use Rattle.rbac_words.specs.declared.command.Command.TheVariants.{AddUser, DeleteUser, AddRole, DeleteRole, AssignUser, DeassignUser, GrantPermission, RevokePermission, AddInheritance, DeleteInheritance, AddAscendant, AddDescendant, CreateSet, DeleteSet, AddRoleMember, DeleteRoleMember, SetCardinality, CreateSession, DeleteSession, AddActiveRole, DropActiveRole, CheckAccess, Review as ReviewCommand}
 use Rattle.rbac_words.specs.declared.answer.Denial.{Denial}
 use Rattle.rbac_words.proofs.NameLemmas.{names_total, names_exact, pairs_total, pairs_exact, grants_total, grants_exact, one_key, all_member}
-use Rattle.rbac_words.proofs.StampLemmas.{Each-weaker}
+use Rattle.rbac_words.proofs.ListLemmas.{Each-weaker}
 use Rattle.rbac_words.proofs.AuthorizationLemmas.{is_authorized_iff}
 use Rattle.rbac_words.proofs.SoundParts.{none_fails, length-with_key-new, length-put-new, fewer, still, was_kept, is_kept, each_put, each_updated, length-updated, each_kept, within, session_stays, purged, owners}
 use Rattle.rbac_words.proofs.SoundSeparation.{is_false, fewer_active, static_less, dynamic_kept, dynamic_updated}

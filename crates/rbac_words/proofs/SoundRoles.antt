@@ -21,7 +21,7 @@ use Rattle.rbac_words.specs.Change.{change, end_sessions}
 use Rattle.rbac_words.specs.Sound.{IsSessionSound, IsSound}
 use Rattle.rbac_words.specs.declared.command.Command.TheVariants.{AddRole, DeleteRole, AddInheritance, DeleteInheritance, AddAscendant, AddDescendant}
 use Rattle.rbac_words.proofs.NameLemmas.{names_total, names_exact, pairs_total, pairs_exact, grants_total, grants_exact, one_key, ties_itself}
-use Rattle.rbac_words.proofs.StampLemmas.{Each-weaker}
+use Rattle.rbac_words.proofs.ListLemmas.{Each-weaker}
 use Rattle.rbac_words.proofs.InheritanceLemmas.{chain_end, joined, inherits_iff, inherits_still, inherits_without, inherits_over}
 use Rattle.rbac_words.proofs.AuthorizationLemmas.{is_authorized_iff}
 use Rattle.rbac_words.proofs.SoundSeparation.{static_less, sets_wider, sets_without, dynamic_kept}

@@ -10,7 +10,7 @@ use Rattle.rbac_words.specs.Separation.{RoleSet, is_broken_by, is_broken, is_con
 use Rattle.rbac_words.specs.State.{Session}
 use Rattle.rbac_words.specs.Sound.{IsRoleSet, AreRoleSets}
 use Rattle.rbac_words.proofs.NameLemmas.{names_total, names_exact, one_key, ties_itself, any_member, member_any}
-use Rattle.rbac_words.proofs.StampLemmas.{Each-weaker}
+use Rattle.rbac_words.proofs.ListLemmas.{Each-weaker}
 use Rattle.rbac_words.proofs.SoundParts.{is_kept, each_kept, each_updated}
 
 -- ---- Tests and counts

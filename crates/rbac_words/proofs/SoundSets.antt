@@ -25,7 +25,7 @@ use Rattle.rbac_words.specs.declared.separation.Separation.{Separation}
 use Rattle.rbac_words.specs.declared.separation.Separation.TheVariants.{Static, Dynamic}
 use Rattle.rbac_words.specs.declared.command.Command.TheVariants.{CreateSet, DeleteSet, AddRoleMember, DeleteRoleMember, SetCardinality}
 use Rattle.rbac_words.proofs.NameLemmas.{names_total, names_exact, one_key, all_member}
-use Rattle.rbac_words.proofs.StampLemmas.{Each-weaker}
+use Rattle.rbac_words.proofs.ListLemmas.{Each-weaker}
 use Rattle.rbac_words.proofs.SoundParts.{none_fails, length-with_key-new, length-put-new, fewer, was_kept, each_put, each_updated, each_kept, length-updated, session_stays}
 use Rattle.rbac_words.proofs.SoundSeparation.{is_false, sets_less}
 

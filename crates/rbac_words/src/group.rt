@@ -36,7 +36,8 @@ pub enum GroupRefusal {
 
 const MOST_MEMBERS: u32 = 8;
 
-const LAST_CLOCK: u64 = 9_007_199_254_740_991;
+/// No clock goes past it: the largest whole number below 2^53, which each reader of JSON keeps exact.
+pub const LAST_CLOCK: u64 = 9_007_199_254_740_991;
 
 const MOST_SENT: u32 = 65_536;
 

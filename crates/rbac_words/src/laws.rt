@@ -1,28 +1,19 @@
 //! Laws about the definitions: functions with an empty body, whose contracts are proved like any other.
-ghost use Rattle.std.specs.Prelude.{false, List, IsTrue, IfErr, ◌↔◌, ◌≡◌, ◌⊎◌};
-ghost use Rattle.std.specs.declared.cmp.Ordering.TheVariants.{Less};
+ghost use Rattle.std.specs.Prelude.{false, List, IsTrue, ◌↔◌, ◌≡◌};
 ghost use Rattle.std.specs.FinMap.Entries.{find};
 ghost use Rattle.std.specs.List.{list_all};
-ghost use Rattle.std.specs.List.Sorted.{IsPermutation};
 ghost use Rattle.sorted_keys.specs.Keys.{has};
 ghost use Rattle.rbac_words.specs.declared.command.Command.{Command};
-ghost use Rattle.rbac_words.specs.declared.event.Event.{Event};
-ghost use Rattle.rbac_words.specs.declared.message.Submission.{Submission};
-ghost use Rattle.rbac_words.specs.declared.stamp.Stamp.{Stamp};
 ghost use Rattle.rbac_words.specs.Authorization.{InheritsIn, IsAuthorized, is_authorized, Holds, holds, is_entitled, purge};
 ghost use Rattle.rbac_words.specs.Constraints.{is_violated, KeepsStatic, KeepsDynamic};
 ghost use Rattle.rbac_words.specs.declared.separation.Separation.TheVariants.{Static, Dynamic};
 ghost use Rattle.rbac_words.specs.Effect.{effect, session_holds};
-ghost use Rattle.rbac_words.specs.Founding.{Group as GroupValue, Vocabulary as VocabularyValue, IsVocabulary};
+ghost use Rattle.rbac_words.specs.Founding.{Vocabulary as VocabularyValue, IsVocabulary};
 ghost use Rattle.rbac_words.specs.Inheritance.{Inherits, inherits};
-ghost use Rattle.rbac_words.specs.Message.{submitted_at};
 ghost use Rattle.rbac_words.specs.Name.{Name, Permission, name_cmp, pair_cmp};
 ghost use Rattle.rbac_words.specs.Reviews.{session_permissions};
-ghost use Rattle.rbac_words.specs.Right.{AreHistoriesRight, founding_world};
-ghost use Rattle.rbac_words.specs.Stamp.{IsBefore, is_before, stamp_cmp, IsInStampOrder, sort_by_stamp};
 ghost use Rattle.rbac_words.specs.Sound.{IsSound};
 ghost use Rattle.rbac_words.specs.State.{State, Session, founding_state};
-ghost use Rattle.rbac_words.specs.World.{World, step, step_outcome};
 
 /// The test of inheritance tells whether there is a chain of declared pairs.
 pub fn a_test_tells_inheritance()
@@ -59,35 +50,10 @@ pub fn a_test_tells_separation()
     ensures of_sessions { (s : State) → (is_violated Dynamic s ≡ false) ↔ KeepsDynamic s }
 {}
 
-/// Stamps are in a total order, which the test and the comparison of stamps tell.
-pub fn stamps_are_totally_ordered()
-    ensures test { (s t : Stamp) → IsTrue (is_before s t) ↔ IsBefore s t }
-    ensures comparison { (s t : Stamp) → (stamp_cmp s t ≡ Less) ↔ IsBefore s t }
-    ensures transitive { (s t u : Stamp) → IsBefore s t → IsBefore t u → IsBefore s u }
-    ensures irreflexive { (s : Stamp) → ¬ (IsBefore s s) }
-    ensures total { (s t : Stamp) → (s ≡ t) ⊎ (IsBefore s t ⊎ IsBefore t s) }
-{}
-
-/// To sort by stamp keeps the elements, and puts them in the order of their stamps.
-pub fn sorting_by_stamp()
-    ensures elements { (xs : List Submission) → IsPermutation xs (sort_by_stamp submitted_at xs) }
-    ensures in_order { (xs : List Submission) → IsInStampOrder submitted_at (sort_by_stamp submitted_at xs) }
-{}
-
 /// A purge leaves the sessions that are entitled to their active roles, and they still are.
 pub fn a_purge_leaves_the_entitled()
     ensures entitled { (s : State) → IsTrue (list_all (λ e. is_entitled (purge s) e.1) (purge s).sessions) }
     ensures unchanged { (s : State) → IsTrue (list_all (λ e. is_entitled s e.1) s.sessions) → purge s ≡ s }
-{}
-
-/// A refused event changes nothing.
-pub fn a_refusal_changes_nothing()
-    ensures { (w : World) (e : Event) → IfErr (step_outcome w e) (λ _. step w e ≡ w) }
-{}
-
-/// In the founding world each history is right.
-pub fn a_founding_is_right()
-    ensures { (group : GroupValue) (vocabulary : VocabularyValue) → AreHistoriesRight (founding_world group vocabulary) }
 {}
 
 /// A policy is sound as it is founded, and each command leaves it so.

@@ -20,7 +20,7 @@ pub mod vocabulary;
 pub use answer::{Answer, Denial};
 pub use command::Command;
 pub use event::{Event, Outcome, Refusal};
-pub use group::{Group, GroupRefusal};
+pub use group::{Group, GroupRefusal, LAST_CLOCK};
 pub use message::{Message, Submission};
 pub use name::{Name, NameRefusal};
 pub use name_set::NameSet;
