@@ -1,5 +1,5 @@
 -- What the code's lists say in the words of the definitions.
-use Rattle.std.proofs.Common.{ℕ, Bool, true, ◌≡◌, ◌≤◌, ◌+◌, ◌==◌, ◌||◌, List, [], ◌∷◌, ◌++◌, drop, refl, sym, ap, subst, ◌∙◌, arith, Option, Some, None, get_or}
+use Rattle.std.proofs.Common.{ℕ, true, ◌≡◌, ◌≤◌, ◌+◌, ◌==◌, ◌||◌, List, [], ◌∷◌, ◌++◌, drop, refl, sym, ap, subst, ◌∙◌, arith, Option, Some, None, get_or}
 use Rattle.std.specs.List.{list_all}
 use Rattle.std.proofs.lemmas.Bool.Decides.{nat_tests}
 use Rattle.rbac_words.specs.Stamp.{has_passed}
@@ -25,7 +25,7 @@ use Rattle.rbac_words.specs.declared.record.Record.{Record}
 use Rattle.rbac_words.specs.declared.stamp.Stamp.{Stamp}
 use Rattle.rbac_member.specs.Inside.{vocabulary_of}
 use Rattle.rbac_member.specs.Lists.{TakesOver}
-use Rattle.rbac_words.specs.Member.{Member, node_of, submission, submitted, delivery, delivered, deliver_due, due_at, if_passed, is_passed_by_all, latest_of, numbers, IsMember}
+use Rattle.rbac_words.specs.Member.{Member, submission, submitted, delivery, delivered, due_at, if_passed, is_passed_by_all, latest_of, numbers, IsMember}
 
 vocabulary-sets : (kind : Separation) (sets : List (Name × RoleSet)) (s : State) → vocabulary_of (with_sets kind sets s) ≡ vocabulary_of s
 vocabulary-sets Static sets s = refl

@@ -1,5 +1,5 @@
 -- Of two histories one is a prefix of the other, and where all was read a history becomes all commands.
-use Rattle.std.proofs.Common.{ℕ, zero, suc, Bool, true, false, not, cond, ◌≡◌, ◌≢◌, ◌≤◌, ◌<◌, ◌+◌, ◌-◌, ◌==◌, ◌||◌, ◌&&◌, ◌⊎◌, inl, inr, List, [], ◌∷◌, ◌++◌, length, map, get_or, refl, sym, ap, subst, ◌∙◌, arith, true≢false, append-nil, Option, Some, None, Result, Ok, Err}
+use Rattle.std.proofs.Common.{ℕ, zero, suc, Bool, true, false, not, cond, ◌≡◌, ◌≢◌, ◌≤◌, ◌<◌, ◌+◌, ◌-◌, ◌==◌, ◌||◌, ◌&&◌, ◌⊎◌, inl, inr, List, [], ◌∷◌, ◌++◌, length, map, refl, sym, ap, subst, ◌∙◌, arith, true≢false, append-nil, Option, Some, None, Ok}
 use Rattle.std.specs.List.{AllByRecursion as Each, filter, list_all}
 use Rattle.std.proofs.lemmas.Bool.Decides.{nat_tests}
 use Rattle.std.proofs.lemmas.List.{length-map}
@@ -8,28 +8,26 @@ use Rattle.rbac_words.specs.State.{State, founding_state}
 use Rattle.rbac_words.specs.Effect.{effect, reply}
 use Rattle.rbac_words.specs.Replay.{replies}
 use Rattle.rbac_words.specs.Stamp.{IsBefore, is_before, last_stamp, up_to, has_passed}
-use Rattle.rbac_words.specs.Message.{stamp_of, submitted_at, submissions, submission_of, commands_of, has_later, IsLawful}
+use Rattle.rbac_words.specs.Message.{stamp_of, submitted_at, submissions, submission_of, commands_of, has_later}
 use Rattle.rbac_words.specs.Front.{is_of, command_of}
-use Rattle.rbac_words.specs.World.{World, Node, nobody, node, is_member, read_of, least, due, place_of, refusal, answer_unless, step_outcome}
-use Rattle.rbac_words.specs.Right.{all_commands, IsRight}
+use Rattle.rbac_words.specs.World.{World, Node, node, is_member, read_of, least, due, place_of, answer_unless, step_outcome}
+use Rattle.rbac_words.specs.Right.{all_commands}
 use Rattle.rbac_words.specs.Play.{IsPrefixOf, IsReadToEnd}
-use Rattle.rbac_words.specs.Member.{Member, node_of, latest_of, known, numbers, is_passed_by_all, if_passed, due_at, IsNumber, IsMember}
-use Rattle.rbac_words.specs.Members.{HasRead, member_at, AreMembers, world_of}
+use Rattle.rbac_words.specs.Member.{Member, node_of, latest_of, known, numbers, is_passed_by_all, if_passed, IsNumber}
+use Rattle.rbac_words.specs.Members.{member_at, AreMembers, world_of}
 use Rattle.rbac_words.specs.declared.event.Event.TheVariants.{Deliver}
-use Rattle.rbac_words.specs.declared.event.Outcome.{Outcome}
 use Rattle.rbac_words.specs.declared.event.Outcome.TheVariants.{Delivered}
-use Rattle.rbac_words.specs.declared.event.Refusal.{Refusal}
 use Rattle.rbac_words.specs.declared.event.Refusal.TheVariants.{UnknownMember}
 use Rattle.rbac_words.specs.declared.message.Message.{Message}
 use Rattle.rbac_words.specs.declared.message.Submission.{Submission}
 use Rattle.rbac_words.specs.declared.record.Record.{Record}
 use Rattle.rbac_words.specs.declared.stamp.Stamp.{Stamp}
-use Rattle.rbac_words.proofs.ListLemmas.{Each-left, Each-right, Each-weaker, Each-filter, Each-from_filter, filter-none, cons_head, cons_tail}
+use Rattle.rbac_words.proofs.ListLemmas.{Each-right, Each-weaker, Each-filter, Each-from_filter, filter-none, cons_head, cons_tail}
 use Rattle.rbac_order.proofs.StampLemmas.{before_trans, before_true, true_before, passed_by_one, Rising-left}
 use Rattle.rbac_order.proofs.SenderLemmas.{of, Rising, decide, is_of-yes}
 use Rattle.rbac_order.proofs.HistoryLemmas.{Rising-all, all_of_each}
 use Rattle.rbac_order.proofs.StepLemmas.{in_group}
-use Rattle.rbac_order.proofs.GroupLemmas.{node-of_member, inside, is_number, apart, read_by, lawful_front, lawful_world, right_at, due_is_due, of_group}
+use Rattle.rbac_order.proofs.GroupLemmas.{node-of_member, inside, read_by, lawful_front, lawful_world, right_at, due_is_due, of_group}
 
 -- ---- Prefixes
 

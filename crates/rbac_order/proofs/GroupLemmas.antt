@@ -1,30 +1,28 @@
 -- The members of a group: what each has heard, what is due, and that each history is right.
-use Rattle.std.proofs.Common.{ℕ, zero, suc, Bool, true, false, not, cond, ◌≡◌, ◌≤◌, ◌<◌, ◌+◌, ◌-◌, ◌==◌, ◌||◌, ◌&&◌, List, [], ◌∷◌, ◌++◌, length, map, take, get_or, refl, sym, ap, ap₂, subst, ◌∙◌, arith, true≢false, append-nil, Option, Some, None}
-use Rattle.std.specs.List.{AllByRecursion as Each, filter, flat_map, list_all, list_any}
+use Rattle.std.proofs.Common.{ℕ, zero, suc, Bool, true, false, not, ◌≡◌, ◌≤◌, ◌<◌, ◌+◌, ◌==◌, ◌||◌, ◌&&◌, List, [], ◌∷◌, ◌++◌, length, map, take, get_or, refl, sym, ap, ap₂, subst, ◌∙◌, arith, Option, Some, None}
+use Rattle.std.specs.List.{AllByRecursion as Each, filter, list_all}
 use Rattle.std.proofs.lemmas.Bool.{or_left, or_right}
 use Rattle.std.proofs.lemmas.Bool.Decides.{nat_tests}
 use Rattle.std.proofs.lemmas.List.{length-map}
 use Rattle.std.proofs.lemmas.List.Elements.{filter-append}
 use Rattle.rbac_words.specs.Founding.{Group, Vocabulary}
 use Rattle.rbac_words.specs.State.{founding_state}
-use Rattle.rbac_words.specs.Effect.{reply}
 use Rattle.rbac_words.specs.Replay.{replies}
-use Rattle.rbac_words.specs.Stamp.{IsBefore, is_before, is_same_stamp, last_stamp, up_to, has_passed, sort_by_stamp}
-use Rattle.rbac_words.specs.Message.{stamp_of, submitted_at, submissions, submission_of, commands_of, has_later, IsLawful}
-use Rattle.rbac_words.specs.Front.{is_of, command_of}
-use Rattle.rbac_words.specs.World.{World, Node, nobody, read_of, heard_of, heard_commands, is_delivered, is_stable, least, if_stable, due, record_of}
+use Rattle.rbac_words.specs.Stamp.{IsBefore, is_same_stamp, last_stamp, up_to, has_passed}
+use Rattle.rbac_words.specs.Message.{stamp_of, submitted_at, submissions, commands_of, has_later, IsLawful}
+use Rattle.rbac_words.specs.Front.{command_of}
+use Rattle.rbac_words.specs.World.{World, Node, nobody, heard_of, heard_commands, is_delivered, is_stable, least, if_stable, due}
 use Rattle.rbac_words.specs.Right.{all_commands, IsRight, AreHistoriesRight}
-use Rattle.rbac_words.specs.Member.{Member, node_of, latest_of, known, numbers, is_passed_by_all, if_passed, due_at, delivery, IsNumber, IsMember}
-use Rattle.rbac_words.specs.Members.{HasTaken, HasRead, no_member, member_at, AreMembers, world_of, IsLawfulWorld}
+use Rattle.rbac_words.specs.Member.{Member, node_of, latest_of, known, numbers, is_passed_by_all, if_passed, due_at, IsNumber, IsMember}
+use Rattle.rbac_words.specs.Members.{HasRead, member_at, AreMembers, world_of, IsLawfulWorld}
 use Rattle.rbac_words.specs.declared.message.Message.{Message}
 use Rattle.rbac_words.specs.declared.message.Submission.{Submission}
 use Rattle.rbac_words.specs.declared.record.Record.{Record}
-use Rattle.rbac_words.specs.declared.stamp.Stamp.{Stamp}
 use Rattle.rbac_words.proofs.ListLemmas.{Each-left, Each-weaker, filter-all, filter-none}
 use Rattle.rbac_order.proofs.StampLemmas.{same_stamp_itself, same_stamp_below, passed_by_one, Rising-left, Rising-across}
 use Rattle.rbac_order.proofs.MessageLemmas.{Each-submissions, Rising-submissions, Lawful-left}
 use Rattle.rbac_order.proofs.SenderLemmas.{of, Rising, decide}
-use Rattle.rbac_order.proofs.HistoryLemmas.{HasFirst, first_own, first_other, up_to_last, numbered_places, Each-places, IsOrderly, same_as_carried, second_step, all_of_each, AreNumbered}
+use Rattle.rbac_order.proofs.HistoryLemmas.{HasFirst, first_own, first_other, up_to_last, numbered_places, Each-places, IsOrderly, same_as_carried, second_step}
 
 -- the place of a member in its world
 pub node-of_member : (ms : List Member) (i : ℕ) → get_or (map node_of ms) i nobody ≡ node_of (member_at ms i)

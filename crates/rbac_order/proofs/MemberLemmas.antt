@@ -1,6 +1,6 @@
 -- What a member keeps: as it is founded, by a submit, by a delivery and by a receipt.
-use Rattle.std.proofs.Common.{ℕ, zero, suc, Bool, true, false, cond, max, ◌≡◌, ◌≤◌, ◌<◌, ◌+◌, ◌-◌, ◌==◌, ◌||◌, ◌&&◌, inl, inr, List, [], ◌∷◌, ◌++◌, length, map, drop, get_or, set, replicate, refl, sym, ap, subst, ◌∙◌, arith, true≢false, append_assoc, append-nil, length-append, length-set, get_or-set_same, get_or-set_other, nat_le, nat_lt, Option, Some, None}
-use Rattle.std.specs.List.{AllByRecursion as Each, filter, list_any, list_all}
+use Rattle.std.proofs.Common.{ℕ, zero, suc, Bool, true, false, cond, max, ◌≡◌, ◌≤◌, ◌<◌, ◌+◌, ◌-◌, ◌==◌, ◌||◌, ◌&&◌, inl, List, [], ◌∷◌, ◌++◌, length, map, drop, get_or, set, replicate, refl, sym, ap, subst, ◌∙◌, arith, true≢false, append_assoc, append-nil, length-append, length-set, get_or-set_same, get_or-set_other, nat_le, nat_lt, Option, Some, None}
+use Rattle.std.specs.List.{AllByRecursion as Each, filter, list_all}
 use Rattle.std.proofs.lemmas.Bool.{or_left, or_right}
 use Rattle.std.proofs.lemmas.Bool.Decides.{nat_tests}
 use Rattle.std.proofs.lemmas.List.{length-replicate}
@@ -11,10 +11,10 @@ use Rattle.rbac_words.specs.Founding.{Group, Vocabulary, IsGroup}
 use Rattle.rbac_words.specs.State.{State, founding_state}
 use Rattle.rbac_words.specs.Effect.{effect, reply}
 use Rattle.rbac_words.specs.Replay.{state_after, replies}
-use Rattle.rbac_words.specs.Stamp.{IsBefore, is_before, IsRising, IsAfter, has_passed, insert_all}
+use Rattle.rbac_words.specs.Stamp.{IsBefore, is_before, IsAfter, has_passed, insert_all}
 use Rattle.rbac_words.specs.Message.{stamp_of, submitted_at, submissions_of, submissions, submission_of, commands_of, has_later, is_by, next_serial, CountsFrom, IsLawful}
 use Rattle.rbac_words.specs.Front.{command_of, is_of}
-use Rattle.rbac_words.specs.World.{Node, stamp, read_of, submit_refusal, least, must_acknowledge, clock_after, acknowledgement, acks, room_refusal, is_sent_full}
+use Rattle.rbac_words.specs.World.{stamp, read_of, submit_refusal, least, must_acknowledge, acks, room_refusal, is_sent_full}
 use Rattle.rbac_words.specs.Member.{Member, node_of, founded, latest_of, known, submission, submitted, received, numbers, is_passed_by_all, if_passed, due_at, delivery, delivered, deliver_due, IsNumber, IsCovered, IsClockAbove, IsMember, IsNext}
 use Rattle.rbac_words.specs.declared.event.Refusal.{Refusal}
 use Rattle.rbac_words.specs.declared.event.Refusal.TheVariants.{ClockFull, SentFull, BadSerial}
@@ -24,9 +24,9 @@ use Rattle.rbac_words.specs.declared.message.Message.TheVariants.{Call, Ack}
 use Rattle.rbac_words.specs.declared.message.Submission.{Submission}
 use Rattle.rbac_words.specs.declared.record.Record.{Record}
 use Rattle.rbac_words.specs.declared.stamp.Stamp.{Stamp}
-use Rattle.rbac_words.proofs.ListLemmas.{Each-append, Each-left, Each-right, Each-weaker, Each-both, Each-always, Each-filter, Each-from_filter, filter-none, map-push}
+use Rattle.rbac_words.proofs.ListLemmas.{Each-append, Each-left, Each-weaker, Each-both, Each-filter, map-push}
 use Rattle.rbac_order.proofs.StampLemmas.{before_trans, before_true, true_before, Rising-push, Rising-left, insert_all_above, Each-insert_all}
-use Rattle.rbac_order.proofs.MessageLemmas.{submissions-append, CountsFrom-left, CountsFrom-push, serials_go_on, own_stamps, own_rising}
+use Rattle.rbac_order.proofs.MessageLemmas.{submissions-append, CountsFrom-left, serials_go_on, own_stamps, own_rising}
 use Rattle.rbac_order.proofs.ReplayLemmas.{state_after-push, replies-push}
 use Rattle.rbac_order.proofs.SenderLemmas.{of, Rising, decide, is_of-yes, is_of-no, of_member, put_all, IsPut, of-insert_all_other}
 

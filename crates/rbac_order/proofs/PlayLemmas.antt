@@ -1,9 +1,8 @@
 -- What holds of a world after any list of events.
-use Rattle.std.proofs.Common.{ℕ, suc, ◌≡◌, ◌≤◌, ◌<◌, ◌-◌, ◌⊎◌, List, [], ◌∷◌, ◌++◌, length, map, get_or, refl, sym, ap, subst, ◌∙◌, arith, Option, Some, None, Ok}
-use Rattle.std.proofs.lemmas.List.{length-map}
+use Rattle.std.proofs.Common.{ℕ, suc, ◌≡◌, ◌<◌, ◌⊎◌, List, [], ◌∷◌, ◌++◌, length, map, get_or, refl, sym, ap, subst, None, Ok}
 use Rattle.rbac_words.specs.Founding.{Group, Vocabulary, IsGroup}
 use Rattle.rbac_words.specs.Message.{commands_of}
-use Rattle.rbac_words.specs.World.{World, Node, nobody, node, due, step, step_outcome}
+use Rattle.rbac_words.specs.World.{World, Node, nobody, node, step, step_outcome}
 use Rattle.rbac_words.specs.Right.{all_commands, AreHistoriesRight, founding_world}
 use Rattle.rbac_words.specs.Play.{world_after, outcomes, IsReadToEnd, IsPrefixOf}
 use Rattle.rbac_words.specs.Member.{Member, node_of}
@@ -14,7 +13,7 @@ use Rattle.rbac_words.specs.declared.event.Outcome.TheVariants.{Delivered}
 use Rattle.rbac_words.specs.declared.record.Record.{Record}
 use Rattle.rbac_order.proofs.GroupLemmas.{node-of_member, inside, right}
 use Rattle.rbac_order.proofs.StepLemmas.{always_has}
-use Rattle.rbac_order.proofs.EndLemmas.{one_history, all_delivered, delivery_of_member}
+use Rattle.rbac_order.proofs.EndLemmas.{one_history, delivery_of_member}
 
 pub world_after-append : (w : World) (es fs : List Event) → world_after w (es ++ fs) ≡ world_after (world_after w es) fs
 world_after-append w [] fs = refl

@@ -1,15 +1,14 @@
 -- The commands of each sender in a list of commands.
-use Rattle.std.proofs.Common.{ℕ, Bool, true, false, cond, ◌≡◌, ◌==◌, ◌⊎◌, inl, inr, List, [], ◌∷◌, ◌++◌, refl, sym, ap, subst, ◌∙◌, arith, true≢false, append-nil, append_assoc}
+use Rattle.std.proofs.Common.{ℕ, Bool, true, false, cond, ◌≡◌, ◌==◌, inl, inr, List, [], ◌∷◌, ◌++◌, refl, sym, ap, subst, ◌∙◌, arith, true≢false, append-nil, append_assoc}
 use Rattle.std.specs.List.{AllByRecursion as Each, filter}
 use Rattle.std.proofs.lemmas.Bool.Decides.{nat_tests}
-use Rattle.std.proofs.lemmas.List.Elements.{filter-append}
 use Rattle.rbac_words.specs.Stamp.{IsBefore, is_before, IsRising, insert_by_stamp, insert_all, sort_by_stamp}
 use Rattle.rbac_words.specs.Message.{submitted_at}
 use Rattle.rbac_words.specs.Front.{is_of}
 use Rattle.rbac_words.specs.declared.message.Submission.{Submission}
 use Rattle.rbac_words.specs.declared.stamp.Stamp.{Stamp}
 use Rattle.rbac_words.proofs.ListLemmas.{Each-append, Each-weaker, Each-both, Each-filter, Each-from_filter, filter-all, filter-none, filter-yes, filter-no, cons_head, cons_tail}
-use Rattle.rbac_order.proofs.StampLemmas.{before_trans, before_irrefl, before_asym, before_true, true_before, tie, Each-insert, Rising-insert, Rising-push, IsApart, first_below}
+use Rattle.rbac_order.proofs.StampLemmas.{before_irrefl, before_asym, before_true, true_before, tie, Rising-insert, IsApart, first_below}
 
 -- the commands of member k
 abbrev pub of : ℕ → List Submission → List Submission

@@ -1,5 +1,5 @@
 -- Each step leaves the members of a group members of a group, and so does each list of events.
-use Rattle.std.proofs.Common.{ℕ, zero, suc, Bool, true, false, cond, ◌≡◌, ◌≢◌, ◌≤◌, ◌<◌, ◌+◌, ◌-◌, ◌==◌, ◌||◌, ◌&&◌, nat_lt, nat_le, List, [], ◌∷◌, ◌++◌, length, map, drop, get_or, set, replicate, refl, sym, ap, subst, ◌∙◌, arith, true≢false, append-nil, append_assoc, length-append, length-set, get_or-set_same, get_or-set_other, Option, Some, None}
+use Rattle.std.proofs.Common.{ℕ, zero, suc, Bool, true, false, cond, ◌≡◌, ◌≤◌, ◌<◌, ◌+◌, ◌-◌, ◌==◌, ◌||◌, ◌&&◌, nat_lt, nat_le, List, [], ◌∷◌, ◌++◌, length, map, drop, get_or, set, replicate, refl, sym, ap, subst, ◌∙◌, arith, true≢false, append-nil, append_assoc, length-append, length-set, get_or-set_same, get_or-set_other, Option, Some, None}
 use Rattle.std.specs.List.{AllByRecursion as Each, filter}
 use Rattle.std.proofs.lemmas.Bool.Decides.{nat_tests}
 use Rattle.std.proofs.lemmas.List.{length-map, map-set}
@@ -8,12 +8,12 @@ use Rattle.rbac_words.specs.State.{State, founding_state}
 use Rattle.rbac_words.specs.Effect.{reply}
 use Rattle.rbac_words.specs.Replay.{state_after}
 use Rattle.rbac_words.specs.Stamp.{IsAfter, last_stamp}
-use Rattle.rbac_words.specs.Message.{stamp_of, submitted_at, submissions_of, submissions, commands_of, is_by, CountsFrom, IsLawful}
+use Rattle.rbac_words.specs.Message.{stamp_of, submissions_of, submissions, commands_of, is_by, CountsFrom, IsLawful}
 use Rattle.rbac_words.specs.Front.{is_of, command_of}
-use Rattle.rbac_words.specs.World.{World, Node, nobody, node, is_member, read_of, stamp, submit_at, receive_at, deliver_at, record_of, message, submit_refusal, room_refusal, receive_refusal, refusal, with_node, due, after, world_unless, step}
+use Rattle.rbac_words.specs.World.{World, Node, node, is_member, read_of, stamp, submit_at, receive_at, deliver_at, record_of, message, submit_refusal, room_refusal, receive_refusal, refusal, with_node, due, after, world_unless, step}
 use Rattle.rbac_words.specs.Right.{founded_nodes, founding_world}
 use Rattle.rbac_words.specs.Play.{world_after}
-use Rattle.rbac_words.specs.Member.{Member, node_of, founded, latest_of, known, submission, submitted, received, due_at, delivery, delivered, deliver_due, IsNumber, IsMember, IsNext}
+use Rattle.rbac_words.specs.Member.{Member, node_of, founded, latest_of, known, submission, submitted, received, due_at, delivery, delivered, deliver_due, IsMember, IsNext}
 use Rattle.rbac_words.specs.Members.{HasTaken, HasRead, no_member, member_at, AreMembers, world_of, HasMembers}
 use Rattle.rbac_words.specs.declared.command.Command.{Command}
 use Rattle.rbac_words.specs.declared.event.Event.{Event}
@@ -24,7 +24,6 @@ use Rattle.rbac_words.specs.declared.message.Message.{Message}
 use Rattle.rbac_words.specs.declared.message.Message.TheVariants.{Call, Ack}
 use Rattle.rbac_words.specs.declared.message.Submission.{Submission}
 use Rattle.rbac_words.specs.declared.record.Record.{Record}
-use Rattle.rbac_words.specs.declared.stamp.Stamp.{Stamp}
 use Rattle.rbac_words.proofs.ListLemmas.{Each-right}
 use Rattle.rbac_order.proofs.StampLemmas.{last_stamp-push, after_last}
 use Rattle.rbac_order.proofs.MessageLemmas.{submissions-append, CountsFrom-left}

@@ -1,7 +1,7 @@
 -- What the step of a world of one member is.
-use Rattle.std.proofs.Common.{ℕ, Bool, true, false, ◌≡◌, ◌≢◌, ◌+◌, ◌==◌, ◌⊎◌, inl, inr, List, [], ◌∷◌, ◌++◌, Option, Some, None, is_some, Ok, Err, refl, sym, ap, subst, ◌∙◌, arith, true≢false}
+use Rattle.std.proofs.Common.{ℕ, Bool, true, false, ◌≡◌, ◌+◌, ◌==◌, ◌⊎◌, inl, inr, [], ◌∷◌, Option, Some, None, is_some, Ok, Err, refl, sym, ap, subst, ◌∙◌, arith, true≢false}
 use Rattle.std.proofs.lemmas.Bool.Decides.{nat_tests}
-use Rattle.rbac_words.specs.World.{World, Node, is_member, stamp, submit_refusal, deliver_at, with_node, place_of, least, refusal, outcome, after, answer_unless, world_unless}
+use Rattle.rbac_words.specs.World.{World, Node, is_member, stamp, submit_refusal, deliver_at, with_node, place_of, refusal, outcome, after, answer_unless, world_unless}
 use Rattle.rbac_words.specs.declared.command.Command.{Command}
 use Rattle.rbac_words.specs.declared.event.Event.{Event}
 use Rattle.rbac_words.specs.declared.event.Event.TheVariants.{Submit, Receive, Deliver}
@@ -10,7 +10,6 @@ use Rattle.rbac_words.specs.declared.event.Outcome.TheVariants.{Submitted, Deliv
 use Rattle.rbac_words.specs.declared.event.Refusal.{Refusal}
 use Rattle.rbac_words.specs.declared.event.Refusal.TheVariants as refused
 use Rattle.rbac_words.specs.declared.message.Submission.{Submission}
-use Rattle.rbac_words.specs.declared.record.Record.{Record}
 use Rattle.rbac_words.specs.declared.stamp.Stamp.{Stamp}
 use Rattle.rbac_member.specs.declared.refusal.SubmitRefusal.{SubmitRefusal}
 use Rattle.rbac_member.specs.declared.refusal.SubmitRefusal.TheVariants.{ClockFull, SentFull, BadSerial, NoMemory}

@@ -1,5 +1,3 @@
-use Rattle.rbac_words.specs.Stamp.{last_stamp, up_to}
-use Rattle.rbac_words.specs.Message.{submitted_at, submissions, commands_of}
 use Rattle.rbac_order.proofs.HistoryLemmas.{history_of_own, history_of_another}
 use Rattle.rbac_order.proofs.histories.the_senders_commands_are_in_a_history.Goals as goal
 

@@ -1,4 +1,4 @@
-use Rattle.std.proofs.Common.{sym, ◌∙◌, ap, ◌+◌, subst, None}
+use Rattle.std.proofs.Common.{sym, ◌∙◌, ap, ◌+◌, subst}
 use Rattle.rbac_words.specs.World.{stamp, submit_refusal}
 use Rattle.rbac_words.specs.Message.{submissions_of}
 use Rattle.rbac_words.specs.Member.{Member, IsMember, node_of}
