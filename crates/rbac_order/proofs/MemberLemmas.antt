@@ -11,7 +11,7 @@ use Rattle.rbac_words.specs.Founding.{Group, Vocabulary, IsGroup}
 use Rattle.rbac_words.specs.State.{State, founding_state}
 use Rattle.rbac_words.specs.Effect.{effect, reply}
 use Rattle.rbac_words.specs.Replay.{state_after, replies}
-use Rattle.rbac_words.specs.Stamp.{IsBefore, is_before, IsAfter, has_passed, insert_all}
+use Rattle.rbac_words.specs.Stamp.{IsBefore, is_before, IsAfter, has_passed, insert_all, last_stamp}
 use Rattle.rbac_words.specs.Message.{stamp_of, submitted_at, submissions_of, submissions, submission_of, commands_of, has_later, is_by, next_serial, CountsFrom, IsLawful}
 use Rattle.rbac_words.specs.Front.{command_of, is_of}
 use Rattle.rbac_words.specs.World.{stamp, read_of, submit_refusal, least, must_acknowledge, acks, room_refusal, is_sent_full}
@@ -25,7 +25,7 @@ use Rattle.rbac_words.specs.declared.message.Submission.{Submission}
 use Rattle.rbac_words.specs.declared.record.Record.{Record}
 use Rattle.rbac_words.specs.declared.stamp.Stamp.{Stamp}
 use Rattle.rbac_words.proofs.ListLemmas.{Each-append, Each-left, Each-weaker, Each-both, Each-filter, map-push}
-use Rattle.rbac_order.proofs.StampLemmas.{before_trans, before_true, true_before, Rising-push, Rising-left, insert_all_above, Each-insert_all}
+use Rattle.rbac_order.proofs.StampLemmas.{before_trans, before_true, true_before, Rising-push, Rising-left, insert_all_above, Each-insert_all, last_has, after_last}
 use Rattle.rbac_order.proofs.MessageLemmas.{submissions-append, CountsFrom-left, serials_go_on, own_stamps, own_rising}
 use Rattle.rbac_order.proofs.ReplayLemmas.{state_after-push, replies-push}
 use Rattle.rbac_order.proofs.SenderLemmas.{of, Rising, decide, is_of-yes, is_of-no, of_member, put_all, IsPut, of-insert_all_other}
@@ -278,6 +278,14 @@ keeps_deliver v k = go (due_at v) refl
     go : (o : Option Submission) → due_at v ≡ o → IsMember (deliver_due v o)
     go None e = k
     go (Some x) e = let d = due_is v x e in keeps_delivered v x d.rest d.held d.passed k
+
+-- each other member than that of the last delivered command has passed it
+pub passed_last : (v : Member) (t : Stamp) (k : ℕ) → IsMember v → last_stamp submitted_at (commands_of v.history) ≡ Some t → IsNumber v.group k → (k ≡ v.number → ⊥) → (k ≡ t.member → ⊥) → has_passed (latest_of v k) t ≡ true
+passed_last v t k kept last number other d = last_has submitted_at (λ s. (s.member ≡ k → ⊥) → has_passed (latest_of v k) s ≡ true) (commands_of v.history) t (kept.passed k number other) last (λ e. d (sym e))
+
+-- and what is held lies above it
+pub held_above : (v : Member) (t : Stamp) → IsMember v → last_stamp submitted_at (commands_of v.history) ≡ Some t → Each (λ (x : Submission). IsBefore t x.stamp) v.held
+held_above v t kept last = subst (λ o. Each (λ (x : Submission). IsAfter o x.stamp) v.held) last (after_last submitted_at (commands_of v.history) v.held kept.rising)
 
 -- ---- A receipt
 

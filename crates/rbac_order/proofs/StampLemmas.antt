@@ -199,6 +199,12 @@ module _ {X : Type 0} (at : X → Stamp) where
   last_below_each (x ∷ []) t s e a = subst (λ u. IsBefore u s) (let f : at x ≡ t = cc in f) a.0
   last_below_each (x ∷ y ∷ xs) t s e a = last_below_each (y ∷ xs) t s e a.1
 
+  -- what holds of each stamp holds of the last one
+  pub last_has : (P : Stamp → Type 0) (xs : List X) (t : Stamp) → Each (λ x. P (at x)) xs → last_stamp at xs ≡ Some t → P t
+  last_has P [] t a e = let g : ⊥ = cc in absurd g
+  last_has P (x ∷ []) t a e = subst P (let f : at x ≡ t = cc in f) a.0
+  last_has P (x ∷ y ∷ xs) t a e = last_has P (y ∷ xs) t a.1 e
+
   pub Rising-right : (xs ys : List X) → IsRising at (xs ++ ys) → IsRising at ys
   Rising-right [] ys r = r
   Rising-right (x ∷ xs) ys r = Rising-right xs ys r.1

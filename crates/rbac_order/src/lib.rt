@@ -12,7 +12,10 @@ pub use histories::{
     a_list_of_each_members_commands_is_right, all_commands_rise, histories_of_a_group_are_right,
     the_senders_commands_are_in_a_history,
 };
-pub use members::{each_move_keeps_a_group, each_move_keeps_a_member, what_was_heard_is_known};
+pub use members::{
+    each_move_keeps_a_group, each_move_keeps_a_member, what_members_keep_of_the_last_delivery,
+    what_was_heard_is_known,
+};
 pub use stamps::{sorting_by_stamp, stamps_are_totally_ordered};
 pub use worlds::{
     a_founding_is_right, a_refusal_changes_nothing, all_that_was_read_is_delivered,
