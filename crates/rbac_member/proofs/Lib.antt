@@ -1,3 +1,2 @@
 pub mod CallLemmas
-pub mod KeepLemmas
 pub mod SerialLemmas

@@ -7,13 +7,13 @@ use Rattle.std.specs.FinMap.Entries.{find, find-put}
 use Rattle.std.proofs.lemmas.Cmp.{nat_cmp_total}
 use Rattle.std.proofs.lemmas.Bool.Decides.{nat_tests}
 use Rattle.std.proofs.lemmas.List.Elements.{filter-append}
-use Rattle.rbac_words.specs.Message.{is_by, submissions, next_serial}
+use Rattle.rbac_words.specs.Message.{is_by, submissions_of, submissions, next_serial}
 use Rattle.rbac_words.specs.declared.command.Command.{Command}
 use Rattle.rbac_words.specs.declared.message.Message.{Message}
 use Rattle.rbac_words.specs.declared.message.Message.TheVariants.{Call}
 use Rattle.rbac_words.specs.declared.message.Submission.{Submission}
 use Rattle.rbac_words.specs.declared.stamp.Stamp.{Stamp}
-use Rattle.rbac_words.proofs.MessageLemmas.{submissions-append}
+use Rattle.rbac_order.proofs.MessageLemmas.{submissions-append}
 use Rattle.rbac_member.specs.Serials.{counted, AreCounted}
 
 -- one command more is counted for its caller alone
@@ -26,7 +26,7 @@ next_serial-push caller xs x = ap length (filter-append (is_by caller) xs (x ∷
 
 pub counted_on : (entries : List (ℕ × ℕ)) (sent : List Message) (s : Stamp) (caller serial : ℕ) (command : Command)
     → AreCounted entries sent → serial ≡ next_serial caller (submissions sent)
-    → AreCounted (counted (Call s caller serial command) entries) (sent ++ Call s caller serial command ∷ [])
+    → AreCounted (counted (submissions_of (Call s caller serial command)) entries) (sent ++ Call s caller serial command ∷ [])
 counted_on entries sent s caller serial command known next other =
     ap (λ (o : Option ℕ). unwrap_or o 0) (find-put nat_cmp nat_cmp_total other caller (serial + 1) entries ∙ ap (λ b. cond b (Some (serial + 1)) (find nat_cmp other entries)) (unsigned_tied other caller))
     ∙ go (other == caller) (caller == other) refl refl

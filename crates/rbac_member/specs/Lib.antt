@@ -1,5 +1,4 @@
 pub mod Calls
 pub mod Inside
 pub mod Lists
-pub mod Member
 pub mod Serials

@@ -1,19 +1,19 @@
 -- The next serial of each caller, as entries by caller.
-use Rattle.std.specs.Prelude.{ℕ, ◌≡◌, ◌+◌, List, unwrap_or}
+use Rattle.std.specs.Prelude.{ℕ, ◌≡◌, ◌+◌, List, [], ◌∷◌, unwrap_or}
 use Rattle.std.specs.FinMap.Entries.{find, put}
 use Rattle.std.specs.Ordering.{nat_cmp}
 use Rattle.rbac_words.specs.Message.{submissions, next_serial}
 use Rattle.rbac_words.specs.declared.message.Message.{Message}
-use Rattle.rbac_words.specs.declared.message.Message.TheVariants.{Call, Ack}
+use Rattle.rbac_words.specs.declared.message.Submission.{Submission}
 
 -- what the entries say of a caller: 0 where they have none
 abbrev pub counted_of : ℕ → List (ℕ × ℕ) → ℕ
 counted_of caller entries = unwrap_or (find nat_cmp caller entries) 0
 
--- the entries after a message: a command with serial n is followed by one with serial n + 1
-abbrev pub counted : Message → List (ℕ × ℕ) → List (ℕ × ℕ)
-counted (Call stamp caller serial command) entries = put nat_cmp caller (serial + 1) entries
-counted (Ack stamp) entries = entries
+-- the entries after some commands: a command with serial n is followed by one with serial n + 1
+abbrev pub counted : List Submission → List (ℕ × ℕ) → List (ℕ × ℕ)
+counted [] entries = entries
+counted (x ∷ xs) entries = counted xs (put nat_cmp x.caller (x.serial + 1) entries)
 
 -- of each caller they say how many of its commands were sent
 abbrev pub AreCounted : List (ℕ × ℕ) → List Message → Type 0

@@ -1,18 +1,19 @@
 //! A member of a group.
-ghost use Rattle.std.specs.Prelude.{◌≡◌, ◌≢◌, ◌≤◌, ◌<◌, ◌+◌, ◌⊎◌, [], ◌∷◌, ◌++◌, None, IfOk, IfErr, OnOk, OnErr, vec_len, vec_capacity};
+ghost use Rattle.std.specs.Prelude.{◌≡◌, ◌≢◌, ◌≤◌, ◌<◌, ◌+◌, ◌⊎◌, [], ◌∷◌, ◌++◌, None, true, is_some, IfOk, IfErr, OnOk, OnErr, vec_len, vec_capacity};
 ghost use Rattle.rbac_words.specs.Message.{submissions_of};
 ghost use Rattle.rbac_member.specs.Lists.{TakesOver};
 ghost use Rattle.rbac_member.specs.Serials.{counted, counted_of};
 
 use crate::refusal::{FoundRefusal, SubmitRefusal};
 use rbac_decide::Policy;
-use rbac_words::{Answer, Command, Group, Message, Record, Stamp, Submission, Vocabulary};
+use rbac_words::limits::LAST_CLOCK;
+use rbac_words::{
+    Answer, Command, Group, Message, Record, Stamp, Submission, Vocabulary,
+};
 use sorted_keys::SortedMap;
 use std::alloc::{AllocError, Global};
 use std::collections::VecDeque;
 use std::marker::Model;
-
-const LAST_CLOCK: u64 = 9_007_199_254_740_991;
 
 /// A member: its clock, each caller's next serial, what it sent, what it holds, what it delivered, and its policy.
 #[derive(Drop)]
@@ -28,7 +29,7 @@ pub struct Member {
 }
 
 impl Model for Member {
-    ghost use Rattle.rbac_member.specs.Member.{Member as MemberValue};
+    ghost use Rattle.rbac_words.specs.Member.{Member as MemberValue};
 
     ghost Value = { MemberValue };
 
@@ -72,7 +73,7 @@ fn dropped(_message: Message) -> AllocError {
 // Counts the command of a message, where it is one.
 fn count(serials: &mut SortedMap<u32, u64>, message: &Message)
     requires { 0 < serials.old.room }
-    ensures { serials.new.content ≡ counted message.now serials.old.content }
+    ensures { serials.new.content ≡ counted (submissions_of message.now) serials.old.content }
 {
     match message {
         Message::Call { caller, serial, .. } => serials.put(*caller, u64::from(*serial) + 1),
@@ -88,7 +89,7 @@ fn send(
     held: &mut VecDeque<Submission>,
     message: Message,
 ) -> Result<(), AllocError>
-    ensures serials { OnOk result (serials.new.content ≡ counted message serials.old.content) }
+    ensures serials { OnOk result (serials.new.content ≡ counted (submissions_of message) serials.old.content) }
     ensures sent { OnOk result (sent.new.items ≡ sent.old.items ++ message ∷ []) }
     ensures held { OnOk result (held.new.items ≡ held.old.items ++ submissions_of message) }
     ensures serials_unchanged { OnErr result (serials.new.content ≡ serials.old.content) }
@@ -144,9 +145,9 @@ fn next_of(serials: &SortedMap<u32, u64>, caller: u32) -> u64
 }
 
 impl Member {
-    ghost use Rattle.rbac_words.specs.World.{stamp, submit_refusal};
-    ghost use Rattle.rbac_member.specs.Member.{IsMember, founded, submitted, deliver_least, node_of};
-    ghost use Rattle.rbac_member.specs.Calls.{refusal_of, place_of_delivery};
+    ghost use Rattle.rbac_words.specs.Member.{IsMember, founded, submitted, deliver_due, due_at, node_of};
+    ghost use Rattle.rbac_words.specs.World.{stamp, submit_refusal, place_of};
+    ghost use Rattle.rbac_member.specs.Calls.{refusal_of};
 
     /// Its clock.
     pub fn clock(&self) -> u64
@@ -203,6 +204,7 @@ impl Member {
         ensures known { OnOk result ((1 ≤ number) × (number ≤ group.members)) }
         ensures unknown { IfErr result (λ refusal. (refusal ≡ FoundRefusal.UnknownMember) × ((number < 1) ⊎ (group.members < number))) }
     {
+        group.invariants();
         if number < 1 || group.members() < number {
             return Err(FoundRefusal::UnknownMember);
         }
@@ -241,6 +243,41 @@ impl Member {
         })
     }
 
+    // Sends a command with the next stamp, which nothing but memory stands in the way of, and holds it.
+    fn send_call(
+        &mut self,
+        alloc: Global,
+        next: Stamp,
+        caller: u32,
+        serial: u32,
+        command: Command,
+    ) -> Result<(), AllocError>
+        requires accepted { submit_refusal self.old.group (node_of self.old) caller serial ≡ None }
+        requires next { next ≡ stamp (self.old.clock + 1) self.old.number }
+        ensures submitted { OnOk result (self.new ≡ submitted self.old caller serial command) }
+        ensures unchanged { OnErr result (self.new ≡ self.old) }
+    {
+        let message = Message::Call {
+            stamp: next,
+            caller,
+            serial,
+            command,
+        };
+        match send(
+            alloc,
+            &mut self.serials,
+            &mut self.sent,
+            &mut self.held,
+            message,
+        ) {
+            Ok(()) => {
+                self.clock = next.clock;
+                Ok(())
+            }
+            Err(AllocError) => Err(AllocError),
+        }
+    }
+
     /// Sends a caller's next command to all members, and holds it. Serials count a caller's commands from 0.
     pub fn submit(
         &mut self,
@@ -255,27 +292,12 @@ impl Member {
         ensures first_refusal { IfErr result (λ refusal. submit_refusal self.old.group (node_of self.old) caller serial ≡ refusal_of refusal) }
         ensures unchanged { OnErr result (self.new ≡ self.old) }
     {
-        let stamp = match self.next_stamp(caller, serial) {
-            Ok(stamp) => stamp,
+        let next = match self.next_stamp(caller, serial) {
+            Ok(next) => next,
             Err(refusal) => return Err(refusal),
         };
-        let message = Message::Call {
-            stamp,
-            caller,
-            serial,
-            command,
-        };
-        match send(
-            alloc,
-            &mut self.serials,
-            &mut self.sent,
-            &mut self.held,
-            message,
-        ) {
-            Ok(()) => {
-                self.clock = stamp.clock;
-                Ok(stamp)
-            }
+        match self.send_call(alloc, next, caller, serial, command) {
+            Ok(()) => Ok(next),
             Err(AllocError) => Err(SubmitRefusal::NoMemory),
         }
     }
@@ -294,22 +316,27 @@ impl Member {
         ensures first_refusal { IfErr result (λ refusal. submit_refusal self.old.group (node_of self.old) caller serial ≡ refusal_of refusal) }
         ensures unchanged { OnErr result (self.new ≡ self.old) }
     {
-        if let Err(refusal) = self.next_stamp(caller, serial) {
-            return Err(refusal);
-        }
-        match command.copy() {
-            Ok(command) => self.submit(alloc, caller, serial, command),
+        let next = match self.next_stamp(caller, serial) {
+            Ok(next) => next,
+            Err(refusal) => return Err(refusal),
+        };
+        let copy = match command.copy() {
+            Ok(copy) => copy,
+            Err(AllocError) => return Err(SubmitRefusal::NoMemory),
+        };
+        match self.send_call(alloc, next, caller, serial, copy) {
+            Ok(()) => Ok(next),
             Err(AllocError) => Err(SubmitRefusal::NoMemory),
         }
     }
 
-    /// Delivers the least held command, if one is due: it leaves what is held, its record joins the history, and the
-    /// policy becomes its effect. Answers the record's place in the history.
+    /// Delivers the command that is due, if one is: it leaves what is held, its record joins the history, and the policy
+    /// becomes its effect. Answers the record's place in the history.
     pub fn deliver(&mut self, alloc: Global) -> Result<Option<usize>, AllocError>
-        ensures place { IfOk result (λ place. place ≡ place_of_delivery self.old self.old.held) }
-        ensures delivered { OnOk result (self.new ≡ deliver_least self.old self.old.held) }
+        ensures place { IfOk result (λ place. place ≡ place_of (node_of self.old) (due_at self.old)) }
+        ensures delivered { OnOk result (self.new ≡ deliver_due self.old (due_at self.old)) }
         ensures unchanged { OnErr result (self.new ≡ self.old) }
-        ensures was_due { OnErr result (self.old.held ≢ []) }
+        ensures was_due { OnErr result (is_some (due_at self.old) ≡ true) }
     {
         let Some(next) = self.held.front() else {
             return Ok(None);

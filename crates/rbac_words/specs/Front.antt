@@ -4,7 +4,7 @@ use Rattle.std.specs.List.{filter}
 use Rattle.rbac_words.specs.State.{State}
 use Rattle.rbac_words.specs.Replay.{replies}
 use Rattle.rbac_words.specs.Stamp.{IsRising}
-use Rattle.rbac_words.specs.Message.{submitted_at, told, CountsFrom, is_by}
+use Rattle.rbac_words.specs.Message.{submitted_at, commands_of, CountsFrom, is_by}
 use Rattle.rbac_words.specs.declared.command.Command.{Command}
 use Rattle.rbac_words.specs.declared.message.Submission.{Submission}
 use Rattle.rbac_words.specs.declared.record.Record.{Record}
@@ -19,6 +19,6 @@ is_of member x = x.stamp.member == member
 -- stamps rise, the answers are those of the commands replayed from the founding state, and each caller of each member
 -- has its serials 0, 1, 2 and so on
 pub record IsLegalFront (founded : State) (history : List Record) : Type 0 where
-  pub rising : IsRising submitted_at (told history)
-  pub answered : map (λ (r : Record). r.answer) history ≡ replies founded (map command_of (told history))
-  pub serials : (member caller : ℕ) → CountsFrom 0 (filter (is_by caller) (filter (is_of member) (told history)))
+  pub rising : IsRising submitted_at (commands_of history)
+  pub answered : map (λ (r : Record). r.answer) history ≡ replies founded (map command_of (commands_of history))
+  pub serials : (member caller : ℕ) → CountsFrom 0 (filter (is_by caller) (filter (is_of member) (commands_of history)))

@@ -8,8 +8,11 @@ pub mod Founding
 pub mod Front
 pub mod Inheritance
 pub mod Limits
+pub mod Member
+pub mod Members
 pub mod Message
 pub mod Name
+pub mod Play
 pub mod Relations
 pub mod Replay
 pub mod Reviews
@@ -19,4 +22,5 @@ pub mod Separation
 pub mod Sound
 pub mod Stamp
 pub mod State
+pub mod Step
 pub mod World

@@ -1,9 +1,9 @@
 -- Messages, the commands in them, and the lists of messages that a member may send (Lamport 1978).
-use Rattle.std.specs.Prelude.{ℕ, Bool, suc, ◌≡◌, ◌≤◌, ◌==◌, ⊤, List, [], ◌∷◌, length, map}
-use Rattle.std.specs.List.{AllByRecursion, flat_map, filter}
+use Rattle.std.specs.Prelude.{ℕ, Bool, true, suc, ◌≡◌, ◌≤◌, ◌==◌, ⊤, List, [], ◌∷◌, length, map}
+use Rattle.std.specs.List.{AllByRecursion, flat_map, filter, list_any}
 use Rattle.rbac_words.specs.Limits.{last_clock}
 use Rattle.rbac_words.specs.Founding.{Group}
-use Rattle.rbac_words.specs.Stamp.{IsRising}
+use Rattle.rbac_words.specs.Stamp.{IsRising, is_before}
 use Rattle.rbac_words.specs.declared.stamp.Stamp.{Stamp}
 use Rattle.rbac_words.specs.declared.message.Message.{Message}
 use Rattle.rbac_words.specs.declared.message.Message.TheVariants.{Call, Ack}
@@ -15,6 +15,10 @@ abbrev pub stamp_of : Message → Stamp
 stamp_of (Call stamp caller serial command) = stamp
 stamp_of (Ack stamp) = stamp
 
+-- whether one of these messages was sent with a greater stamp
+abbrev pub has_later : List Message → Stamp → Bool
+has_later messages s = list_any (λ m. is_before s (stamp_of m)) messages
+
 -- when a command was submitted
 abbrev pub submitted_at : Submission → Stamp
 submitted_at x = x.stamp
@@ -23,6 +27,10 @@ submitted_at x = x.stamp
 abbrev pub submissions_of : Message → List Submission
 submissions_of (Call stamp caller serial command) = record { stamp = stamp; caller = caller; serial = serial; command = command } ∷ []
 submissions_of (Ack stamp) = []
+
+-- whether a message has commands
+abbrev pub has_commands : Message → Bool
+has_commands m = list_any (λ (x : Submission). true) (submissions_of m)
 
 -- the commands of a list of messages
 abbrev pub submissions : List Message → List Submission
@@ -58,5 +66,5 @@ abbrev pub submission_of : Record → Submission
 submission_of r = record { stamp = r.stamp; caller = r.caller; serial = r.serial; command = r.command }
 
 -- the commands of a history
-abbrev pub told : List Record → List Submission
-told history = map submission_of history
+abbrev pub commands_of : List Record → List Submission
+commands_of history = map submission_of history

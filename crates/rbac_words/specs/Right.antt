@@ -5,7 +5,7 @@ use Rattle.rbac_words.specs.Founding.{Group, Vocabulary}
 use Rattle.rbac_words.specs.State.{founding_state}
 use Rattle.rbac_words.specs.Replay.{replies}
 use Rattle.rbac_words.specs.Stamp.{sort_by_stamp, last_stamp, up_to}
-use Rattle.rbac_words.specs.Message.{submitted_at, submissions, told}
+use Rattle.rbac_words.specs.Message.{submitted_at, submissions, commands_of}
 use Rattle.rbac_words.specs.Front.{command_of}
 use Rattle.rbac_words.specs.World.{Node, World, nobody}
 use Rattle.rbac_words.specs.declared.message.Submission.{Submission}
@@ -18,8 +18,8 @@ all_commands w = sort_by_stamp submitted_at (flat_map (λ (v : Node). submission
 -- the history is all commands submitted anywhere up to its last stamp, in stamp order, each with the answer that the
 -- commands of smaller stamp give
 pub record IsRight (w : World) (v : Node) : Type 0 where
-  pub delivered : told v.history ≡ up_to submitted_at (last_stamp submitted_at (told v.history)) (all_commands w)
-  pub answered : map (λ (r : Record). r.answer) v.history ≡ replies (founding_state w.vocabulary) (map command_of (told v.history))
+  pub delivered : commands_of v.history ≡ up_to submitted_at (last_stamp submitted_at (commands_of v.history)) (all_commands w)
+  pub answered : map (λ (r : Record). r.answer) v.history ≡ replies (founding_state w.vocabulary) (map command_of (commands_of v.history))
 
 -- each history is right
 abbrev pub AreHistoriesRight : World → Type 0

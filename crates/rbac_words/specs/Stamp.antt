@@ -1,5 +1,5 @@
 -- Stamps and their total order (Lamport 1978, "Ordering the Events Totally").
-use Rattle.std.specs.Prelude.{Bool, ◌≡◌, ◌==◌, ◌<◌, nat_lt, ◌||◌, ◌&&◌, ◌⊎◌, List, [], ◌∷◌, ⊤, not, if◌then◌else◌, Option, Some, None}
+use Rattle.std.specs.Prelude.{Bool, false, ◌≡◌, ◌==◌, ◌<◌, nat_lt, ◌||◌, ◌&&◌, ◌⊎◌, List, [], ◌∷◌, ⊤, not, if◌then◌else◌, Option, Some, None}
 use Rattle.std.specs.List.{AllByRecursion, filter}
 use Rattle.std.specs.declared.cmp.Ordering.{Ordering}
 use Rattle.std.specs.Ordering.{nat_cmp, then_cmp, on}
@@ -50,3 +50,18 @@ last_stamp at (x ∷ y ∷ ys) = last_stamp at (y ∷ ys)
 abbrev pub up_to : {X : Type 0} → (X → Stamp) → Option Stamp → List X → List X
 up_to at None xs = []
 up_to at (Some t) xs = filter (λ x. not (is_before t (at x))) xs
+
+-- some elements put among others, each before the first one with a greater stamp
+abbrev pub insert_all : {X : Type 0} → (X → Stamp) → List X → List X → List X
+insert_all at [] ys = ys
+insert_all at (x ∷ xs) ys = insert_all at xs (insert_by_stamp at x ys)
+
+-- a stamp after the last one, if there is a last one
+abbrev pub IsAfter : Option Stamp → Stamp → Type 0
+IsAfter None s = ⊤
+IsAfter (Some last) s = IsBefore last s
+
+-- whether the last stamp, if there is one, comes after this one
+abbrev pub has_passed : Option Stamp → Stamp → Bool
+has_passed None s = false
+has_passed (Some last) s = is_before s last

@@ -1,14 +1,14 @@
 -- A world of members, and the step that an event is (Lamport 1978, "Ordering the Events Totally"; the numbers on the
 -- links, the limits and the refusals are this project's own).
-use Rattle.std.specs.Prelude.{ℕ, Bool, true, false, not, ◌==◌, ◌-◌, ◌+◌, ◌&&◌, ◌||◌, max, nat_lt, nat_le, if◌then◌else◌, List, [], ◌∷◌, ◌++◌, Option, Some, None, Result, Ok, Err, length, map, take, slice_set, slice_index, slice_index_or}
+use Rattle.std.specs.Prelude.{ℕ, Bool, not, ◌==◌, ◌-◌, ◌+◌, ◌&&◌, ◌||◌, max, nat_lt, nat_le, if◌then◌else◌, List, [], ◌∷◌, ◌++◌, Option, Some, None, Result, Ok, Err, length, map, take, slice_set, slice_index, slice_index_or}
 use Rattle.std.specs.List.{flat_map, filter, list_any, list_all}
 use Rattle.rbac_words.specs.Limits.{last_clock}
 use Rattle.rbac_words.specs.Founding.{Group, Vocabulary}
 use Rattle.rbac_words.specs.State.{founding_state}
 use Rattle.rbac_words.specs.Effect.{reply}
 use Rattle.rbac_words.specs.Replay.{state_after}
-use Rattle.rbac_words.specs.Stamp.{is_before, is_same_stamp, sort_by_stamp}
-use Rattle.rbac_words.specs.Message.{stamp_of, submitted_at, submissions, next_serial, told}
+use Rattle.rbac_words.specs.Stamp.{is_same_stamp, sort_by_stamp}
+use Rattle.rbac_words.specs.Message.{stamp_of, has_later, submitted_at, has_commands, submissions, next_serial, commands_of}
 use Rattle.rbac_words.specs.Front.{command_of}
 use Rattle.rbac_words.specs.declared.command.Command.{Command}
 use Rattle.rbac_words.specs.declared.stamp.Stamp.{Stamp}
@@ -63,14 +63,14 @@ abbrev pub heard_commands : World → Node → List Submission
 heard_commands w v = sort_by_stamp submitted_at (flat_map (λ other. submissions (heard_of v other)) w.nodes)
 
 -- whether a command is in a history
-abbrev pub is_told : List Record → Submission → Bool
-is_told history x = list_any (λ r. is_same_stamp r.stamp x.stamp) history
+abbrev pub is_delivered : List Record → Submission → Bool
+is_delivered history x = list_any (λ r. is_same_stamp r.stamp x.stamp) history
 
 -- of each member other than this one and the command's, a message with a greater stamp was heard: no command that
 -- comes later can have a smaller stamp
 abbrev pub is_stable : World → Node → Submission → Bool
 is_stable w v x =
-    list_all (λ other. (other.number == v.number || other.number == x.stamp.member) || list_any (λ m. is_before x.stamp (stamp_of m)) (heard_of v other)) w.nodes
+    list_all (λ other. (other.number == v.number || other.number == x.stamp.member) || has_later (heard_of v other) x.stamp) w.nodes
 
 -- the least command that a node has heard and has not delivered
 abbrev pub least : List Submission → Option Submission
@@ -83,7 +83,7 @@ if_stable w v (Some x) = if is_stable w v x then Some x else None
 
 -- the command that a node delivers next, if one is due
 abbrev pub due : World → Node → Option Submission
-due w v = if_stable w v (least (filter (λ x. not (is_told v.history x)) (heard_commands w v)))
+due w v = if_stable w v (least (filter (λ x. not (is_delivered v.history x)) (heard_commands w v)))
 
 -- ---- What a step leaves of one member
 
@@ -94,15 +94,17 @@ stamp clock member = record { clock = clock; member = member }
 abbrev pub submit_at : Node → ℕ → ℕ → Command → Node
 submit_at v caller serial command = record v { clock = v.clock + 1; sent = v.sent ++ Call (stamp (v.clock + 1) v.number) caller serial command ∷ [] }
 
--- the clock after a message with this clock
-abbrev pub clock_after : ℕ → Message → ℕ
-clock_after clock (Call s caller serial command) = (max clock s.clock + 1) + 1
-clock_after clock (Ack s) = max clock s.clock + 1
+-- the rule of acknowledgements: a message is acknowledged where it has commands, and no other one is
+abbrev pub must_acknowledge : Node → Message → Bool
+must_acknowledge v m = has_commands m
 
--- what is sent upon a message: an acknowledgement of a command, and of nothing else
+-- the clock moves above that of the message, and once more for an acknowledgement
+abbrev pub clock_after : Node → Message → ℕ
+clock_after v m = if must_acknowledge v m then (max v.clock (stamp_of m).clock + 1) + 1 else max v.clock (stamp_of m).clock + 1
+
+-- the stamp of what is sent upon a message, if it is acknowledged
 abbrev pub acknowledgement : Node → Message → Option Stamp
-acknowledgement v (Call s caller serial command) = Some (stamp (clock_after v.clock (Call s caller serial command)) v.number)
-acknowledgement v (Ack s) = None
+acknowledgement v m = if must_acknowledge v m then Some (stamp (clock_after v m) v.number) else None
 
 abbrev pub acks : Option Stamp → List Message
 acks None = []
@@ -111,7 +113,7 @@ acks (Some s) = Ack s ∷ []
 abbrev pub receive_at : Node → ℕ → Message → Node
 receive_at v from m =
     record v {
-      clock = clock_after v.clock m;
+      clock = clock_after v m;
       read = slice_set v.read (from - 1) (read_of v from + 1);
       sent = v.sent ++ acks (acknowledgement v m);
     }
@@ -124,7 +126,7 @@ record_of vocabulary v x =
       caller = x.caller;
       serial = x.serial;
       command = x.command;
-      answer = reply x.command (state_after (founding_state vocabulary) (map command_of (told v.history)));
+      answer = reply x.command (state_after (founding_state vocabulary) (map command_of (commands_of v.history)));
     }
 
 abbrev pub deliver_at : Vocabulary → Node → Option Submission → Node
@@ -147,14 +149,10 @@ submit_refusal group v caller serial =
     else (if serial == next_serial caller (submissions v.sent) then None
     else Some (BadSerial (next_serial caller (submissions v.sent)))))
 
-abbrev pub needs_ack : Message → Bool
-needs_ack (Call s caller serial command) = true
-needs_ack (Ack s) = false
-
 abbrev pub room_refusal : Group → Node → Message → Option Refusal
 room_refusal group v m =
-    if nat_lt last_clock (clock_after v.clock m) then Some ClockFull
-    else (if needs_ack m && is_sent_full group v then Some SentFull else None)
+    if nat_lt last_clock (clock_after v m) then Some ClockFull
+    else (if must_acknowledge v m && is_sent_full group v then Some SentFull else None)
 
 abbrev pub receive_refusal : Group → Node → Node → ℕ → Option Refusal
 receive_refusal group v sender n =

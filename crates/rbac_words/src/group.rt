@@ -60,8 +60,7 @@ impl Group {
 
     /// How many members there are.
     pub fn members(&self) -> u32
-        ensures members { result ≡ self.now.members }
-        ensures within_limits { IsGroup self.now }
+        ensures { result ≡ self.now.members }
     {
         self.members
     }
@@ -78,5 +77,12 @@ impl Group {
         ensures { result ≡ self.now.sent_limit }
     {
         self.sent_limit
+    }
+
+    /// Each group is within the limits.
+    pub fn invariants(&self)
+        ensures { IsGroup self.now }
+    {
+        let _members = self.members;
     }
 }

@@ -6,7 +6,6 @@ pub mod answer;
 pub mod command;
 pub mod event;
 pub mod group;
-pub mod laws;
 pub mod limits;
 pub mod message;
 pub mod name;

@@ -6,8 +6,8 @@ use crate::command::Command;
 use crate::stamp::Stamp;
 use std::alloc::AllocError;
 
-/// A command as it was submitted: when and where, by which caller of that member, and as the how manieth of that
-/// caller's commands, counted from 0.
+/// A command as it was submitted: when and where, by which caller of that member, and with which serial, the number of that
+/// caller's commands before it.
 #[derive(Drop)]
 pub struct Submission {
     pub stamp: Stamp,

@@ -2,12 +2,50 @@
 ghost use Rattle.std.specs.Prelude.{IsTrue, ◌↔◌};
 ghost use Rattle.rbac_words.specs.Stamp.{IsBefore};
 
+use std::cmp::Ordering;
+
 /// When a message was sent: the sender's clock and the sender's number. The smaller clock comes first, and equal clocks
 /// are ordered by the smaller member number (Lamport 1978, "Ordering the Events Totally").
-#[derive(Clone, Copy, Debug, PartialEq, Eq, PartialOrd, Ord, Drop)]
+#[derive(Clone, Copy, Debug, PartialEq, Eq, Drop)]
 pub struct Stamp {
     pub clock: u64,
     pub member: u32,
+}
+
+impl Ord for Stamp {
+    ghost use Rattle.std.proofs.Common.{rules};
+    ghost use Rattle.std.specs.Cmp.Rules.{comparing};
+    ghost use Rattle.rbac_words.specs.Stamp.{stamp_cmp};
+
+    ghost cmp = { stamp_cmp };
+
+    ghost total = { Prim.search (comparing, rules) };
+
+    ghost matches_partial_cmp = { Prim.search (comparing, rules) };
+
+    ghost matches_eq = { Prim.search (comparing, rules) };
+
+    fn cmp(&self, other: &Stamp) -> Ordering {
+        self.clock
+            .cmp(&other.clock)
+            .then(self.member.cmp(&other.member))
+    }
+}
+
+impl PartialOrd for Stamp {
+    ghost use Rattle.std.proofs.Common.{rules};
+    ghost use Rattle.std.specs.Cmp.{partial_order_from_own_ties};
+    ghost use Rattle.std.specs.Cmp.Rules.{comparing};
+    ghost use Rattle.std.specs.Ordering.{as_partial_cmp};
+    ghost use Rattle.rbac_words.specs.Stamp.{stamp_cmp};
+
+    ghost partial_cmp = { as_partial_cmp stamp_cmp };
+
+    ghost laws = { partial_order_from_own_ties (Prim.search (comparing, rules)) (Prim.search (comparing, rules)) };
+
+    fn partial_cmp(&self, other: &Stamp) -> Option<Ordering> {
+        Some(self.cmp(other))
+    }
 }
 
 impl Stamp {

@@ -1,7 +1,7 @@
 -- What the step of a world of one member is.
-use Rattle.std.proofs.Common.{ℕ, Bool, true, false, ◌≡◌, ◌≢◌, ◌+◌, ◌==◌, ◌⊎◌, inl, inr, List, [], ◌∷◌, ◌++◌, Option, Some, None, is_some, Ok, Err, refl, sym, ap, subst, ◌∙◌, arith, true≢false}
+use Rattle.std.proofs.Common.{ℕ, Bool, true, false, ◌≡◌, ◌+◌, ◌==◌, ◌⊎◌, inl, inr, [], ◌∷◌, Option, Some, None, is_some, Ok, Err, refl, sym, ap, subst, ◌∙◌, arith, true≢false}
 use Rattle.std.proofs.lemmas.Bool.Decides.{nat_tests}
-use Rattle.rbac_words.specs.World.{World, Node, is_member, stamp, submit_refusal, deliver_at, with_node, place_of, least, refusal, outcome, after, answer_unless, world_unless}
+use Rattle.rbac_words.specs.World.{World, Node, is_member, stamp, submit_refusal, deliver_at, with_node, place_of, refusal, outcome, after, answer_unless, world_unless}
 use Rattle.rbac_words.specs.declared.command.Command.{Command}
 use Rattle.rbac_words.specs.declared.event.Event.{Event}
 use Rattle.rbac_words.specs.declared.event.Event.TheVariants.{Submit, Receive, Deliver}
@@ -10,15 +10,16 @@ use Rattle.rbac_words.specs.declared.event.Outcome.TheVariants.{Submitted, Deliv
 use Rattle.rbac_words.specs.declared.event.Refusal.{Refusal}
 use Rattle.rbac_words.specs.declared.event.Refusal.TheVariants as refused
 use Rattle.rbac_words.specs.declared.message.Submission.{Submission}
-use Rattle.rbac_words.specs.declared.record.Record.{Record}
 use Rattle.rbac_words.specs.declared.stamp.Stamp.{Stamp}
 use Rattle.rbac_member.specs.declared.refusal.SubmitRefusal.{SubmitRefusal}
 use Rattle.rbac_member.specs.declared.refusal.SubmitRefusal.TheVariants.{ClockFull, SentFull, BadSerial, NoMemory}
-use Rattle.rbac_member.specs.Calls.{refusal_of, place_of_delivery}
-use Rattle.rbac_member.specs.Member.{Member, node_of, submitted, deliver_least}
-use Rattle.rbac_world.specs.Inside.{world_of, IsAlone}
-use Rattle.rbac_world.specs.Steps.{submit_refused, grows, IsStep}
-use Rattle.rbac_world.proofs.AloneLemmas.{own_number, due_held, record_due}
+use Rattle.rbac_words.specs.Step.{grows, IsStep}
+use Rattle.rbac_words.specs.Member.{Member, node_of, submitted, deliver_due, due_at}
+use Rattle.rbac_order.proofs.StepLemmas.{deliver_is}
+use Rattle.rbac_member.specs.Calls.{refusal_of}
+use Rattle.rbac_world.specs.Inside.{world_alone, IsAlone}
+use Rattle.rbac_world.specs.Refusals.{submit_refused}
+use Rattle.rbac_world.proofs.AloneLemmas.{own_number, members_alone, due_alone}
 
 -- an event that is not refused
 taken : (w new : World) (e : Event) (o : Outcome) → refusal w e ≡ None → outcome w e ≡ o → new ≡ after w e → IsStep w e (Ok o) new
@@ -59,22 +60,22 @@ pub submit_unknown : (w : World) (at caller serial : ℕ) (c : Command) → is_m
 submit_unknown w at caller serial c e = not_taken w (Submit at caller serial c) refused.UnknownMember (rw e refl) (λ f. cc)
 
 pub submit_taken : (v : Member) (at caller serial : ℕ) (c : Command) (s : Stamp) → IsAlone v → at ≡ 1 → submit_refusal v.group (node_of v) caller serial ≡ None → s ≡ stamp (v.clock + 1) v.number
-    → IsStep (world_of v) (Submit at caller serial c) (Ok (Submitted s)) (world_of (submitted v caller serial c))
+    → IsStep (world_alone v) (Submit at caller serial c) (Ok (Submitted s)) (world_alone (submitted v caller serial c))
 submit_taken v at caller serial c s a one none is =
-    subst (λ k. IsStep (world_of v) (Submit k caller serial c) (Ok (Submitted s)) (world_of (submitted v caller serial c))) (sym one)
-    (taken (world_of v) (world_of (submitted v caller serial c)) (Submit 1 caller serial c) (Submitted s) none
+    subst (λ k. IsStep (world_alone v) (Submit k caller serial c) (Ok (Submitted s)) (world_alone (submitted v caller serial c))) (sym one)
+    (taken (world_alone v) (world_alone (submitted v caller serial c)) (Submit 1 caller serial c) (Submitted s) none
     (ap (λ n. Submitted (stamp (v.clock + 1) n)) (sym (own_number v a)) ∙ ap Submitted (sym is)) refl)
 
 pub submit_not_taken : (v : Member) (at caller serial : ℕ) (c : Command) (r : SubmitRefusal) → at ≡ 1 → submit_refusal v.group (node_of v) caller serial ≡ refusal_of r
-    → IsStep (world_of v) (Submit at caller serial c) (Err (submit_refused r)) (world_of v)
+    → IsStep (world_alone v) (Submit at caller serial c) (Err (submit_refused r)) (world_alone v)
 submit_not_taken v at caller serial c r one is =
-    subst (λ k. IsStep (world_of v) (Submit k caller serial c) (Err (submit_refused r)) (world_of v)) (sym one) (go r is)
+    subst (λ k. IsStep (world_alone v) (Submit k caller serial c) (Err (submit_refused r)) (world_alone v)) (sym one) (go r is)
   where
-    go : (r : SubmitRefusal) → submit_refusal v.group (node_of v) caller serial ≡ refusal_of r → IsStep (world_of v) (Submit 1 caller serial c) (Err (submit_refused r)) (world_of v)
-    go ClockFull e = not_taken (world_of v) (Submit 1 caller serial c) refused.ClockFull e (λ f. cc)
-    go SentFull e = not_taken (world_of v) (Submit 1 caller serial c) refused.SentFull e (λ f. cc)
-    go (BadSerial next) e = not_taken (world_of v) (Submit 1 caller serial c) (refused.BadSerial next) e (λ f. cc)
-    go NoMemory e = starved (world_of v) (Submit 1 caller serial c) e refl
+    go : (r : SubmitRefusal) → submit_refusal v.group (node_of v) caller serial ≡ refusal_of r → IsStep (world_alone v) (Submit 1 caller serial c) (Err (submit_refused r)) (world_alone v)
+    go ClockFull e = not_taken (world_alone v) (Submit 1 caller serial c) refused.ClockFull e (λ f. cc)
+    go SentFull e = not_taken (world_alone v) (Submit 1 caller serial c) refused.SentFull e (λ f. cc)
+    go (BadSerial next) e = not_taken (world_alone v) (Submit 1 caller serial c) (refused.BadSerial next) e (λ f. cc)
+    go NoMemory e = starved (world_alone v) (Submit 1 caller serial c) e refl
 
 -- ---- Receive
 
@@ -97,28 +98,19 @@ receive_self w at from n e f same = not_taken w (Receive at from n) refused.From
 pub deliver_unknown : (w : World) (at : ℕ) → is_member w at ≡ false → IsStep w (Deliver at) (Err refused.UnknownMember) w
 deliver_unknown w at e = not_taken w (Deliver at) refused.UnknownMember (rw e refl) (λ f. cc)
 
-has_least : (xs : List Submission) → xs ≢ [] → is_some (least xs) ≡ true
-has_least [] some = absurd (some refl)
-has_least (x ∷ xs) some = refl
+pub deliver_starved : (v : Member) (at : ℕ) → IsAlone v → at ≡ 1 → is_some (due_at v) ≡ true → IsStep (world_alone v) (Deliver at) (Err refused.NoMemory) (world_alone v)
+deliver_starved v at a e some =
+    subst (λ k. IsStep (world_alone v) (Deliver k) (Err refused.NoMemory) (world_alone v)) (sym e)
+    (starved (world_alone v) (Deliver 1) refl (ap is_some (due_alone v a) ∙ some))
 
-pub deliver_starved : (v : Member) (at : ℕ) → IsAlone v → at ≡ 1 → v.held ≢ [] → IsStep (world_of v) (Deliver at) (Err refused.NoMemory) (world_of v)
-deliver_starved v at a e held =
-    subst (λ k. IsStep (world_of v) (Deliver k) (Err refused.NoMemory) (world_of v)) (sym e)
-    (starved (world_of v) (Deliver 1) refl (ap is_some (due_held v a) ∙ has_least v.held held))
+delivered_is : (v : Member) → IsAlone v → (o : Option Submission) → world_alone (deliver_due v o) ≡ with_node (world_alone v) 1 (deliver_at v.vocabulary (node_of v) o)
+delivered_is v a None = refl
+delivered_is v a (Some x) = ap (λ (n : Node). with_node (world_alone v) 1 n) (deliver_is v.group v.vocabulary (v ∷ []) (members_alone v a) 0 (Some x) (omega arith))
 
-place_is : (v : Member) (xs : List Submission) → place_of (node_of v) (least xs) ≡ place_of_delivery v xs
-place_is v [] = refl
-place_is v (x ∷ xs) = refl
-
-delivered_is : (v : Member) → IsAlone v → (xs : List Submission) → world_of (deliver_least v xs) ≡ with_node (world_of v) 1 (deliver_at v.vocabulary (node_of v) (least xs))
-delivered_is v a [] = refl
-delivered_is v a (x ∷ xs) =
-    ap (λ (r : Record). let w : World = with_node (world_of v) 1 (let n : Node = record (node_of v) { history = v.history ++ r ∷ [] } in n) in w) (sym (record_due v x a))
-
-pub deliver_taken : (v new : Member) (at : ℕ) (place : Option ℕ) → IsAlone v → at ≡ 1 → place ≡ place_of_delivery v v.held → new ≡ deliver_least v v.held
-    → IsStep (world_of v) (Deliver at) (Ok (Delivered place)) (world_of new)
+pub deliver_taken : (v new : Member) (at : ℕ) (place : Option ℕ) → IsAlone v → at ≡ 1 → place ≡ place_of (node_of v) (due_at v) → new ≡ deliver_due v (due_at v)
+    → IsStep (world_alone v) (Deliver at) (Ok (Delivered place)) (world_alone new)
 deliver_taken v new at place a one is leaves =
-    subst (λ k. IsStep (world_of v) (Deliver k) (Ok (Delivered place)) (world_of new)) (sym one)
-    (taken (world_of v) (world_of new) (Deliver 1) (Delivered place) refl
-    (ap (λ (o : Option Submission). Delivered (place_of (node_of v) o)) (due_held v a) ∙ ap Delivered (place_is v v.held ∙ sym is))
-    (ap world_of leaves ∙ delivered_is v a v.held ∙ ap (λ (o : Option Submission). with_node (world_of v) 1 (deliver_at v.vocabulary (node_of v) o)) (sym (due_held v a))))
+    subst (λ k. IsStep (world_alone v) (Deliver k) (Ok (Delivered place)) (world_alone new)) (sym one)
+    (taken (world_alone v) (world_alone new) (Deliver 1) (Delivered place) refl
+    (ap (λ (o : Option Submission). Delivered (place_of (node_of v) o)) (due_alone v a) ∙ ap Delivered (sym is))
+    (ap world_alone leaves ∙ delivered_is v a (due_at v) ∙ ap (λ (o : Option Submission). with_node (world_alone v) 1 (deliver_at v.vocabulary (node_of v) o)) (sym (due_alone v a))))

@@ -1,15 +1,16 @@
 -- A world's member as the world of the definitions.
 use Rattle.std.specs.Prelude.{◌≡◌, [], ◌∷◌}
 use Rattle.rbac_words.specs.World.{World}
-use Rattle.rbac_member.specs.Member.{Member, IsMember, node_of}
+use Rattle.rbac_words.specs.Member.{Member, IsMember}
+use Rattle.rbac_words.specs.Members.{world_of}
 use Rattle.rbac_world.specs.declared.world.World.TheInside.{Inside}
 
 -- the world of one member
-abbrev pub world_of : Member → World
-world_of v = record { group = v.group; vocabulary = v.vocabulary; nodes = node_of v ∷ [] }
+abbrev pub world_alone : Member → World
+world_alone v = world_of v.group v.vocabulary (v ∷ [])
 
 abbrev pub shown : Inside → World
-shown a = world_of a.member
+shown a = world_alone a.member
 
 -- until groups come the one member is alone
 pub record IsAlone (v : Member) : Type 0 where

@@ -1,2 +1,2 @@
 pub mod Inside
-pub mod Steps
+pub mod Refusals

@@ -2,8 +2,9 @@
 ghost use Rattle.std.specs.Prelude.{◌≡◌, true, false, IsTrue, IfOk, IfSome, IfNone};
 ghost use Rattle.rbac_words.specs.World.{is_member, node};
 ghost use Rattle.rbac_words.specs.Right.{founding_world, AreHistoriesRight};
-ghost use Rattle.rbac_member.specs.Member.{node_of};
-ghost use Rattle.rbac_world.specs.Steps.{IsStep, submit_refused};
+ghost use Rattle.rbac_words.specs.Member.{node_of};
+ghost use Rattle.rbac_words.specs.Step.{IsStep};
+ghost use Rattle.rbac_world.specs.Refusals.{submit_refused};
 
 use rbac_member::{Member, SubmitRefusal};
 use rbac_words::{Command, Event, Group, Outcome, Refusal, Vocabulary};

@@ -1,0 +1,11 @@
+pub mod EndLemmas
+pub mod FoundingLemmas
+pub mod GroupLemmas
+pub mod HistoryLemmas
+pub mod MemberLemmas
+pub mod MessageLemmas
+pub mod PlayLemmas
+pub mod ReplayLemmas
+pub mod SenderLemmas
+pub mod StampLemmas
+pub mod StepLemmas

@@ -1,0 +1,533 @@
+-- What a member keeps: as it is founded, by a submit, by a delivery and by a receipt.
+use Rattle.std.proofs.Common.{ℕ, zero, suc, Bool, true, false, cond, max, ◌≡◌, ◌≤◌, ◌<◌, ◌+◌, ◌-◌, ◌==◌, ◌||◌, ◌&&◌, inl, List, [], ◌∷◌, ◌++◌, length, map, drop, get_or, set, replicate, refl, sym, ap, subst, ◌∙◌, arith, true≢false, append_assoc, append-nil, length-append, length-set, get_or-set_same, get_or-set_other, nat_le, nat_lt, Option, Some, None}
+use Rattle.std.specs.List.{AllByRecursion as Each, filter, list_all}
+use Rattle.std.proofs.lemmas.Bool.{or_left, or_right}
+use Rattle.std.proofs.lemmas.Bool.Decides.{nat_tests}
+use Rattle.std.proofs.lemmas.List.{length-replicate}
+use Rattle.std.proofs.lemmas.List.Elements.{filter-append}
+use Rattle.std.proofs.lemmas.List.Folds.{list_any-append}
+use Rattle.rbac_words.specs.Limits.{last_clock}
+use Rattle.rbac_words.specs.Founding.{Group, Vocabulary, IsGroup}
+use Rattle.rbac_words.specs.State.{State, founding_state}
+use Rattle.rbac_words.specs.Effect.{effect, reply}
+use Rattle.rbac_words.specs.Replay.{state_after, replies}
+use Rattle.rbac_words.specs.Stamp.{IsBefore, is_before, IsAfter, has_passed, insert_all, last_stamp}
+use Rattle.rbac_words.specs.Message.{stamp_of, submitted_at, submissions_of, submissions, submission_of, commands_of, has_later, is_by, next_serial, CountsFrom, IsLawful}
+use Rattle.rbac_words.specs.Front.{command_of, is_of}
+use Rattle.rbac_words.specs.World.{stamp, read_of, submit_refusal, least, must_acknowledge, acks, room_refusal, is_sent_full}
+use Rattle.rbac_words.specs.Member.{Member, node_of, founded, latest_of, known, submission, submitted, received, numbers, is_passed_by_all, if_passed, due_at, delivery, delivered, deliver_due, IsNumber, IsCovered, IsClockAbove, IsMember, IsNext}
+use Rattle.rbac_words.specs.declared.event.Refusal.{Refusal}
+use Rattle.rbac_words.specs.declared.event.Refusal.TheVariants.{ClockFull, SentFull, BadSerial}
+use Rattle.rbac_words.specs.declared.command.Command.{Command}
+use Rattle.rbac_words.specs.declared.message.Message.{Message}
+use Rattle.rbac_words.specs.declared.message.Message.TheVariants.{Call, Ack}
+use Rattle.rbac_words.specs.declared.message.Submission.{Submission}
+use Rattle.rbac_words.specs.declared.record.Record.{Record}
+use Rattle.rbac_words.specs.declared.stamp.Stamp.{Stamp}
+use Rattle.rbac_words.proofs.ListLemmas.{Each-append, Each-left, Each-weaker, Each-both, Each-filter, map-push}
+use Rattle.rbac_order.proofs.StampLemmas.{before_trans, before_true, true_before, Rising-push, Rising-left, insert_all_above, Each-insert_all, last_has, after_last}
+use Rattle.rbac_order.proofs.MessageLemmas.{submissions-append, CountsFrom-left, serials_go_on, own_stamps, own_rising}
+use Rattle.rbac_order.proofs.ReplayLemmas.{state_after-push, replies-push}
+use Rattle.rbac_order.proofs.SenderLemmas.{of, Rising, decide, is_of-yes, is_of-no, of_member, put_all, IsPut, of-insert_all_other}
+
+-- ---- Founding
+
+abbrev pub none : Option Stamp
+none = None
+
+pub get_or-none : (n i : ℕ) → get_or (replicate n none) i none ≡ none
+get_or-none zero i = refl
+get_or-none (suc n) zero = refl
+get_or-none (suc n) (suc i) = get_or-none n i
+
+pub keeps_founded : (group : Group) (number : ℕ) (vocabulary : Vocabulary) → IsGroup group → 1 ≤ number → number ≤ group.members → IsMember (founded group number vocabulary)
+keeps_founded group number vocabulary g low high = record {
+  group = g;
+  low = low;
+  high = high;
+  reads = length-replicate group.members 0;
+  latests = length-replicate group.members none;
+  lawful = record { own = tt; rising = tt; clocks_in_range = tt; within_limit = omega (arith, g.some_sent); serials = λ caller. tt };
+  front = record { rising = tt; answered = refl; serials = λ member caller. tt };
+  policy = refl;
+  own = refl;
+  others = tt;
+  rising = tt;
+  serials = λ member caller. tt;
+  passed = λ k is other. tt;
+  covered = tt;
+  clock_of_sent = tt;
+  clock_of_known = tt;
+  clock_of_others = tt;
+  clock_of_latest = λ k is. subst (λ (o : Option Stamp). IsClockAbove o group.clock) (sym (get_or-none group.members (k - 1))) tt;
+  clock_in_range = g.clock_in_range;
+  acknowledged = tt;
+}
+
+-- ---- A submit
+
+clock_weaker : (o : Option Stamp) (m n : ℕ) → m ≤ n → IsClockAbove o m → IsClockAbove o n
+clock_weaker None m n l b = tt
+clock_weaker (Some s) m n l b = omega arith
+
+later-append : (ms ns : List Message) (s : Stamp) → has_later ms s ≡ true → has_later (ms ++ ns) s ≡ true
+later-append ms ns s e = list_any-append (λ m. is_before s (stamp_of m)) ms ns ∙ or_left _ _ e
+
+module _ (v : Member) (caller serial : ℕ) (command : Command) where
+  abbrev x : Submission
+  x = submission v caller serial command
+
+  abbrev call : Message
+  call = Call (stamp (v.clock + 1) v.number) caller serial command
+
+  pub known_submitted : known (submitted v caller serial command) ≡ known v ++ x ∷ []
+  known_submitted = sym (append_assoc (commands_of v.history) v.held (x ∷ []))
+
+  sent_submitted : submissions (submitted v caller serial command).sent ≡ submissions v.sent ++ x ∷ []
+  sent_submitted = submissions-append v.sent (call ∷ [])
+
+  own_submitted : IsMember v → of v.number (known v ++ x ∷ []) ≡ submissions v.sent ++ x ∷ []
+  own_submitted k = filter-append (is_of v.number) (known v) (x ∷ []) ∙ ap (λ l. l ++ of v.number (x ∷ [])) k.own ∙ ap (λ b. submissions v.sent ++ cond b (x ∷ []) []) (is_of-yes v.number x refl)
+
+  serials_submitted : IsMember v → serial ≡ next_serial caller (submissions v.sent) → (member caller' : ℕ) → CountsFrom 0 (filter (is_by caller') (of member (known v ++ x ∷ [])))
+  serials_submitted k next member caller' =
+      decide (CountsFrom 0 (filter (is_by caller') (of member (known v ++ x ∷ [])))) member v.number
+      (λ e. subst (λ j. CountsFrom 0 (filter (is_by caller') (of j (known v ++ x ∷ [])))) (sym e)
+      (subst (λ l. CountsFrom 0 (filter (is_by caller') l)) (sym (own_submitted k)) (serials_go_on (submissions v.sent) x k.lawful.serials next caller')))
+      (λ d. subst (λ l. CountsFrom 0 (filter (is_by caller') l))
+      (sym (filter-append (is_of member) (known v) (x ∷ []) ∙ ap (λ b. of member (known v) ++ cond b (x ∷ []) []) (is_of-no member x (λ e. d (sym e))) ∙ append-nil (of member (known v))))
+      (k.serials member caller'))
+
+  -- what holds of each known command and of the new one
+  each_submitted : (P : Submission → Type 0) → Each P (known v) → P x → Each P (known (submitted v caller serial command))
+  each_submitted P a b = subst (Each P) (sym known_submitted) (Each-append P (known v) (x ∷ []) a (b, tt))
+
+  pub keeps_submitted : v.clock < last_clock → length v.sent < v.group.sent_limit → serial ≡ next_serial caller (submissions v.sent) → IsMember v → IsMember (submitted v caller serial command)
+  keeps_submitted clock room next k = record {
+    group = k.group;
+    low = k.low;
+    high = k.high;
+    reads = k.reads;
+    latests = k.latests;
+    lawful = record {
+      own = Each-append (λ m. (stamp_of m).member ≡ v.number) v.sent (call ∷ []) k.lawful.own (refl, tt);
+      rising = Rising-push stamp_of v.sent call k.lawful.rising (Each-weaker (λ m. (stamp_of m).clock ≤ v.clock) (λ m. IsBefore (stamp_of m) s) v.sent (λ m h. inl (omega arith)) k.clock_of_sent);
+      clocks_in_range = Each-append (λ m. (stamp_of m).clock ≤ last_clock) v.sent (call ∷ []) k.lawful.clocks_in_range (omega arith, tt);
+      within_limit = omega (arith, length-append v.sent (call ∷ []));
+      serials = subst (λ l. (c : ℕ) → CountsFrom 0 (filter (is_by c) l)) (sym sent_submitted) (serials_go_on (submissions v.sent) x k.lawful.serials next);
+    };
+    front = k.front;
+    policy = k.policy;
+    own = ap (of v.number) known_submitted ∙ own_submitted k ∙ sym sent_submitted;
+    others = each_submitted (λ y. IsNumber v.group y.stamp.member) k.others (record { low = k.low; high = k.high });
+    rising = subst Rising (sym known_submitted) (Rising-push submitted_at (known v) x k.rising (Each-weaker (λ (y : Submission). y.stamp.clock ≤ v.clock) (λ y. IsBefore (submitted_at y) s) (known v) (λ y h. inl (omega arith)) k.clock_of_known));
+    serials = subst (λ l. (member caller' : ℕ) → CountsFrom 0 (filter (is_by caller') (of member l))) (sym known_submitted) (serials_submitted k next);
+    passed = k.passed;
+    covered = each_submitted (λ y. (y.stamp.member ≡ v.number → ⊥) → IsCovered (latest_of v y.stamp.member) y.stamp.member y.stamp) k.covered (λ n. absurd (n refl));
+    clock_of_sent = Each-append (λ m. (stamp_of m).clock ≤ v.clock + 1) v.sent (call ∷ []) (Each-weaker (λ m. (stamp_of m).clock ≤ v.clock) (λ m. (stamp_of m).clock ≤ v.clock + 1) v.sent (λ m h. omega arith) k.clock_of_sent) (omega arith, tt);
+    clock_of_known = each_submitted (λ y. y.stamp.clock ≤ v.clock + 1) (Each-weaker (λ (y : Submission). y.stamp.clock ≤ v.clock) (λ y. y.stamp.clock ≤ v.clock + 1) (known v) (λ y h. omega arith) k.clock_of_known) (omega arith);
+    clock_of_others = each_submitted (λ y. (y.stamp.member ≡ v.number → ⊥) → y.stamp.clock < v.clock + 1)
+        (Each-weaker (λ (y : Submission). y.stamp.clock ≤ v.clock) (λ y. (y.stamp.member ≡ v.number → ⊥) → y.stamp.clock < v.clock + 1) (known v) (λ y h n. omega arith) k.clock_of_known) (λ n. absurd (n refl));
+    clock_of_latest = λ j is. clock_weaker (latest_of v j) v.clock (v.clock + 1) (omega arith) (k.clock_of_latest j is);
+    clock_in_range = omega arith;
+    acknowledged = each_submitted (λ y. (y.stamp.member ≡ v.number → ⊥) → has_later (v.sent ++ call ∷ []) y.stamp ≡ true)
+        (Each-weaker (λ (y : Submission). (y.stamp.member ≡ v.number → ⊥) → has_later v.sent y.stamp ≡ true) (λ y. (y.stamp.member ≡ v.number → ⊥) → has_later (v.sent ++ call ∷ []) y.stamp ≡ true) (known v)
+        (λ y h n. later-append v.sent (call ∷ []) y.stamp (h n)) k.acknowledged) (λ n. absurd (n refl));
+  }
+    where
+      s : Stamp
+      s = stamp (v.clock + 1) v.number
+
+-- what a submit that is not refused has passed
+pub record HasPassed (v : Member) (caller serial : ℕ) : Type 0 where
+  pub clock : v.clock < last_clock
+  pub room : length v.sent < v.group.sent_limit
+  pub next : serial ≡ next_serial caller (submissions v.sent)
+
+pub passed_submit : (v : Member) (caller serial : ℕ) → submit_refusal v.group (node_of v) caller serial ≡ None → HasPassed v caller serial
+passed_submit v caller serial e = clocks (nat_le last_clock v.clock) refl e
+  where
+    serials : (b : Bool) → (serial == next_serial caller (submissions v.sent)) ≡ b → cond {A = Option Refusal} b None (Some (BadSerial (next_serial caller (submissions v.sent)))) ≡ None → serial ≡ next_serial caller (submissions v.sent)
+    serials true f g = grind (arith, nat_tests)
+    serials false f g = cc
+
+    rooms : (b : Bool) → nat_le v.group.sent_limit (length v.sent) ≡ b
+        → cond {A = Option Refusal} b (Some SentFull) (cond (serial == next_serial caller (submissions v.sent)) None (Some (BadSerial (next_serial caller (submissions v.sent))))) ≡ None
+        → (length v.sent < v.group.sent_limit) × (serial ≡ next_serial caller (submissions v.sent))
+    rooms true f g = cc
+    rooms false f g = (grind (arith, nat_tests), serials (serial == next_serial caller (submissions v.sent)) refl g)
+
+    clocks : (b : Bool) → nat_le last_clock v.clock ≡ b
+        → cond {A = Option Refusal} b (Some ClockFull) (cond (nat_le v.group.sent_limit (length v.sent)) (Some SentFull) (cond (serial == next_serial caller (submissions v.sent)) None (Some (BadSerial (next_serial caller (submissions v.sent)))))) ≡ None
+        → HasPassed v caller serial
+    clocks true f g = cc
+    clocks false f g = let rest = rooms (nat_le v.group.sent_limit (length v.sent)) refl g in record { clock = grind (arith, nat_tests); room = rest.0; next = rest.1 }
+
+pub keeps_submit : (v : Member) (caller serial : ℕ) (command : Command) → submit_refusal v.group (node_of v) caller serial ≡ None → IsMember v → IsMember (submitted v caller serial command)
+keeps_submit v caller serial command e k = let p = passed_submit v caller serial e in keeps_submitted v caller serial command p.clock p.room p.next k
+
+-- ---- A delivery
+
+-- a test of all numbers holds of each of them
+all_numbers : (p : ℕ → Bool) (n j i : ℕ) → list_all p (numbers n j) ≡ true → i < n → p (suc (j + i)) ≡ true
+all_numbers p zero j i e h = absurd (let g : ⊥ = omega arith in g)
+all_numbers p (suc n) j zero e h = ap p (let g : suc (j + 0) ≡ suc j = omega arith in g) ∙ (both (p (suc j)) (list_all p (numbers n (suc j))) e).0
+  where
+    both : (a b : Bool) → (a && b) ≡ true → (a ≡ true) × (b ≡ true)
+    both true b f = (refl, f)
+    both false b f = absurd (true≢false (sym f))
+all_numbers p (suc n) j (suc i) e h = ap p (let g : suc (j + suc i) ≡ suc (suc j + i) = omega arith in g) ∙ all_numbers p n (suc j) i (second (p (suc j)) (list_all p (numbers n (suc j))) e) (omega arith)
+  where
+    second : (a b : Bool) → (a && b) ≡ true → b ≡ true
+    second true b f = f
+    second false b f = absurd (true≢false (sym f))
+
+pub passed_by_each : (v : Member) (x : Submission) → is_passed_by_all v x ≡ true → (k : ℕ) → IsNumber v.group k → (k ≡ v.number → ⊥) → (x.stamp.member ≡ k → ⊥) → has_passed (latest_of v k) x.stamp ≡ true
+passed_by_each v x e k is other not_own =
+    let low : 1 ≤ k = is.low in let high : k ≤ v.group.members = is.high in
+    let one = all_numbers (λ j. (j == v.number || j == x.stamp.member) || has_passed (latest_of v j) x.stamp) v.group.members 0 (k - 1) e (omega arith) in
+    let here = subst (λ j. ((j == v.number || j == x.stamp.member) || has_passed (latest_of v j) x.stamp) ≡ true) (let g : suc (0 + (k - 1)) ≡ k = omega arith in g) one in
+    neither (k == v.number) (k == x.stamp.member) (has_passed (latest_of v k) x.stamp) (differ k v.number other) (differ k x.stamp.member (λ f. not_own (sym f))) here
+  where
+    differ : (m n : ℕ) → (m ≡ n → ⊥) → (m == n) ≡ false
+    differ m n d = grind (arith, nat_tests)
+
+    neither : (a b c : Bool) → a ≡ false → b ≡ false → ((a || b) || c) ≡ true → c ≡ true
+    neither true b c p q r = absurd (true≢false p)
+    neither false true c p q r = absurd (true≢false q)
+    neither false false c p q r = r
+
+module _ (v : Member) (x : Submission) (rest : List Submission) (is : v.held ≡ x ∷ rest) where
+  history_delivered : commands_of (delivered v x).history ≡ commands_of v.history ++ x ∷ []
+  history_delivered = map-push submission_of v.history (delivery v x)
+
+  held_delivered : (delivered v x).held ≡ rest
+  held_delivered = ap (drop 1) is
+
+  -- a delivery leaves what is known as it was
+  pub known_delivered : known v ≡ known (delivered v x)
+  known_delivered =
+      ap (λ l. commands_of v.history ++ l) is ∙ sym (append_assoc (commands_of v.history) (x ∷ []) rest) ∙ ap (λ l. l ++ rest) (sym history_delivered)
+      ∙ ap (λ l. commands_of (delivered v x).history ++ l) (sym held_delivered)
+
+  commands_delivered : map command_of (commands_of (delivered v x).history) ≡ map command_of (commands_of v.history) ++ x.command ∷ []
+  commands_delivered = ap (map command_of) history_delivered ∙ map-push command_of (commands_of v.history) x
+
+  -- a caller's serials in the history are a first part of the known ones
+  serials_delivered : IsMember v → (member caller : ℕ) → CountsFrom 0 (filter (is_by caller) (of member (commands_of (delivered v x).history)))
+  serials_delivered k member caller =
+      let h : List Submission = commands_of (delivered v x).history in let l : List Submission = (delivered v x).held in
+      CountsFrom-left 0 (filter (is_by caller) (of member h)) (filter (is_by caller) (of member l))
+      (subst (CountsFrom 0) (ap (λ q. filter (is_by caller) (of member q)) known_delivered ∙ ap (filter (is_by caller)) (filter-append (is_of member) h l) ∙ filter-append (is_by caller) (of member h) (of member l)) (k.serials member caller))
+
+  pub keeps_delivered : is_passed_by_all v x ≡ true → IsMember v → IsMember (delivered v x)
+  keeps_delivered all k = record {
+    group = k.group;
+    low = k.low;
+    high = k.high;
+    reads = k.reads;
+    latests = k.latests;
+    lawful = k.lawful;
+    front = record {
+      rising = Rising-left submitted_at (commands_of (delivered v x).history) (delivered v x).held (subst Rising known_delivered k.rising);
+      answered =
+          map-push (λ (r : Record). r.answer) v.history (delivery v x)
+          ∙ ap (λ l. l ++ reply x.command v.policy ∷ []) k.front.answered
+          ∙ ap (λ (s : State). replies (founding_state v.vocabulary) (map command_of (commands_of v.history)) ++ reply x.command s ∷ []) k.policy
+          ∙ sym (replies-push (founding_state v.vocabulary) (map command_of (commands_of v.history)) x.command)
+          ∙ ap (replies (founding_state v.vocabulary)) (sym commands_delivered);
+      serials = serials_delivered k;
+    };
+    policy = ap (effect x.command) k.policy ∙ sym (state_after-push (founding_state v.vocabulary) (map command_of (commands_of v.history)) x.command) ∙ ap (state_after (founding_state v.vocabulary)) (sym commands_delivered);
+    own = ap (of v.number) (sym known_delivered) ∙ k.own;
+    others = subst (Each (λ y. IsNumber v.group y.stamp.member)) known_delivered k.others;
+    rising = subst Rising known_delivered k.rising;
+    serials = subst (λ l. (member caller : ℕ) → CountsFrom 0 (filter (is_by caller) (of member l))) known_delivered k.serials;
+    passed = λ j number other.
+        subst (Each (λ y. (y.stamp.member ≡ j → ⊥) → has_passed (latest_of v j) y.stamp ≡ true)) (sym history_delivered)
+        (Each-append (λ y. (y.stamp.member ≡ j → ⊥) → has_passed (latest_of v j) y.stamp ≡ true) (commands_of v.history) (x ∷ []) (k.passed j number other) (passed_by_each v x all j number other, tt));
+    covered = subst (Each (λ y. (y.stamp.member ≡ v.number → ⊥) → IsCovered (latest_of v y.stamp.member) y.stamp.member y.stamp)) known_delivered k.covered;
+    clock_of_sent = k.clock_of_sent;
+    clock_of_known = subst (Each (λ y. y.stamp.clock ≤ v.clock)) known_delivered k.clock_of_known;
+    clock_of_others = subst (Each (λ y. (y.stamp.member ≡ v.number → ⊥) → y.stamp.clock < v.clock)) known_delivered k.clock_of_others;
+    clock_of_latest = k.clock_of_latest;
+    clock_in_range = k.clock_in_range;
+    acknowledged = subst (Each (λ y. (y.stamp.member ≡ v.number → ⊥) → has_later v.sent y.stamp ≡ true)) known_delivered k.acknowledged;
+  }
+
+-- what is due is the least held command, and it is passed by all
+pub record IsDue (v : Member) (x : Submission) : Type 0 where
+  pub rest : List Submission
+  pub held : v.held ≡ x ∷ rest
+  pub passed : is_passed_by_all v x ≡ true
+
+pub due_is : (v : Member) (x : Submission) → due_at v ≡ Some x → IsDue v x
+due_is v x e = go v.held refl e
+  where
+    test : (y : Submission) (rest : List Submission) → v.held ≡ y ∷ rest → (b : Bool) → is_passed_by_all v y ≡ b → cond b (Some y) None ≡ Some x → IsDue v x
+    test y rest f true g h = let same : y ≡ x = cc in record { rest = rest; held = f ∙ ap (λ z. z ∷ rest) same; passed = subst (λ z. is_passed_by_all v z ≡ true) same g }
+    test y rest f false g h = let no : ⊥ = cc in absurd no
+
+    go : (xs : List Submission) → v.held ≡ xs → if_passed v (least xs) ≡ Some x → IsDue v x
+    go [] f h = let no : ⊥ = cc in absurd no
+    go (y ∷ rest) f h = test y rest f (is_passed_by_all v y) refl h
+
+pub keeps_deliver : (v : Member) → IsMember v → IsMember (deliver_due v (due_at v))
+keeps_deliver v k = go (due_at v) refl
+  where
+    go : (o : Option Submission) → due_at v ≡ o → IsMember (deliver_due v o)
+    go None e = k
+    go (Some x) e = let d = due_is v x e in keeps_delivered v x d.rest d.held d.passed k
+
+-- each other member than that of the last delivered command has passed it
+pub passed_last : (v : Member) (t : Stamp) (k : ℕ) → IsMember v → last_stamp submitted_at (commands_of v.history) ≡ Some t → IsNumber v.group k → (k ≡ v.number → ⊥) → (k ≡ t.member → ⊥) → has_passed (latest_of v k) t ≡ true
+passed_last v t k kept last number other d = last_has submitted_at (λ s. (s.member ≡ k → ⊥) → has_passed (latest_of v k) s ≡ true) (commands_of v.history) t (kept.passed k number other) last (λ e. d (sym e))
+
+-- and what is held lies above it
+pub held_above : (v : Member) (t : Stamp) → IsMember v → last_stamp submitted_at (commands_of v.history) ≡ Some t → Each (λ (x : Submission). IsBefore t x.stamp) v.held
+held_above v t kept last = subst (λ o. Each (λ (x : Submission). IsAfter o x.stamp) v.held) last (after_last submitted_at (commands_of v.history) v.held kept.rising)
+
+-- ---- A receipt
+
+latest_same : (ls : List (Option Stamp)) (k : ℕ) (o : Option Stamp) → 1 ≤ k → k ≤ length ls → get_or (set ls (k - 1) o) (k - 1) none ≡ o
+latest_same ls k o low high = get_or-set_same ls (k - 1) o none (omega arith)
+
+latest_other : (ls : List (Option Stamp)) (k j : ℕ) (o : Option Stamp) → 1 ≤ k → 1 ≤ j → (j ≡ k → ⊥) → get_or (set ls (k - 1) o) (j - 1) none ≡ get_or ls (j - 1) none
+latest_other ls k j o low also d = get_or-set_other ls (k - 1) (j - 1) o none (λ e. d (omega arith))
+
+-- each later message of another member lies above the whole history
+pub covered_history : (v : Member) (k : ℕ) → IsMember v → IsNumber v.group k → (k ≡ v.number → ⊥) → Each (λ x. IsCovered (latest_of v k) k x.stamp) (commands_of v.history)
+covered_history v k kept number other =
+    Each-weaker
+    (λ x. ((x.stamp.member ≡ k → ⊥) → has_passed (latest_of v k) x.stamp ≡ true) × ((x.stamp.member ≡ v.number → ⊥) → IsCovered (latest_of v x.stamp.member) x.stamp.member x.stamp))
+    (λ x. IsCovered (latest_of v k) k x.stamp) (commands_of v.history)
+    (λ x p. decide (IsCovered (latest_of v k) k x.stamp) x.stamp.member k
+    (λ s. subst (λ j. IsCovered (latest_of v j) j x.stamp) s (p.1 (λ f. other (sym s ∙ f))))
+    (λ d. by_latest (latest_of v k) x.stamp (p.0 d)))
+    (Each-both _ _ (commands_of v.history) (kept.passed k number other)
+    (Each-left (λ x. (x.stamp.member ≡ v.number → ⊥) → IsCovered (latest_of v x.stamp.member) x.stamp.member x.stamp) (commands_of v.history) v.held kept.covered))
+  where
+    by_latest : (o : Option Stamp) (s : Stamp) → has_passed o s ≡ true → IsCovered o k s
+    by_latest None s p t m a = absurd (true≢false (sym p))
+    by_latest (Some l) s p t m a = before_trans s l t (before_true s l p) a
+
+module _ (v : Member) (k : ℕ) (m : Message) (kept : IsMember v) (next : IsNext v k m) where
+  abbrev s : Stamp
+  s = stamp_of m
+
+  abbrev latest : List (Option Stamp)
+  latest = set v.latest (k - 1) (Some s)
+
+  abbrev xs : List Submission
+  xs = submissions_of m
+
+  now_latest : get_or latest (k - 1) none ≡ Some s
+  now_latest = latest_same v.latest k (Some s) next.number.low (let a : length v.latest ≡ v.group.members = kept.latests in let b : k ≤ v.group.members = next.number.high in omega arith)
+
+  still_latest : (j : ℕ) → IsNumber v.group j → (j ≡ k → ⊥) → get_or latest (j - 1) none ≡ latest_of v j
+  still_latest j number d = latest_other v.latest k j (Some s) next.number.low number.low d
+
+  -- the history lies below the message
+  history_below : Each (λ x. IsBefore x.stamp s) (commands_of v.history)
+  history_below = Each-weaker (λ x. IsCovered (latest_of v k) k x.stamp) (λ x. IsBefore x.stamp s) (commands_of v.history) (λ x c. c s next.sender next.after) (covered_history v k kept next.number next.other)
+
+  -- and so do the known commands of its sender
+  own_below : Each (λ y. IsBefore y.stamp s) (of k (known v))
+  own_below =
+      Each-weaker (λ y. ((y.stamp.member ≡ v.number → ⊥) → IsCovered (latest_of v y.stamp.member) y.stamp.member y.stamp) × (y.stamp.member ≡ k)) (λ y. IsBefore y.stamp s) (of k (known v))
+      (λ y p. (p.0 (λ f. next.other (sym p.1 ∙ f))) s (next.sender ∙ sym p.1) (subst (λ j. IsAfter (latest_of v j) s) (sym p.1) next.after))
+      (Each-both _ (λ (y : Submission). y.stamp.member ≡ k) (of k (known v)) (Each-filter _ (is_of k) (known v) kept.covered) (members (known v)))
+    where
+      members : (ys : List Submission) → Each (λ (y : Submission). y.stamp.member ≡ k) (of k ys)
+      members [] = tt
+      members (y ∷ ys) = go (is_of k y) refl (members ys)
+        where
+          go : (b : Bool) → is_of k y ≡ b → Each (λ (z : Submission). z.stamp.member ≡ k) (of k ys) → Each (λ (z : Submission). z.stamp.member ≡ k) (cond b (y ∷ of k ys) (of k ys))
+          go true e on = (of_member k y e, on)
+          go false e on = on
+
+  -- what holds of the message's stamp holds of its commands'
+  each_new : (P : Stamp → Type 0) → P s → Each (λ x. P x.stamp) xs
+  each_new P p = Each-weaker (λ (x : Submission). x.stamp ≡ s) (λ x. P x.stamp) xs (λ x e. subst P (sym e) p) (own_stamps m)
+
+  pub put : IsPut k xs (known v)
+  put =
+      put_all k xs (known v) (each_new (λ t. t.member ≡ k) next.sender) (own_rising m) kept.rising
+      (each_new (λ t. Each (λ y. IsBefore y.stamp t) (of k (known v))) own_below)
+
+  pub known_received : insert_all submitted_at xs (known v) ≡ known (received v k m)
+  known_received = insert_all_above submitted_at xs (commands_of v.history) v.held (each_new (λ t. Each (λ x. IsBefore x.stamp t) (commands_of v.history)) history_below)
+
+  pub of-received_other : (j : ℕ) → (j ≡ k → ⊥) → of j (known (received v k m)) ≡ of j (known v)
+  of-received_other j d = ap (of j) (sym known_received) ∙ of-insert_all_other j xs (known v) (Each-weaker (λ (x : Submission). x.stamp.member ≡ k) (λ x. is_of j x ≡ false) xs (λ x e. is_of-no j x (λ f. d (sym f ∙ e))) (each_new (λ t. t.member ≡ k) next.sender))
+
+  pub of-received : of k (known (received v k m)) ≡ of k (known v) ++ xs
+  of-received = ap (of k) (sym known_received) ∙ put.commands
+
+  each_received : (P : Submission → Type 0) → Each P (known v) → Each P xs → Each P (known (received v k m))
+  each_received P a b = subst (Each P) known_received (Each-insert_all submitted_at P xs (known v) b a)
+
+  -- what is known, and its stamp's sender is of the group
+  each_known : (P Q : Submission → Type 0) → ((x : Submission) → IsNumber v.group x.stamp.member → P x → Q x) → Each P (known v) → Each Q (known v)
+  each_known P Q f a = Each-weaker (λ x. IsNumber v.group x.stamp.member × P x) Q (known v) (λ x h. f x h.0 h.1) (Each-both (λ x. IsNumber v.group x.stamp.member) P (known v) kept.others a)
+
+  -- a member with this clock and sent list, which has taken the message
+  abbrev pub taken_with : ℕ → List Message → Member
+  taken_with clock sent = record v {
+    clock = clock;
+    sent = sent;
+    read = set v.read (k - 1) (read_of (node_of v) k + 1);
+    latest = latest;
+    held = insert_all submitted_at xs v.held;
+  }
+
+  -- what is asked of that clock and that sent list
+  pub record Suits (clock : ℕ) (sent : List Message) : Type 0 where
+    pub lawful : IsLawful v.number v.group sent
+    pub commands : submissions sent ≡ submissions v.sent
+    pub clock_of_sent : Each (λ z. (stamp_of z).clock ≤ clock) sent
+    pub above : v.clock ≤ clock
+    pub above_message : (stamp_of m).clock < clock
+    pub in_range : clock ≤ last_clock
+    pub more : List Message
+    pub goes_on : sent ≡ v.sent ++ more
+    pub acknowledged : Each (λ (x : Submission). has_later sent x.stamp ≡ true) (submissions_of m)
+
+  covered_received : Each (λ x. (x.stamp.member ≡ v.number → ⊥) → IsCovered (get_or latest (x.stamp.member - 1) none) x.stamp.member x.stamp) (known (received v k m))
+  covered_received =
+      each_received (λ x. (x.stamp.member ≡ v.number → ⊥) → IsCovered (get_or latest (x.stamp.member - 1) none) x.stamp.member x.stamp)
+      (each_known _ (λ x. (x.stamp.member ≡ v.number → ⊥) → IsCovered (get_or latest (x.stamp.member - 1) none) x.stamp.member x.stamp) old kept.covered)
+      (each_new (λ t. (t.member ≡ v.number → ⊥) → IsCovered (get_or latest (t.member - 1) none) t.member t)
+      (λ n. subst (λ o. IsCovered o s.member s) (sym (ap (λ i. get_or latest (i - 1) none) next.sender ∙ now_latest)) (λ t mt b. b)))
+    where
+      old : (x : Submission) → IsNumber v.group x.stamp.member → ((x.stamp.member ≡ v.number → ⊥) → IsCovered (latest_of v x.stamp.member) x.stamp.member x.stamp)
+          → (x.stamp.member ≡ v.number → ⊥) → IsCovered (get_or latest (x.stamp.member - 1) none) x.stamp.member x.stamp
+      old x number p n =
+          decide (IsCovered (get_or latest (x.stamp.member - 1) none) x.stamp.member x.stamp) x.stamp.member k
+          (λ e. subst (λ o. IsCovered o x.stamp.member x.stamp) (sym (ap (λ i. get_or latest (i - 1) none) e ∙ now_latest))
+          (λ t mt b. before_trans x.stamp s t (p n s (next.sender ∙ sym e) (subst (λ i. IsAfter (latest_of v i) s) (sym e) next.after)) b))
+          (λ d. subst (λ o. IsCovered o x.stamp.member x.stamp) (sym (still_latest x.stamp.member number d)) (p n))
+
+  passed_received : (j : ℕ) → IsNumber v.group j → (j ≡ v.number → ⊥) → Each (λ x. (x.stamp.member ≡ j → ⊥) → has_passed (get_or latest (j - 1) none) x.stamp ≡ true) (commands_of v.history)
+  passed_received j number other =
+      decide (Each (λ x. (x.stamp.member ≡ j → ⊥) → has_passed (get_or latest (j - 1) none) x.stamp ≡ true) (commands_of v.history)) j k
+      (λ e. Each-weaker (λ x. IsBefore x.stamp s) (λ x. (x.stamp.member ≡ j → ⊥) → has_passed (get_or latest (j - 1) none) x.stamp ≡ true) (commands_of v.history)
+      (λ x b _. subst (λ o. has_passed o x.stamp ≡ true) (sym (ap (λ i. get_or latest (i - 1) none) e ∙ now_latest)) (true_before x.stamp s b)) history_below)
+      (λ d. subst (λ o. Each (λ x. (x.stamp.member ≡ j → ⊥) → has_passed o x.stamp ≡ true) (commands_of v.history)) (sym (still_latest j number d)) (kept.passed j number other))
+
+  serials_received : (member caller : ℕ) → CountsFrom 0 (filter (is_by caller) (of member (known (received v k m))))
+  serials_received member caller =
+      decide (CountsFrom 0 (filter (is_by caller) (of member (known (received v k m))))) member k
+      (λ e. subst (λ j. CountsFrom 0 (filter (is_by caller) (of j (known (received v k m))))) (sym e) (subst (λ l. CountsFrom 0 (filter (is_by caller) l)) (sym of-received) (next.serials caller)))
+      (λ d. subst (λ l. CountsFrom 0 (filter (is_by caller) l)) (sym (of-received_other member d)) (kept.serials member caller))
+
+  keeps_taken : (clock : ℕ) (sent : List Message) → Suits clock sent → IsMember (taken_with clock sent)
+  keeps_taken clock sent suits = record {
+    group = kept.group;
+    low = kept.low;
+    high = kept.high;
+    reads = length-set v.read (k - 1) (read_of (node_of v) k + 1) ∙ kept.reads;
+    latests = length-set v.latest (k - 1) (Some s) ∙ kept.latests;
+    lawful = suits.lawful;
+    front = kept.front;
+    policy = kept.policy;
+    own = of-received_other v.number (λ e. next.other (sym e)) ∙ kept.own ∙ sym suits.commands;
+    others = each_received (λ x. IsNumber v.group x.stamp.member) kept.others (each_new (λ t. IsNumber v.group t.member) (subst (IsNumber v.group) (sym next.sender) next.number));
+    rising = subst Rising known_received put.rising;
+    serials = serials_received;
+    passed = passed_received;
+    covered = covered_received;
+    clock_of_sent = suits.clock_of_sent;
+    clock_of_known = each_received (λ x. x.stamp.clock ≤ clock) (Each-weaker (λ (x : Submission). x.stamp.clock ≤ v.clock) (λ x. x.stamp.clock ≤ clock) (known v) (λ x h. let a : v.clock ≤ clock = suits.above in omega arith) kept.clock_of_known)
+        (each_new (λ t. t.clock ≤ clock) (let a : s.clock < clock = suits.above_message in omega arith));
+    clock_of_others = each_received (λ x. (x.stamp.member ≡ v.number → ⊥) → x.stamp.clock < clock)
+        (Each-weaker (λ (x : Submission). (x.stamp.member ≡ v.number → ⊥) → x.stamp.clock < v.clock) (λ x. (x.stamp.member ≡ v.number → ⊥) → x.stamp.clock < clock) (known v)
+        (λ x h n. let a : v.clock ≤ clock = suits.above in let b : x.stamp.clock < v.clock = h n in omega arith) kept.clock_of_others)
+        (each_new (λ t. (t.member ≡ v.number → ⊥) → t.clock < clock) (λ n. suits.above_message));
+    clock_of_latest = clock_of_latest;
+    clock_in_range = suits.in_range;
+    acknowledged = each_received (λ x. (x.stamp.member ≡ v.number → ⊥) → has_later sent x.stamp ≡ true)
+        (Each-weaker (λ (x : Submission). (x.stamp.member ≡ v.number → ⊥) → has_later v.sent x.stamp ≡ true) (λ x. (x.stamp.member ≡ v.number → ⊥) → has_later sent x.stamp ≡ true) (known v)
+        (λ x h n. subst (λ ms. has_later ms x.stamp ≡ true) (sym suits.goes_on) (later-append v.sent suits.more x.stamp (h n))) kept.acknowledged)
+        (Each-weaker (λ (x : Submission). has_later sent x.stamp ≡ true) (λ x. (x.stamp.member ≡ v.number → ⊥) → has_later sent x.stamp ≡ true) xs (λ x h n. h) suits.acknowledged);
+  }
+    where
+      clock_of_latest : (j : ℕ) → IsNumber v.group j → IsClockAbove (get_or latest (j - 1) none) clock
+      clock_of_latest j number =
+          decide (IsClockAbove (get_or latest (j - 1) none) clock) j k
+          (λ e. subst (λ o. IsClockAbove o clock) (sym (ap (λ i. get_or latest (i - 1) none) e ∙ now_latest)) suits.above_message)
+          (λ d. subst (λ o. IsClockAbove o clock) (sym (still_latest j number d)) (clock_weaker (latest_of v j) v.clock clock suits.above (kept.clock_of_latest j number)))
+
+  -- the clock that the message leaves
+  abbrev moved : ℕ
+  moved = max v.clock s.clock + 1
+
+  abbrev ack : Message
+  ack = Ack (stamp (moved + 1) v.number)
+
+  suits_acknowledged : moved + 1 ≤ last_clock → length v.sent < v.group.sent_limit → Suits (moved + 1) (v.sent ++ ack ∷ [])
+  suits_acknowledged range room = record {
+    lawful = record {
+      own = Each-append (λ z. (stamp_of z).member ≡ v.number) v.sent (ack ∷ []) kept.lawful.own (refl, tt);
+      rising = Rising-push stamp_of v.sent ack kept.lawful.rising (Each-weaker (λ z. (stamp_of z).clock ≤ v.clock) (λ z. IsBefore (stamp_of z) (stamp_of ack)) v.sent (λ z h. inl (omega arith)) kept.clock_of_sent);
+      clocks_in_range = Each-append (λ z. (stamp_of z).clock ≤ last_clock) v.sent (ack ∷ []) kept.lawful.clocks_in_range (range, tt);
+      within_limit = omega (arith, length-append v.sent (ack ∷ []));
+      serials = subst (λ l. (c : ℕ) → CountsFrom 0 (filter (is_by c) l)) (sym same) kept.lawful.serials;
+    };
+    commands = same;
+    clock_of_sent = Each-append (λ z. (stamp_of z).clock ≤ moved + 1) v.sent (ack ∷ []) (Each-weaker (λ z. (stamp_of z).clock ≤ v.clock) (λ z. (stamp_of z).clock ≤ moved + 1) v.sent (λ z h. omega arith) kept.clock_of_sent) (omega arith, tt);
+    above = omega arith;
+    above_message = omega arith;
+    in_range = range;
+    more = ack ∷ [];
+    goes_on = refl;
+    acknowledged = each_new (λ t. has_later (v.sent ++ ack ∷ []) t ≡ true) (list_any-append (λ z. is_before s (stamp_of z)) v.sent (ack ∷ []) ∙ or_right _ _ (or_left _ _ (true_before s (stamp_of ack) (inl (omega arith)))));
+  }
+    where
+      same : submissions (v.sent ++ ack ∷ []) ≡ submissions v.sent
+      same = submissions-append v.sent (ack ∷ []) ∙ append-nil (submissions v.sent)
+
+  suits_silent : moved ≤ last_clock → Each (λ (x : Submission). has_later v.sent x.stamp ≡ true) xs → Suits moved v.sent
+  suits_silent range answered = record {
+    lawful = kept.lawful;
+    commands = refl;
+    clock_of_sent = Each-weaker (λ z. (stamp_of z).clock ≤ v.clock) (λ z. (stamp_of z).clock ≤ moved) v.sent (λ z h. omega arith) kept.clock_of_sent;
+    above = omega arith;
+    above_message = omega arith;
+    in_range = range;
+    more = [];
+    goes_on = sym (append-nil v.sent);
+    acknowledged = answered;
+  }
+
+  -- the rule of acknowledgements: what is not acknowledged has nothing that lacks a message with a greater stamp
+  rule_is_enough : must_acknowledge (node_of v) m ≡ false → Each (λ (x : Submission). has_later v.sent x.stamp ≡ true) xs
+  rule_is_enough = go m
+    where
+      go : (z : Message) → must_acknowledge (node_of v) z ≡ false → Each (λ (x : Submission). has_later v.sent x.stamp ≡ true) (submissions_of z)
+      go (Call stamp caller serial command) e = absurd (true≢false e)
+      go (Ack stamp) e = tt
+
+  -- the refusal, the clock and the sent list, as the rule decides
+  abbrev clock_by : Bool → ℕ
+  clock_by b = cond b (moved + 1) moved
+
+  abbrev refused_by : Bool → Option Refusal
+  refused_by b = cond (nat_lt last_clock (clock_by b)) (Some ClockFull) (cond (b && is_sent_full v.group (node_of v)) (Some SentFull) None)
+
+  pub keeps_received : room_refusal v.group (node_of v) m ≡ None → IsMember (received v k m)
+  keeps_received free = go (must_acknowledge (node_of v) m) refl free
+    where
+      free_clock : (n : ℕ) (a : Bool) (o : Option Refusal) → nat_lt last_clock n ≡ a → cond a (Some ClockFull) o ≡ None → (n ≤ last_clock) × (o ≡ None)
+      free_clock n true o e f = let no : ⊥ = cc in absurd no
+      free_clock n false o e f = (grind (arith, nat_tests), f)
+
+      free_sent : (a : Bool) → nat_le v.group.sent_limit (length v.sent) ≡ a → cond {A = Option Refusal} a (Some SentFull) None ≡ None → length v.sent < v.group.sent_limit
+      free_sent true e f = let no : ⊥ = cc in absurd no
+      free_sent false e f = grind (arith, nat_tests)
+
+      go : (b : Bool) → must_acknowledge (node_of v) m ≡ b → refused_by b ≡ None → IsMember (taken_with (clock_by b) (v.sent ++ acks (cond b (Some (stamp (clock_by b) v.number)) None)))
+      go true e f = let a = free_clock (moved + 1) (nat_lt last_clock (moved + 1)) _ refl f in keeps_taken (moved + 1) (v.sent ++ ack ∷ []) (suits_acknowledged a.0 (free_sent (nat_le v.group.sent_limit (length v.sent)) refl a.1))
+      go false e f =
+          let a = free_clock moved (nat_lt last_clock moved) _ refl f in
+          subst (λ ms. IsMember (taken_with moved ms)) (sym (append-nil v.sent)) (keeps_taken moved v.sent (suits_silent a.0 (rule_is_enough e)))
