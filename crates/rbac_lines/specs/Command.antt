@@ -35,17 +35,19 @@ three_names first second third fields = do
   only_keys (codes "name" ∷ first ∷ second ∷ third ∷ []) fields
   Ok (one, two, three)
 
--- a command of the name at a key, or of the names at two or three keys
+-- a command of the name at a key
 abbrev pub of_one : (Name → Command) → List ℕ → Members → Reading Command
 of_one command key fields = do
   name ← one_name key fields
   Ok (command name)
 
+-- and of the names at two keys
 abbrev pub of_two : (Name → Name → Command) → List ℕ → List ℕ → Members → Reading Command
 of_two command first second fields = do
   names ← two_names first second fields
   Ok (command names.0 names.1)
 
+-- and of the names at three keys
 abbrev pub of_three : (Name → Name → Name → Command) → List ℕ → List ℕ → List ℕ → Members → Reading Command
 of_three command first second third fields = do
   names ← three_names first second third fields
@@ -79,12 +81,13 @@ set_cardinality kind fields = do
 
 -- ---- The commands by their names, and each list goes on with the next one
 
--- a review of one name, or of two
+-- a review of the name at a key
 abbrev pub review_of_one : (Name → Review) → List ℕ → Members → Reading Review
 review_of_one review key fields = do
   name ← one_name key fields
   Ok (review name)
 
+-- and of the names at two keys
 abbrev pub review_of_two : (Name → Name → Review) → List ℕ → List ℕ → Members → Reading Review
 review_of_two review first second fields = do
   names ← two_names first second fields
@@ -96,6 +99,7 @@ role_sets kind fields = do
   only_keys (codes "name" ∷ []) fields
   Ok (RoleSets kind)
 
+-- the reviews of users, roles and sessions, by their names
 abbrev pub reviews : List (List ℕ × (Members → Reading Review))
 reviews =
     (codes "AssignedUsers", review_of_one AssignedUsers (codes "role"))
@@ -108,7 +112,12 @@ reviews =
     ∷ (codes "SessionPermissions", review_of_one SessionPermissions (codes "session"))
     ∷ (codes "RoleOperationsOnObject", review_of_two RoleOperationsOnObject (codes "role") (codes "object"))
     ∷ (codes "UserOperationsOnObject", review_of_two UserOperationsOnObject (codes "user") (codes "object"))
-    ∷ (codes "SsdRoleSets", role_sets Static)
+    ∷ []
+
+-- the reviews of sets of separation, by their names
+abbrev pub set_reviews : List (List ℕ × (Members → Reading Review))
+set_reviews =
+    (codes "SsdRoleSets", role_sets Static)
     ∷ (codes "SsdRoleSetRoles", review_of_one (RoleSetRoles Static) (codes "set"))
     ∷ (codes "SsdRoleSetCardinality", review_of_one (RoleSetCardinality Static) (codes "set"))
     ∷ (codes "DsdRoleSets", role_sets Dynamic)
@@ -116,12 +125,17 @@ reviews =
     ∷ (codes "DsdRoleSetCardinality", review_of_one (RoleSetCardinality Dynamic) (codes "set"))
     ∷ []
 
--- a review, or no command that is known
+-- a review of sets of separation, or no command that is known
+unfoldable pub set_review : List ℕ → Members → Reading Review
+set_review name fields = by_word set_reviews unknown name fields
+
+-- a review
 unfoldable pub review_command : List ℕ → Members → Reading Command
 review_command name fields = do
-  review ← by_word reviews unknown name fields
+  review ← by_word reviews set_review name fields
   Ok (ReviewCommand review)
 
+-- the commands about sets of separation, by their names
 abbrev pub separation_commands : List (List ℕ × (Members → Reading Command))
 separation_commands =
     (codes "CreateSsdSet", create_set Static)
@@ -140,6 +154,7 @@ separation_commands =
 unfoldable pub separation_command : List ℕ → Members → Reading Command
 separation_command name fields = by_word separation_commands review_command name fields
 
+-- the commands about sessions, by their names
 abbrev pub session_commands : List (List ℕ × (Members → Reading Command))
 session_commands =
     (codes "CreateSession", create_session)
@@ -153,6 +168,7 @@ session_commands =
 unfoldable pub session_command : List ℕ → Members → Reading Command
 session_command name fields = by_word session_commands separation_command name fields
 
+-- the commands about the hierarchy, by their names
 abbrev pub hierarchy_commands : List (List ℕ × (Members → Reading Command))
 hierarchy_commands =
     (codes "AddInheritance", of_two AddInheritance (codes "ascendant") (codes "descendant"))
@@ -165,6 +181,7 @@ hierarchy_commands =
 unfoldable pub hierarchy_command : List ℕ → Members → Reading Command
 hierarchy_command name fields = by_word hierarchy_commands session_command name fields
 
+-- the commands about users, roles and permissions, by their names
 abbrev pub role_commands : List (List ℕ × (Members → Reading Command))
 role_commands =
     (codes "AddUser", of_one AddUser (codes "user"))

@@ -1,4 +1,5 @@
 //! The command that an object stands for: its fields are taken from left to right, and there is no other key.
+ghost use Rattle.std.specs.Prelude.{codes};
 ghost use Rattle.serde_json.specs.View.{members_view};
 ghost use Rattle.rbac_lines.specs.Fields.{Reads};
 ghost use Rattle.rbac_lines.specs.Command.{command_of, one_name, two_names, three_names};
@@ -32,13 +33,7 @@ pub(crate) fn command_of(alloc: Global, fields: &Object) -> Result<Command, Line
             Ok(Command::DeassignUser { user, role })
         }
         "GrantPermission" => {
-            let (operation, object, role) = three_names(
-                alloc,
-                fields,
-                "operation",
-                "object",
-                "role",
-            )?;
+            let (operation, object, role) = permission_of_role(alloc, fields)?;
             Ok(Command::GrantPermission {
                 operation,
                 object,
@@ -46,13 +41,7 @@ pub(crate) fn command_of(alloc: Global, fields: &Object) -> Result<Command, Line
             })
         }
         "RevokePermission" => {
-            let (operation, object, role) = three_names(
-                alloc,
-                fields,
-                "operation",
-                "object",
-                "role",
-            )?;
+            let (operation, object, role) = permission_of_role(alloc, fields)?;
             Ok(Command::RevokePermission {
                 operation,
                 object,
@@ -102,4 +91,11 @@ fn three_names(
     let three = name_in(alloc, fields, third)?;
     only_keys(fields, &["name", first, second, third])?;
     Ok((one, two, three))
+}
+
+/// The operation and the object of a permission, and a role.
+fn permission_of_role(alloc: Global, fields: &Object) -> Result<(Name, Name, Name), LineRefusal>
+    ensures { Reads (three_names (codes "operation") (codes "object") (codes "role") (members_view fields.now.entries)) result }
+{
+    three_names(alloc, fields, "operation", "object", "role")
 }

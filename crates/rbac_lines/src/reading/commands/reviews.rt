@@ -1,8 +1,8 @@
 //! The reviews. Those about sets of separation serve both kinds.
 ghost use Rattle.std.specs.Prelude.{codes};
 ghost use Rattle.serde_json.specs.View.{members_view};
-ghost use Rattle.rbac_lines.specs.Fields.{Reads, by_word, unknown};
-ghost use Rattle.rbac_lines.specs.Command.{review_command, reviews, review_of_one, role_sets};
+ghost use Rattle.rbac_lines.specs.Fields.{Reads, by_word};
+ghost use Rattle.rbac_lines.specs.Command.{review_command, reviews, review_of_one, role_sets, set_review};
 
 use crate::reading::commands::{one_name, two_names};
 use crate::reading::fields::{Object, only_keys};
@@ -24,7 +24,7 @@ pub(crate) fn review_command(
 }
 
 fn review_of(alloc: Global, fields: &Object, name: &str) -> Result<Review, LineRefusal>
-    ensures { Reads (by_word reviews unknown name.now (members_view fields.now.entries)) result }
+    ensures { Reads (by_word reviews set_review name.now (members_view fields.now.entries)) result }
 {
     match name {
         "AssignedUsers" => one_name(alloc, fields, "role").map(|role| Review::AssignedUsers {
@@ -59,6 +59,15 @@ fn review_of(alloc: Global, fields: &Object, name: &str) -> Result<Review, LineR
             let (user, object) = two_names(alloc, fields, "user", "object")?;
             Ok(Review::UserOperationsOnObject { user, object })
         }
+        name => set_review(alloc, fields, name),
+    }
+}
+
+#[tactic(auto, unfolding(crate::specs::Command::set_review))]
+fn set_review(alloc: Global, fields: &Object, name: &str) -> Result<Review, LineRefusal>
+    ensures { Reads (set_review name.now (members_view fields.now.entries)) result }
+{
+    match name {
         "SsdRoleSets" => role_sets(fields, Separation::Static),
         "SsdRoleSetRoles" => role_set_roles(alloc, fields, Separation::Static),
         "SsdRoleSetCardinality" => role_set_cardinality(alloc, fields, Separation::Static),

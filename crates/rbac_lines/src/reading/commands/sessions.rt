@@ -1,7 +1,8 @@
 //! The commands about sessions.
+ghost use Rattle.std.specs.Prelude.{codes};
 ghost use Rattle.serde_json.specs.View.{members_view};
 ghost use Rattle.rbac_lines.specs.Fields.{Reads};
-ghost use Rattle.rbac_lines.specs.Command.{session_command, create_session};
+ghost use Rattle.rbac_lines.specs.Command.{session_command, create_session, of_three};
 
 use crate::reading::commands::separation::separation_command;
 use crate::reading::commands::{three_names, two_names};
@@ -41,20 +42,7 @@ pub(crate) fn session_command(
                 role,
             })
         }
-        "CheckAccess" => {
-            let (session, operation, object) = three_names(
-                alloc,
-                fields,
-                "session",
-                "operation",
-                "object",
-            )?;
-            Ok(Command::CheckAccess {
-                session,
-                operation,
-                object,
-            })
-        }
+        "CheckAccess" => check_access(alloc, fields),
         name => separation_command(alloc, fields, name),
     }
 }
@@ -70,5 +58,22 @@ fn create_session(alloc: Global, fields: &Object) -> Result<Command, LineRefusal
         user,
         session,
         roles,
+    })
+}
+
+fn check_access(alloc: Global, fields: &Object) -> Result<Command, LineRefusal>
+    ensures { Reads (of_three Command.CheckAccess (codes "session") (codes "operation") (codes "object") (members_view fields.now.entries)) result }
+{
+    let (session, operation, object) = three_names(
+        alloc,
+        fields,
+        "session",
+        "operation",
+        "object",
+    )?;
+    Ok(Command::CheckAccess {
+        session,
+        operation,
+        object,
     })
 }
