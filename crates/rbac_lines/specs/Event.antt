@@ -11,7 +11,7 @@ use Rattle.rbac_words.specs.declared.event.Event.{Event}
 use Rattle.rbac_words.specs.declared.event.Event.TheVariants.{Submit, Receive, Deliver}
 use Rattle.rbac_lines.specs.declared.refusal.LineRefusal.TheVariants.{TooLong, NotJson, NotObject}
 use Rattle.rbac_founding.specs.Steps.{◌>>=◌, ◌>>◌}
-use Rattle.rbac_lines.specs.Fields.{Reading, whole_in, text_in, object_in, only_keys, by_word}
+use Rattle.rbac_lines.specs.Fields.{Reading, whole_in, text_in, object_in, only_keys, by_word, unknown}
 use Rattle.rbac_lines.specs.Command.{command_of}
 
 -- submit: at, caller, serial, and the object command
@@ -42,8 +42,8 @@ deliver object = do
   Ok (Deliver at)
 
 -- the events by their words
-abbrev pub events_by_word : List (List ℕ × (Members → Reading Event))
-events_by_word =
+abbrev pub events : List (List ℕ × (Members → Reading Event))
+events =
     (codes "submit", submit)
     ∷ (codes "receive", receive)
     ∷ (codes "deliver", deliver)
@@ -53,7 +53,7 @@ events_by_word =
 abbrev pub event_of : Members → Reading Event
 event_of object = do
   word ← text_in (codes "do") object
-  by_word events_by_word word object
+  by_word events unknown word object
 
 -- the value of a JSON text, which is UTF-8
 abbrev pub json_of : List ℕ → Option Data

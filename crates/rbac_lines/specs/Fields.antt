@@ -97,7 +97,11 @@ keys_of (member key value rest) = key ∷ keys_of rest
 abbrev pub only_keys : List (List ℕ) → Members → Reading ⊤
 only_keys keys object = if list_all (is_one_of keys) (keys_of object) then Ok tt else Err ExtraField
 
--- what the reader beside a word reads of an object, or UnknownWord where no word is this one
-abbrev pub by_word : {T : Type 0} → List (List ℕ × (Members → Reading T)) → List ℕ → Members → Reading T
-by_word [] word object = Err UnknownWord
-by_word (row ∷ rows) word object = if bytes_eq word row.0 then row.1 object else by_word rows word object
+-- no word that is known
+abbrev pub unknown : {T : Type 0} → List ℕ → Members → Reading T
+unknown word object = Err UnknownWord
+
+-- what the reader beside a word reads of an object, or where no word is this one, what the other reader does
+abbrev pub by_word : {T : Type 0} → List (List ℕ × (Members → Reading T)) → (List ℕ → Members → Reading T) → List ℕ → Members → Reading T
+by_word [] other word object = other word object
+by_word (row ∷ rows) other word object = if bytes_eq word row.0 then row.1 object else by_word rows other word object

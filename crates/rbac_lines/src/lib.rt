@@ -5,14 +5,10 @@ mod playing;
 pub mod reading;
 pub mod refusal;
 mod running;
-pub mod text;
+mod text;
 
 pub use line_engine::{RunFault, Summary, Watched, watch};
 pub use rbac_founding::{Founding, FoundingRefusal, read_founding, sample_founding};
 pub use reading::read_line;
 pub use refusal::LineRefusal;
 pub use running::run;
-pub use text::{
-    put_delivered, put_line_refused, put_nothing_delivered, put_received, put_refused,
-    put_submitted,
-};

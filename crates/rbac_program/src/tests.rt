@@ -5,6 +5,8 @@ use crate::fault::Fault;
 use crate::founding_file::read_file;
 use rbac_founding::FoundingRefusal;
 use std::io::{Error, ErrorKind, Read, Write};
+use std::process::Abort;
+use std::rt::Files;
 use std::test::Fail;
 use std::{fs, io};
 
@@ -19,7 +21,7 @@ const ANSWERS: &[u8] = br#"{"line":1,"stamp":[1,1]}
 
 /// A call with these words after the program's name, whose standard input is the schedule, gets this status and this
 /// output, and writes no error.
-fn expect(rt: &HostRuntime, words: &[&str], status: u8, answers: &[u8]) {
+fn expect<T: Files + AllocGlobal + Abort>(rt: &T, words: &[&str], status: u8, answers: &[u8]) {
     let mut output = Vec::new(rt.alloc());
     let mut errors = Vec::new(rt.alloc());
     let answered = command(rt, words, SCHEDULE, &mut output, &mut errors);
@@ -99,7 +101,12 @@ fn reads_one_byte_more_than_a_founding_file_may_have(rt: HostRuntime) {
 }
 
 /// Playing this founding and this schedule ends with status 1, no output and this line.
-fn expect_fault(rt: &HostRuntime, founding: &str, schedule: &str, line: &str) {
+fn expect_fault<T: Files + AllocGlobal + Abort>(
+    rt: &T,
+    founding: &str,
+    schedule: &str,
+    line: &str,
+) {
     let mut output = Vec::new(rt.alloc());
     let mut errors = Vec::new(rt.alloc());
     let words = ["rbac_monitor", "play", founding, schedule];

@@ -1,7 +1,8 @@
-//! The readers of the commands about sets of separation, each for both kinds.
+//! The commands about sets of separation, each for both kinds.
+ghost use Rattle.std.specs.Prelude.{codes};
 ghost use Rattle.serde_json.specs.View.{members_view};
-ghost use Rattle.rbac_lines.specs.Fields.{Reads, by_word};
-ghost use Rattle.rbac_lines.specs.Command.{separation_commands, create_set, delete_set, add_role_member, delete_role_member, set_cardinality};
+ghost use Rattle.rbac_lines.specs.Fields.{Reads};
+ghost use Rattle.rbac_lines.specs.Command.{separation_command, create_set, of_one, of_two, set_cardinality};
 
 use crate::reading::commands::reviews::review_command;
 use crate::reading::commands::{one_name, two_names};
@@ -11,12 +12,13 @@ use rbac_words::{Command, Separation};
 use std::alloc::Global;
 
 /// Reads a command object of this name, where it changes a set of separation or is a review.
-pub fn separation_command(
+#[tactic(auto, unfolding(crate::specs::Command::separation_command))]
+pub(crate) fn separation_command(
     alloc: Global,
     fields: &Object,
     name: &str,
 ) -> Result<Command, LineRefusal>
-    ensures { Reads (by_word separation_commands name.now (members_view fields.now.entries)) result }
+    ensures { Reads (separation_command name.now (members_view fields.now.entries)) result }
 {
     match name {
         "CreateSsdSet" => create_set(alloc, fields, Separation::Static),
@@ -49,14 +51,13 @@ fn create_set(alloc: Global, fields: &Object, kind: Separation) -> Result<Comman
 }
 
 fn delete_set(alloc: Global, fields: &Object, kind: Separation) -> Result<Command, LineRefusal>
-    ensures { Reads (delete_set kind (members_view fields.now.entries)) result }
+    ensures { Reads (of_one (Command.DeleteSet kind) (codes "set") (members_view fields.now.entries)) result }
 {
-    let set = one_name(alloc, fields, "set")?;
-    Ok(Command::DeleteSet { kind, set })
+    one_name(alloc, fields, "set").map(|set| Command::DeleteSet { kind, set })
 }
 
 fn add_role_member(alloc: Global, fields: &Object, kind: Separation) -> Result<Command, LineRefusal>
-    ensures { Reads (add_role_member kind (members_view fields.now.entries)) result }
+    ensures { Reads (of_two (Command.AddRoleMember kind) (codes "set") (codes "role") (members_view fields.now.entries)) result }
 {
     let (set, role) = two_names(alloc, fields, "set", "role")?;
     Ok(Command::AddRoleMember { kind, set, role })
@@ -67,7 +68,7 @@ fn delete_role_member(
     fields: &Object,
     kind: Separation,
 ) -> Result<Command, LineRefusal>
-    ensures { Reads (delete_role_member kind (members_view fields.now.entries)) result }
+    ensures { Reads (of_two (Command.DeleteRoleMember kind) (codes "set") (codes "role") (members_view fields.now.entries)) result }
 {
     let (set, role) = two_names(alloc, fields, "set", "role")?;
     Ok(Command::DeleteRoleMember { kind, set, role })
