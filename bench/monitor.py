@@ -2,18 +2,22 @@
 import json
 import pathlib
 import statistics
-import subprocess
 import sys
 import time
 
 ROOT = pathlib.Path(__file__).resolve().parent.parent
+sys.dont_write_bytecode = True
+sys.path.insert(0, str(ROOT / "examples"))
+from client import Client
+
 PROGRAM = sys.argv[1] if len(sys.argv) > 1 else ROOT / "crates/rbac_monitor/out/rbac_monitor"
 
 
-class Monitor:
+class Monitor(Client):
+    """A client that times each command. It writes both lines at once, so that one command is one wait."""
+
     def __init__(self, *words):
-        self.serial = 0
-        self.process = subprocess.Popen([PROGRAM, *words], stdin=subprocess.PIPE, stdout=subprocess.PIPE, text=True, bufsize=1)
+        super().__init__([PROGRAM, *words])
 
     def ask(self, name, **fields):
         """Submits and delivers a command, and gives its answer and the seconds that it took."""
@@ -35,10 +39,6 @@ class Monitor:
 
     def pair(self, name, ascendant, descendant):
         return self.do("Done", name, ascendant=f"role{ascendant}", descendant=f"role{descendant}")
-
-    def stop(self):
-        self.process.stdin.close()
-        self.process.wait()
 
 
 def tell(took):

@@ -1,9 +1,9 @@
 //! A reader of the TOML that a founding file is written in.
 //!
-//! A text is lines of `key = value`, each of another key, with blanks, empty lines and comments. Lines end in a line feed, or
+//! A byte order mark at the front is skipped. A text is lines of `key = value`, each of another key, with blanks, empty lines and comments. Lines end in a line feed, or
 //! a carriage return and a line feed. A key is bare (letters, digits, `_`, `-`) or a string of one line. A value is
 //!
-//! - a string: basic (`"a"`, with the escapes of TOML 1.0) or literal (`'a'`), of one line or of several (`"""`, `'''`);
+//! - a string: basic (`"a"`, with the escapes of TOML 1.1) or literal (`'a'`), of one line or of several (`"""`, `'''`);
 //! - a whole number in decimal with or without a sign, or in hexadecimal, octal or binary (`0x`, `0o`, `0b`), with `_`
 //!   between digits, that fits in an i64;
 //! - a float, `inf`, `nan`, `true` or `false`;
@@ -31,11 +31,12 @@ pub struct NotToml;
 pub type Entries = Vec<(String, Value)>;
 
 /// Arrays nest no deeper than this, so that a hostile text cannot use up the stack.
-const DEEPEST: usize = 64;
+const DEEPEST: usize = 80;
 
 pub fn read(bytes: &[u8]) -> Result<Entries, NotToml> {
     let text = str::from_utf8(bytes).map_err(|_| NotToml)?;
     let mut reader = Reader { text, bytes, at: 0, depth: 0 };
+    reader.take("\u{feff}");
     let mut entries = Entries::new();
     loop {
         reader.skip_lines()?;

@@ -13,6 +13,8 @@ pub struct Work {
 pub struct Sizes {
     pub refused_lines: usize,
     pub days: usize,
+    pub users: usize,
+    pub grants: usize,
     pub checks: usize,
     pub hierarchy_changes: usize,
     pub reviews: usize,
@@ -24,6 +26,8 @@ impl Sizes {
     pub const FULL: Sizes = Sizes {
         refused_lines: 500_000,
         days: 2_000,
+        users: 1_000,
+        grants: 3_000,
         checks: 50_000,
         hierarchy_changes: 2_000,
         reviews: 5_000,
@@ -33,6 +37,8 @@ impl Sizes {
     pub const SMALL: Sizes = Sizes {
         refused_lines: 5_000,
         days: 20,
+        users: 50,
+        grants: 150,
         checks: 500,
         hierarchy_changes: 20,
         reviews: 50,
@@ -44,21 +50,25 @@ pub fn all(sizes: &Sizes, with_reviews: bool) -> Vec<Work> {
     let mut works = vec![
         Work { name: "lines refused", founding: None, schedule: refused_lines(sizes.refused_lines) },
         Work { name: "ordinary days", founding: None, schedule: ordinary_days(sizes.days) },
-        on_large_policy("a large policy made", |_| {}),
-        on_large_policy("a large policy made, and checks", |schedule| checks(schedule, sizes.checks)),
-        on_large_policy("a large policy made, and changes of its hierarchy", |schedule| {
+        on_large_policy(sizes, "a large policy made", |_| {}),
+        on_large_policy(sizes, "a large policy made, and checks", |schedule| checks(schedule, sizes)),
+        on_large_policy(sizes, "a large policy made, and changes of its hierarchy", |schedule| {
             hierarchy_changes(schedule, sizes.hierarchy_changes);
         }),
     ];
     if with_reviews {
-        works.push(on_large_policy("a large policy made, and short reviews", |schedule| {
-            short_reviews(schedule, sizes.reviews);
+        works.push(on_large_policy(sizes, "a large policy made, and short reviews", |schedule| {
+            short_reviews(schedule, sizes);
         }));
-        works.push(on_large_policy("a large policy made, and UserPermissions of a user of 100 roles", |schedule| {
-            for _ in 0..sizes.permission_reviews {
-                schedule.command("UserPermissions", &[("user", AUDITOR)]);
-            }
-        }));
+        works.push(on_large_policy(
+            sizes,
+            "a large policy made, and UserPermissions of a user of 100 roles",
+            |schedule| {
+                for _ in 0..sizes.permission_reviews {
+                    schedule.command("UserPermissions", &[("user", AUDITOR)]);
+                }
+            },
+        ));
     }
     works
 }
@@ -116,18 +126,16 @@ fn ordinary_day(schedule: &mut Schedule, user: &str, session: &str) {
     schedule.command("DeleteUser", &[("user", user)]);
 }
 
-const USERS: usize = 1_000;
 const OPERATIONS: usize = 20;
 const OBJECTS: usize = 100;
-const GRANTS: usize = 3_000;
 const AUDITOR: &str = "auditor";
 
 /// How many roles each level has, the most senior one first: 100 in all.
 const LEVELS: [usize; 6] = [1, 3, 8, 18, 30, 40];
 
-/// 1,000 users of two roles and one session each, 100 roles in 6 levels, 2,000 permissions and 3,000 grants, and one more
-/// user who has each role.
-fn on_large_policy(name: &'static str, more: impl Fn(&mut Schedule)) -> Work {
+/// Users of two roles and one session each, 100 roles in 6 levels, 2,000 permissions and grants of them, and one more user who
+/// has each role. At their full sizes there are 1,000 users and 3,000 grants.
+fn on_large_policy(sizes: &Sizes, name: &'static str, more: impl Fn(&mut Schedule)) -> Work {
     let numbered = |word: &str, count: usize| (0..count).map(|number| format!("{word}{number}")).collect::<Vec<_>>();
     let (operations, objects) = (numbered("operation", OPERATIONS), numbered("object", OBJECTS));
     let pairs = operations.iter().flat_map(|operation| objects.iter().map(move |object| [operation, object]));
@@ -137,12 +145,12 @@ fn on_large_policy(name: &'static str, more: impl Fn(&mut Schedule)) -> Work {
     );
     let mut schedule = Schedule::default();
     make_roles(&mut schedule);
-    for grant in 0..GRANTS {
+    for grant in 0..sizes.grants {
         let [operation, object] = permissions[grant % permissions.len()];
         let role = format!("role{}", (grant * 7 + grant / permissions.len()) % 100);
         schedule.command("GrantPermission", &[("operation", operation), ("object", object), ("role", &role)]);
     }
-    make_users(&mut schedule);
+    make_users(&mut schedule, sizes.users);
     more(&mut schedule);
     Work { name, founding: Some(founding), schedule }
 }
@@ -174,8 +182,8 @@ fn declared_pairs() -> Vec<(usize, usize)> {
     pairs
 }
 
-fn make_users(schedule: &mut Schedule) {
-    for number in 0..USERS {
+fn make_users(schedule: &mut Schedule, users: usize) {
+    for number in 0..users {
         let (user, session) = (format!("user{number}"), format!("session{number}"));
         let roles = [number % 100, (number * 3 + 51) % 100].map(|role| format!("role{role}"));
         schedule.command("AddUser", &[("user", &user)]);
@@ -190,9 +198,9 @@ fn make_users(schedule: &mut Schedule) {
     }
 }
 
-fn checks(schedule: &mut Schedule, count: usize) {
-    for number in 0..count {
-        let session = format!("session{}", number * 17 % USERS);
+fn checks(schedule: &mut Schedule, sizes: &Sizes) {
+    for number in 0..sizes.checks {
+        let session = format!("session{}", number * 17 % sizes.users);
         let operation = format!("operation{}", number % OPERATIONS);
         let object = format!("object{}", number * 13 % OBJECTS);
         schedule.command("CheckAccess", &[("session", &session), ("operation", &operation), ("object", &object)]);
@@ -211,10 +219,11 @@ fn hierarchy_changes(schedule: &mut Schedule, count: usize) {
     }
 }
 
-fn short_reviews(schedule: &mut Schedule, count: usize) {
-    for number in 0..count {
-        let (user, role) = (format!("user{}", number * 17 % USERS), format!("role{}", number % 100));
-        let (session, object) = (format!("session{}", number * 17 % USERS), format!("object{}", number * 13 % OBJECTS));
+fn short_reviews(schedule: &mut Schedule, sizes: &Sizes) {
+    for number in 0..sizes.reviews {
+        let (user, role) = (format!("user{}", number * 17 % sizes.users), format!("role{}", number % 100));
+        let (session, object) =
+            (format!("session{}", number * 17 % sizes.users), format!("object{}", number * 13 % OBJECTS));
         match number % 6 {
             0 => schedule.command("AssignedUsers", &[("role", &role)]),
             1 => schedule.command("AssignedRoles", &[("user", &user)]),

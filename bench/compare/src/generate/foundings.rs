@@ -41,6 +41,7 @@ const KEYS: [Key; 7] = [
             "[\"o\", 'p', \"\"\"q\"\"\", '''r''']",
             "[ # one\n'o'\n,\n]",
             "[\"\\u006f\"]",
+            "[\"\\x6F\"]",
             "['z','o','a',]",
         ],
         bad: &[
@@ -55,6 +56,8 @@ const KEYS: [Key; 7] = [
             "['o' 'p']",
             "['o',,]",
             "[\"\\q\"]",
+            "[\"\\e\"]",
+            "[\"\\x6\"]",
             "1",
         ],
     },
@@ -117,7 +120,7 @@ fn each_two_faults() -> Vec<String> {
     pairs.filter(|[first, second]| first.0 != second.0).map(|pair| with_values(&pair)).collect()
 }
 
-/// One file for each refusal, and one that is taken.
+/// One file for each refusal, and two that are taken.
 fn each_refusal() -> impl Iterator<Item = String> {
     let good = with_value("", "");
     let changed = [
@@ -128,6 +131,7 @@ fn each_refusal() -> impl Iterator<Item = String> {
         ("objects", "['x/y']"),
         ("operations", "['o','o']"),
         ("permissions", "[['o','moon']]"),
+        ("operations", "[\"\\x6f\"]"),
     ];
     let changed = changed.map(|(key, value)| with_value(key, value));
     let others = [
@@ -162,6 +166,7 @@ fn each_value() -> impl Iterator<Item = String> {
         format!("{good}'version' = 1\n"),
         format!("{good}x"),
         good.trim_end().to_owned(),
+        format!("\u{feff}{good}"),
         format!("{}# end", good),
     ];
     values.chain(without).chain(texts)

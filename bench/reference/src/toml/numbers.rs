@@ -19,7 +19,7 @@ pub fn read_word(word: &[u8]) -> Result<Value, NotToml> {
         return Ok(Value::Other);
     }
     match unsigned.find(['.', 'e', 'E']) {
-        Some(place) => read_float(&unsigned[..place], &unsigned[place..]),
+        Some(place) => read_float(unsigned, place),
         None => read_whole(word, unsigned),
     }
 }
@@ -30,8 +30,9 @@ fn read_whole(word: &str, unsigned: &str) -> Result<Value, NotToml> {
     format!("{sign}{digits}").parse().map(Value::Whole).map_err(|_| NotToml)
 }
 
-/// A float is a whole part with a fraction, an exponent or both.
-fn read_float(whole: &str, rest: &str) -> Result<Value, NotToml> {
+/// A float is a whole part with a fraction, an exponent or both, from this place on. One that is too large for an f64 is refused.
+fn read_float(float: &str, place: usize) -> Result<Value, NotToml> {
+    let (whole, rest) = float.split_at(place);
     decimal_digits(whole)?;
     let (fraction, exponent) = match rest.split_once(['e', 'E']) {
         Some((fraction, exponent)) => (fraction, Some(exponent)),
@@ -44,7 +45,8 @@ fn read_float(whole: &str, rest: &str) -> Result<Value, NotToml> {
         let digits = exponent.strip_prefix(['+', '-']).unwrap_or(exponent);
         without_underscores(digits, |digit| digit.is_ascii_digit())?;
     }
-    Ok(Value::Other)
+    let number: f64 = float.replace('_', "").parse().map_err(|_| NotToml)?;
+    if number.is_finite() { Ok(Value::Other) } else { Err(NotToml) }
 }
 
 /// Digits, of which the first is 0 only where it stands alone.

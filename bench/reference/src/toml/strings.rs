@@ -118,10 +118,12 @@ impl Reader<'_> {
         Ok(match letter {
             b'"' | b'\\' => char::from(letter),
             b'b' => '\u{8}',
+            b'e' => '\u{1b}',
             b'f' => '\u{c}',
             b'n' => '\n',
             b'r' => '\r',
             b't' => '\t',
+            b'x' => return self.code(2),
             b'u' => return self.code(4),
             b'U' => return self.code(8),
             _ => return Err(NotToml),

@@ -16,6 +16,7 @@ fn lines() {
     assert_eq!(read(text.as_bytes()), Ok(entries.to_vec()));
     assert_eq!(read(b""), Ok(vec![]));
     assert_eq!(read(b"#"), Ok(vec![]));
+    assert_eq!(read("\u{feff}a = 1".as_bytes()), Ok(vec![("a".to_owned(), Value::Whole(1))]));
 }
 
 #[test]
@@ -29,6 +30,8 @@ fn what_is_no_line() {
         "a = 1\n\"a\" = 2",
         "a = 1\rb = 2",
         "# \u{1}",
+        "\u{feff}\u{feff}a = 1",
+        "a = 1\n\u{feff}",
         "a\n= 1",
         "a =\n1",
     ] {
@@ -79,6 +82,7 @@ fn what_is_no_number() {
         "0xg",
         "0b2",
         "9223372036854775808",
+        "1e999",
         "1.",
         ".5",
         "1.e3",
@@ -98,6 +102,7 @@ fn strings() {
         (r#""a#b""#, "a#b"),
         (r#""\"\\\b\f\n\r\t""#, "\"\\\u{8}\u{c}\n\r\t"),
         (r#""\u00e9\U0001F600""#, "\u{e9}\u{1f600}"),
+        (r#""\x61\xE9\e""#, "a\u{e9}\u{1b}"),
         (r"'a\b'", r"a\b"),
         ("\"\"\"\na\r\nb\"\"\"", "a\nb"),
         ("\"\"\"a\\  \n\n  b\"\"\"", "ab"),
@@ -118,6 +123,9 @@ fn what_is_no_string() {
         "\"a\nb\"",
         "'a\nb'",
         "\"\\x\"",
+        "\"\\x6\"",
+        "\"\\X61\"",
+        "\"\\E\"",
         "\"\\ud800\"",
         "\"\\u12\"",
         "\"\\U00110000\"",
@@ -134,6 +142,9 @@ fn arrays() {
     assert_eq!(value("[]"), Ok(list(&[])));
     assert_eq!(value("[1,2]"), Ok(list(&[1, 2])));
     assert_eq!(value("[ # one\n 1\n , # two\r\n 2 ,\n]"), Ok(list(&[1, 2])));
+    let nested = |depth| value(&("[".repeat(depth) + &"]".repeat(depth)));
+    assert!(nested(80).is_ok());
+    assert_eq!(nested(81), Err(NotToml));
     assert_eq!(value("[[1], []]"), Ok(Value::List(vec![list(&[1]), list(&[])])));
     for text in ["[", "[1", "[,]", "[1,,2]", "[1 2]", "[1]]"] {
         assert_eq!(value(text), Err(NotToml), "{text}");
