@@ -1,5 +1,5 @@
 -- What a command that is not denied answers and leaves.
-use Rattle.std.proofs.Common.{◌≡◌, Bool, false, true, true≢false, Option, Some, None, Ok, Err, refl, sym, ap, ◌∙◌}
+use Rattle.std.proofs.Common.{◌≡◌, false, true≢false, Option, Some, None, Ok, Err, refl, sym, ap, ◌∙◌}
 use Rattle.rbac_words.specs.State.{State}
 use Rattle.rbac_words.specs.Rows.{first_denial}
 use Rattle.rbac_words.specs.Change.{change}
@@ -24,18 +24,6 @@ change-reply c s asks none = change-answer c s asks ∙ ap (λ (o : Option Denia
 -- a copy is changed
 pub changed : (c : Command) (s copy new inside : State) → first_denial c s ≡ None → inside ≡ s → copy ≡ inside → new ≡ change c copy → new ≡ effect c s
 changed c s copy new inside none seen copied made = made ∙ ap (change c) (copied ∙ seen) ∙ ap (λ (o : Option Denial). effect_unless o c s) (sym none)
-
--- a denied command changes nothing
-pub denied-effect : (c : Command) (s : State) (denial : Denial) → first_denial c s ≡ Some denial → s ≡ effect c s
-denied-effect c s denial e = ap (λ (o : Option Denial). effect_unless o c s) (sym e)
-
--- nor does a command without a change, denied or not
-unless-same : (o : Option Denial) (c : Command) (s : State) → change c s ≡ s → s ≡ effect_unless o c s
-unless-same None c s same = sym same
-unless-same (Some denial) c s same = refl
-
-pub question-effect : (c : Command) (s : State) → change c s ≡ s → s ≡ effect c s
-question-effect c s same = unless-same (first_denial c s) c s same
 
 -- what is denied is answered by its denial
 pub denied-reply : (o : Option Denial) (denial : Denial) (c : Command) (s : State) → Err denial ≡ unless_denied o → Denied denial ≡ reply_unless o c s

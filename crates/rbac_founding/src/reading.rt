@@ -10,9 +10,7 @@ use crate::limits::FOUNDED_MEMBERS;
 use crate::names::{names_of, permissions_of};
 use crate::refusal::FoundingRefusal;
 use crate::values::Entries;
-use rbac_words::limits::{
-    LAST_CLOCK, MOST_OBJECTS, MOST_OPERATIONS, MOST_PERMISSIONS, MOST_SENT,
-};
+use rbac_words::limits::{LAST_CLOCK, MOST_OBJECTS, MOST_OPERATIONS, MOST_PERMISSIONS, MOST_SENT};
 use rbac_words::{Group, Vocabulary, VocabularyRefusal};
 use std::alloc::Global;
 

@@ -168,8 +168,8 @@ impl Hierarchy {
         }
     }
 
-    /// The names, and the roles that the role inherits, itself among them.
-    pub fn with_juniors(&self, names: NameSet, role: &Name) -> Result<NameSet, AllocError>
+    // The names, and the roles that the role inherits, itself among them.
+    pub(crate) fn with_juniors(&self, names: NameSet, role: &Name) -> Result<NameSet, AllocError>
         ensures { let h = self.now.content in IfOk result (λ more. (r : NameValue) → has name_cmp r more ≡ (has name_cmp r names || inherits h.roles h.declared role.now r)) }
     {
         match self.juniors.get(role) {

@@ -7,9 +7,7 @@ ghost use Rattle.rbac_member.specs.Serials.{counted, counted_of};
 use crate::refusal::{FoundRefusal, SubmitRefusal};
 use rbac_decide::Policy;
 use rbac_words::limits::LAST_CLOCK;
-use rbac_words::{
-    Answer, Command, Group, Message, Record, Stamp, Submission, Vocabulary,
-};
+use rbac_words::{Answer, Command, Group, Message, Record, Stamp, Submission, Vocabulary};
 use sorted_keys::SortedMap;
 use std::alloc::{AllocError, Global};
 use std::collections::VecDeque;

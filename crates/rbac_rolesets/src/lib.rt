@@ -5,7 +5,7 @@ mod assigned;
 mod removal;
 mod role_sets;
 
-pub use assigned::{RolesOf, UsersOf};
+pub use assigned::RolesOf;
 pub use role_sets::RoleSets;
 
 #[cfg(test)]

@@ -1,5 +1,6 @@
 //! Each public call with ample memory. What is expected was written by hand.
-use crate::{RoleSets, UsersOf};
+use crate::RoleSets;
+use crate::assigned::UsersOf;
 use rbac_words::{Name, NameSet};
 use std::alloc::{AllocError, Global};
 use std::process::Abort;
