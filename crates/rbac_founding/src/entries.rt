@@ -8,9 +8,9 @@ ghost use Rattle.rbac_founding.specs.FoundingFile.{array_at, as_permission, as_p
 ghost use Rattle.rbac_founding.specs.FoundingEntries.{entries_view, pair_of, text_of};
 
 use crate::document::{integer_at, value_at};
-use crate::limits::MOST_SENT;
 use crate::refusal::FoundingRefusal;
 use crate::values::Entries;
+use rbac_words::limits::MOST_SENT;
 use toml::{Table, Value};
 
 fn whole_at(document: &Table, key: &str) -> Result<i64, FoundingRefusal>

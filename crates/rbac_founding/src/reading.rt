@@ -6,12 +6,13 @@ ghost use Rattle.rbac_founding.specs.FoundingEntries.{entries_view};
 use crate::document::{document_of, right_keys};
 use crate::entries::entries_of;
 use crate::founding::Founding;
-use crate::limits::{
-    FOUNDED_MEMBERS, LAST_CLOCK, MOST_OBJECTS, MOST_OPERATIONS, MOST_PERMISSIONS, MOST_SENT,
-};
+use crate::limits::FOUNDED_MEMBERS;
 use crate::names::{names_of, permissions_of};
 use crate::refusal::FoundingRefusal;
 use crate::values::Entries;
+use rbac_words::limits::{
+    LAST_CLOCK, MOST_OBJECTS, MOST_OPERATIONS, MOST_PERMISSIONS, MOST_SENT,
+};
 use rbac_words::{Group, Vocabulary, VocabularyRefusal};
 use std::alloc::Global;
 

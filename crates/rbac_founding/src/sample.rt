@@ -4,7 +4,7 @@ ghost use Rattle.rbac_words.specs.Name.{is_name};
 ghost use Rattle.rbac_founding.specs.Sample.{sample_group, sample_vocabulary};
 
 use crate::founding::Founding;
-use crate::limits::MOST_SENT;
+use rbac_words::limits::MOST_SENT;
 use rbac_words::{Group, Name, NameRefusal, Vocabulary};
 use std::alloc::{AllocError, Global};
 

@@ -21,8 +21,19 @@ const SAMPLE_AND_INPUT: Play<'static> = Play {
 const ABOUT: &str =
     "Plays commands of role-based access control, one JSON object a line, and answers each line";
 
+// The founding format that is read, the date of this version, and the kit that it is proved with.
+const VERSION: &str = "1 (2026-11-23, rattle-kit-13b logic dac8208d650f15bf)";
+
 const AFTER_HELP: &str = "\
 Without words: the same as 'play - -'.
+
+docs/LINES.md says what lines may contain and what each refusal means, docs/lines.schema.json their shape.
+
+A founding file is TOML with the keys
+  version = 1, members = 1   needed
+  operations, objects        arrays of names, needed
+  permissions                an array of [operation, object], needed
+  clock, sent_limit          whole numbers; 0 and 65536 where they are absent
 
 Examples:
   rbac_monitor < examples/first_day.jsonl
@@ -51,7 +62,7 @@ fn command_line<'w>(alloc: Global) -> Result<Command<'w>, AllocError> {
         .arg(path(alloc, "SCHEDULE", SCHEDULE))?;
     Command::new(alloc, "rbac_monitor")
         .bin_name("rbac_monitor")?
-        .version("1")
+        .version(VERSION)
         .about(ABOUT)
         .after_help(AFTER_HELP)
         .subcommand(play)
