@@ -22,7 +22,7 @@ use rbac_words::{Answer, Command, Denial, Name, Vocabulary};
 use std::alloc::{AllocError, Global};
 use std::marker::Model;
 
-/// A policy of ANSI INCITS 359-2004: its sets, and the vocabulary that it was founded with.
+/// A policy of ANSI INCITS 359-2004, in this project's profile: its sets, and the vocabulary that it was founded with.
 #[derive(Drop)]
 pub struct Policy {
     tables: Tables,

@@ -26,7 +26,8 @@ abbrev pub has_permission : State → Permission → Name → Bool
 has_permission s permission role = list_any (λ g. eq_by_cmp pair_cmp permission g.0 && inherits_in s role g.1) s.granted
 
 -- some role that is active in the session inherits a role that the permission is granted to
--- (ANSI INCITS 359-2004, 5.2: authorized_permissions, and 6.1.2: CheckAccess)
+-- (ANSI INCITS 359-2004, 5.2: authorized_permissions, and 6.1.2: CheckAccess, which names the active roles alone; that a session also holds what
+-- they inherit is this project's own reading)
 abbrev pub Holds : State → Session → Permission → Type 0
 Holds s session permission =
     (active : Name) × (junior : Name) × IsTrue (has name_cmp active session.active) × InheritsIn s active junior × IsTrue (has grant_cmp (permission, junior) s.granted)
