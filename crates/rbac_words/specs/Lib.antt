@@ -8,6 +8,7 @@ pub mod Founding
 pub mod Front
 pub mod Inheritance
 pub mod Limits
+pub mod Links
 pub mod Member
 pub mod Members
 pub mod Message

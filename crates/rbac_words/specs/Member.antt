@@ -1,6 +1,6 @@
 -- A member of a group: what it knows, what its calls leave of it, and what it keeps (Lamport 1978, "Ordering the Events
 -- Totally": its request queue and the last message of each other process).
-use Rattle.std.specs.Prelude.{ℕ, zero, suc, Bool, true, ◌≡◌, ◌≢◌, ◌≤◌, ◌<◌, ◌+◌, ◌-◌, ◌==◌, ◌||◌, ⊤, if◌then◌else◌, List, [], ◌∷◌, ◌++◌, length, map, drop, replicate, Option, Some, None, slice_set, slice_index_or}
+use Rattle.std.specs.Prelude.{ℕ, zero, suc, Bool, true, false, ◌≡◌, ◌≢◌, ◌≤◌, ◌<◌, ◌+◌, ◌-◌, ◌==◌, ◌||◌, ⊤, if◌then◌else◌, List, [], ◌∷◌, ◌++◌, length, map, drop, replicate, Option, Some, None, slice_set, slice_index_or}
 use Rattle.std.specs.List.{AllByRecursion, filter, list_all}
 use Rattle.rbac_words.specs.Limits.{last_clock}
 use Rattle.rbac_words.specs.Founding.{Group, Vocabulary, IsGroup}
@@ -8,13 +8,16 @@ use Rattle.rbac_words.specs.State.{State, founding_state}
 use Rattle.rbac_words.specs.Effect.{effect, reply}
 use Rattle.rbac_words.specs.Replay.{state_after}
 use Rattle.rbac_words.specs.Stamp.{IsBefore, IsRising, IsAfter, has_passed, insert_all}
-use Rattle.rbac_words.specs.Message.{stamp_of, submitted_at, submissions_of, submissions, commands_of, has_later, is_by, CountsFrom, IsLawful}
+use Rattle.rbac_words.specs.Message.{stamp_of, submitted_at, submissions_of, submissions, commands_of, has_later, is_by, next_serial, CountsFrom, IsLawful}
 use Rattle.rbac_words.specs.Front.{IsLegalFront, command_of, is_of}
-use Rattle.rbac_words.specs.World.{Node, stamp, read_of, least, clock_after, acknowledgement, acks}
+use Rattle.rbac_words.specs.Links.{Links, link_refusal}
+use Rattle.rbac_words.specs.World.{Node, stamp, read_of, least, clock_after, acknowledgement, acks, room_refusal}
 use Rattle.rbac_words.specs.declared.command.Command.{Command}
 use Rattle.rbac_words.specs.declared.message.Message.{Message}
-use Rattle.rbac_words.specs.declared.message.Message.TheVariants.{Call}
+use Rattle.rbac_words.specs.declared.message.Message.TheVariants.{Call, Ack}
 use Rattle.rbac_words.specs.declared.message.Submission.{Submission}
+use Rattle.rbac_words.specs.declared.event.Refusal.{Refusal}
+use Rattle.rbac_words.specs.declared.event.Refusal.TheVariants.{BadSerial}
 use Rattle.rbac_words.specs.declared.record.Record.{Record}
 use Rattle.rbac_words.specs.declared.stamp.Stamp.{Stamp}
 
@@ -74,6 +77,25 @@ submitted v caller serial command = record v {
 
 -- ---- Receive
 
+-- what a member's links keep
+abbrev pub links_of : Member → Links
+links_of v = record { me = v.number; read = v.read; latest = v.latest }
+
+-- a command is refused where its serial is not the number of its caller's commands that the member knows
+abbrev pub serial_refusal : Member → Message → Option Refusal
+serial_refusal v (Call s caller serial command) =
+    if serial == next_serial caller (filter (is_of s.member) (known v)) then None
+    else Some (BadSerial (next_serial caller (filter (is_of s.member) (known v))))
+serial_refusal v (Ack s) = None
+
+abbrev pub or_else : Option Refusal → Option Refusal → Option Refusal
+or_else None other = other
+or_else (Some r) other = Some r
+
+-- why a message is not received: the first that applies of what the link, the clock and the sent list, and the serial refuse
+abbrev pub message_refusal : Member → ℕ → ℕ → Message → Option Refusal
+message_refusal v from n m = or_else (link_refusal (links_of v) from n (stamp_of m)) (or_else (room_refusal v.group (node_of v) m) (serial_refusal v m))
+
 -- one more message was read of member k, with this stamp; its commands are held, and it is acknowledged by the rule
 abbrev pub received : Member → ℕ → Message → Member
 received v k m = record v {
@@ -91,10 +113,18 @@ abbrev pub numbers : ℕ → ℕ → List ℕ
 numbers zero n = []
 numbers (suc more) n = suc n ∷ numbers more (suc n)
 
--- whether each member other than this one and the command's has passed the command: no command that comes later can have a
--- smaller stamp
+-- whether, by the latest stamps, each member other than `me` and the command's has passed the command: no command that comes
+-- later can have a smaller stamp
+abbrev pub is_passed : ℕ → ℕ → List (Option Stamp) → Submission → Bool
+is_passed members me latest x = list_all (λ k. (k == me || k == x.stamp.member) || has_passed (slice_index_or latest (k - 1) None) x.stamp) (numbers members 0)
+
 abbrev pub is_passed_by_all : Member → Submission → Bool
-is_passed_by_all v x = list_all (λ k. (k == v.number || k == x.stamp.member) || has_passed (latest_of v k) x.stamp) (numbers v.group.members 0)
+is_passed_by_all v x = is_passed v.group.members v.number v.latest x
+
+-- whether the least of what is held is passed so; false where nothing is held
+abbrev pub is_least_passed : ℕ → ℕ → List (Option Stamp) → List Submission → Bool
+is_least_passed members me latest [] = false
+is_least_passed members me latest (x ∷ xs) = is_passed members me latest x
 
 abbrev pub if_passed : Member → Option Submission → Option Submission
 if_passed v None = None

@@ -1,5 +1,5 @@
 -- Stamps and their total order (Lamport 1978, "Ordering the Events Totally").
-use Rattle.std.specs.Prelude.{Bool, false, ◌≡◌, ◌==◌, ◌<◌, nat_lt, ◌||◌, ◌&&◌, ◌⊎◌, List, [], ◌∷◌, ⊤, not, if◌then◌else◌, Option, Some, None}
+use Rattle.std.specs.Prelude.{Bool, true, false, ◌≡◌, ◌==◌, ◌<◌, nat_lt, ◌||◌, ◌&&◌, ◌⊎◌, List, [], ◌∷◌, ⊤, not, if◌then◌else◌, Option, Some, None}
 use Rattle.std.specs.List.{AllByRecursion, filter}
 use Rattle.std.specs.declared.cmp.Ordering.{Ordering}
 use Rattle.std.specs.Ordering.{nat_cmp, then_cmp, on}
@@ -60,6 +60,11 @@ insert_all at (x ∷ xs) ys = insert_all at xs (insert_by_stamp at x ys)
 abbrev pub IsAfter : Option Stamp → Stamp → Type 0
 IsAfter None s = ⊤
 IsAfter (Some last) s = IsBefore last s
+
+-- the same as a test
+abbrev pub is_after : Option Stamp → Stamp → Bool
+is_after None s = true
+is_after (Some last) s = is_before last s
 
 -- whether the last stamp, if there is one, comes after this one
 abbrev pub has_passed : Option Stamp → Stamp → Bool
