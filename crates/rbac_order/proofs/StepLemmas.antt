@@ -72,15 +72,15 @@ takes_next a b m rest r is kept next = record {
     high : b.number ≤ a.group.members
     high = next.number.high
 
-if_none : {R : Type 0} (b : Bool) (r : R) (o : Option R) → cond b (Some r) o ≡ None → (b ≡ false) × (o ≡ None)
+pub if_none : {R : Type 0} (b : Bool) (r : R) (o : Option R) → cond b (Some r) o ≡ None → (b ≡ false) × (o ≡ None)
 if_none true r o e = let no : ⊥ = cc in absurd no
 if_none false r o e = (refl, e)
 
-unless_none : {R : Type 0} (b : Bool) (r : R) (o : Option R) → cond b o (Some r) ≡ None → (b ≡ true) × (o ≡ None)
+pub unless_none : {R : Type 0} (b : Bool) (r : R) (o : Option R) → cond b o (Some r) ≡ None → (b ≡ true) × (o ≡ None)
 unless_none true r o e = (refl, e)
 unless_none false r o e = let no : ⊥ = cc in absurd no
 
-and_both : (a b : Bool) → (a && b) ≡ true → (a ≡ true) × (b ≡ true)
+pub and_both : (a b : Bool) → (a && b) ≡ true → (a ≡ true) × (b ≡ true)
 and_both true b e = (refl, e)
 and_both false b e = absurd (true≢false (sym e))
 
@@ -214,7 +214,7 @@ module _ (group : Group) (vocabulary : Vocabulary) (ms : List Member) (are : Are
   moves : (e : Event) (members : List Member) → refusal w e ≡ None → AreMembers group vocabulary members → world_of group vocabulary members ≡ after w e → AreAfter e
   moves e members free are_members same = record { members = members; are_members = are_members; same = same ∙ ap (λ (o : Option Refusal). world_unless o (after w e) w) (sym free) }
 
-  node_is : (k : ℕ) → node w k ≡ node_of (at (k - 1))
+  pub node_is : (k : ℕ) → node w k ≡ node_of (at (k - 1))
   node_is k = node-of_member ms (k - 1)
 
   -- the place of a member's number
@@ -261,12 +261,12 @@ module _ (group : Group) (vocabulary : Vocabulary) (ms : List Member) (are : Are
           ∙ ap (λ (v : Node). with_node w k (deliver_at vocabulary v (due w v))) (sym (node_is k)))
 
   -- what a receipt that is not refused has passed
-  record HasCome (v sender : Node) (n : ℕ) : Type 0 where
-    sent : n ≤ length sender.sent
-    next : n ≡ read_of v sender.number + 1
-    room : room_refusal group v (message sender n) ≡ None
+  pub record HasCome (v sender : Node) (n : ℕ) : Type 0 where
+    pub sent : n ≤ length sender.sent
+    pub next : n ≡ read_of v sender.number + 1
+    pub room : room_refusal group v (message sender n) ≡ None
 
-  has_come : (v sender : Node) (n : ℕ) → receive_refusal group v sender n ≡ None → HasCome v sender n
+  pub has_come : (v sender : Node) (n : ℕ) → receive_refusal group v sender n ≡ None → HasCome v sender n
   has_come v sender n e =
       let a = if_none (n == 0 || nat_lt (length sender.sent) n) NotSent _ e in
       let b = if_none (nat_lt n (read_of v sender.number + 1)) (Repeat (read_of v sender.number + 1)) _ a.1 in
