@@ -1,2 +1,4 @@
-pub mod CallLemmas
+pub mod DeliveryLemmas
+pub mod HoldLemmas
+pub mod ReceiveLemmas
 pub mod SerialLemmas

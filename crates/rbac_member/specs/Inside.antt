@@ -1,8 +1,8 @@
 -- A member's fields as what they stand for.
-use Rattle.std.specs.Prelude.{◌≡◌, replicate, None}
+use Rattle.std.specs.Prelude.{◌≡◌}
 use Rattle.rbac_words.specs.Founding.{Vocabulary}
 use Rattle.rbac_words.specs.State.{State}
-use Rattle.rbac_words.specs.Member.{Member, IsMember}
+use Rattle.rbac_words.specs.Member.{Member, IsMember, known}
 use Rattle.rbac_member.specs.Serials.{AreCounted}
 use Rattle.rbac_member.specs.declared.member.Member.TheInside.{Inside}
 
@@ -10,23 +10,24 @@ use Rattle.rbac_member.specs.declared.member.Member.TheInside.{Inside}
 abbrev pub vocabulary_of : State → Vocabulary
 vocabulary_of s = record { operations = s.operations; objects = s.objects; permissions = s.permissions }
 
--- until groups come nothing is read of others
 abbrev pub member_of : Inside → Member
 member_of a = record {
   group = a.group;
   vocabulary = vocabulary_of a.policy;
   number = a.number;
   clock = a.clock;
-  sent = a.sent.items;
-  read = replicate a.group.members 0;
-  latest = replicate a.group.members None;
-  held = a.held.items;
+  sent = a.outbox.sent;
+  read = a.links.read;
+  latest = a.links.latest;
+  held = a.held.held;
   history = a.history.items;
   policy = a.policy;
 }
 
--- what each member keeps; until groups come it is alone
+-- what each member keeps, and that its fields agree on whose they are
 pub record IsKept (a : Inside) : Type 0 where
-  pub counted : AreCounted a.serials.content a.sent.items
-  pub alone : a.group.members ≡ 1
+  pub counted : AreCounted a.serials.content (known (member_of a))
+  pub limit : a.outbox.limit ≡ a.group.sent_limit
+  pub me : a.links.me ≡ a.number
+  pub members : a.held.members ≡ a.group.members
   pub kept : IsMember (member_of a)

@@ -1,4 +1,5 @@
-//! One member: it sends what its callers submit, holds it, and delivers it to its policy.
+//! One member of a group: it sends what its callers submit, receives what the others send, holds all of it back, and delivers
+//! it to its policy in stamp order.
 #![tactic(auto)]
 
 mod member;
@@ -6,7 +7,7 @@ mod refusal;
 
 pub use member::Member;
 pub use rbac_words::Record;
-pub use refusal::{FoundRefusal, SubmitRefusal};
+pub use refusal::{FoundRefusal, ReceiveRefusal, SubmitRefusal};
 
 #[cfg(test)]
 mod tests;

@@ -1,4 +1,9 @@
-//! Why a member takes no part in a group, or a command.
+//! Why a member takes no part in a group, no command, or no message.
+ghost use Rattle.std.specs.Prelude.{◌≡◌};
+ghost use Rattle.rbac_member.specs.Calls.{of_link, submit_refused, receipt_refused};
+
+use rbac_links::LinkRefusal;
+use rbac_words::Refusal;
 
 /// Why a member was not founded, in the order of the checks.
 #[derive(Clone, Copy, Debug, PartialEq, Eq, Drop)]
@@ -18,4 +23,71 @@ pub enum SubmitRefusal {
     /// The serial is not the caller's next.
     BadSerial { next: u64 },
     NoMemory,
+}
+
+/// Why a message was not received, in the order of the checks.
+#[derive(Clone, Copy, Debug, PartialEq, Eq, Drop)]
+pub enum ReceiveRefusal {
+    /// The group has no member of the sender's number.
+    UnknownMember,
+    /// A member receives nothing from itself.
+    FromSelf,
+    /// A message that was received before.
+    Repeat { expected: u64 },
+    /// A message before which another one is missing.
+    Gap { expected: u64 },
+    /// The stamp is not of the sender, or not above the last one taken from it.
+    StampNotRising,
+    /// The clock would pass its limit, the step of the acknowledgement included.
+    ClockFull,
+    /// The message is to be acknowledged, and the member has sent as many messages as it may.
+    SentFull,
+    /// The serial is not the number of its caller's commands that were received or submitted before.
+    BadSerial { next: u64 },
+    NoMemory,
+}
+
+impl From<LinkRefusal> for ReceiveRefusal {
+    ghost from_gives = { λ refusal made. made ≡ of_link refusal };
+
+    fn from(refusal: LinkRefusal) -> ReceiveRefusal {
+        match refusal {
+            LinkRefusal::UnknownMember => ReceiveRefusal::UnknownMember,
+            LinkRefusal::FromSelf => ReceiveRefusal::FromSelf,
+            LinkRefusal::Repeat { expected } => ReceiveRefusal::Repeat { expected },
+            LinkRefusal::Gap { expected } => ReceiveRefusal::Gap { expected },
+            LinkRefusal::StampNotRising => ReceiveRefusal::StampNotRising,
+        }
+    }
+}
+
+impl From<SubmitRefusal> for Refusal {
+    ghost from_gives = { λ refusal made. made ≡ submit_refused refusal };
+
+    fn from(refusal: SubmitRefusal) -> Refusal {
+        match refusal {
+            SubmitRefusal::ClockFull => Refusal::ClockFull,
+            SubmitRefusal::SentFull => Refusal::SentFull,
+            SubmitRefusal::BadSerial { next } => Refusal::BadSerial { next },
+            SubmitRefusal::NoMemory => Refusal::NoMemory,
+        }
+    }
+}
+
+impl From<ReceiveRefusal> for Refusal {
+    ghost from_gives = { λ refusal made. made ≡ receipt_refused refusal };
+
+    fn from(refusal: ReceiveRefusal) -> Refusal {
+        match refusal {
+            ReceiveRefusal::UnknownMember => Refusal::UnknownMember,
+            ReceiveRefusal::FromSelf => Refusal::FromSelf,
+            ReceiveRefusal::Repeat { expected } => Refusal::Repeat { expected },
+            ReceiveRefusal::Gap { expected } => Refusal::Gap { expected },
+            ReceiveRefusal::StampNotRising => Refusal::StampNotRising,
+            ReceiveRefusal::ClockFull => Refusal::ClockFull,
+            ReceiveRefusal::SentFull => Refusal::SentFull,
+            ReceiveRefusal::BadSerial { next } => Refusal::BadSerial { next },
+            ReceiveRefusal::NoMemory => Refusal::NoMemory,
+        }
+    }
 }

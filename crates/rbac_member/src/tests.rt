@@ -1,27 +1,33 @@
-use crate::{FoundRefusal, Member, SubmitRefusal};
-use rbac_words::{Answer, Command, Denial, Group, Name, Stamp, Vocabulary};
+use crate::{FoundRefusal, Member, ReceiveRefusal, SubmitRefusal};
+use rbac_words::{Answer, Command, Denial, Group, Message, Name, Stamp, Vocabulary};
 use std::alloc::Global;
 use std::process::Abort;
 
-fn add_user(rt: &impl Abort, alloc: Global, user: &str) -> Command {
+fn add_user(rt: &impl Abort, alloc: Global) -> Command {
     Command::AddUser {
-        user: Name::read(alloc, user.as_bytes()).expect(rt, "a name"),
+        user: Name::read(alloc, b"ann").expect(rt, "a name"),
     }
 }
 
-fn vocabulary(rt: &impl Abort, alloc: Global) -> Vocabulary {
-    Vocabulary::build(Vec::new(alloc), Vec::new(alloc), Vec::new(alloc)).expect(rt, "a vocabulary")
+fn stamp(clock: u64, member: u32) -> Stamp {
+    Stamp { clock, member }
 }
 
-fn stamp(clock: u64) -> Stamp {
-    Stamp { clock, member: 1 }
+// A command of caller 0 as another member sends it.
+fn call(rt: &impl Abort, alloc: Global, stamp: Stamp, serial: u32) -> Message {
+    Message::Call {
+        stamp,
+        caller: 0,
+        serial,
+        command: add_user(rt, alloc),
+    }
 }
 
-// A member alone, whose clock starts here and which may send so much.
-fn alone(rt: &impl Abort, alloc: Global, clock: u64, sent_limit: u32) -> Member {
-    let group = Group::build(1, clock, sent_limit).expect(rt, "a group");
-    assert!(rt; group.members() == 1);
-    Member::found(alloc, group, 1, vocabulary(rt, alloc)).expect(rt, "a member")
+// Member 1 of a group of so many, whose clock starts here and which may send so much.
+fn first_of(rt: &impl Abort, alloc: Global, members: u32, clock: u64, sent_limit: u32) -> Member {
+    let group = Group::build(members, clock, sent_limit).expect(rt, "a group");
+    let vocabulary = Vocabulary::build(Vec::new(alloc), Vec::new(alloc), Vec::new(alloc));
+    Member::found(alloc, group, 1, vocabulary.expect(rt, "a vocabulary")).expect(rt, "a member")
 }
 
 // Submits that ann is added, and compares the answer.
@@ -32,7 +38,32 @@ fn expect_submit(
     serial: u32,
     wanted: Result<Stamp, SubmitRefusal>,
 ) {
-    let answer = member.submit(alloc, 0, serial, add_user(rt, alloc, "ann"));
+    let answer = member.submit(0, serial, add_user(rt, alloc));
+    assert_eq!(rt; answer, wanted);
+}
+
+// Receives a message, which is dropped here, and compares the answer.
+fn expect_receipt(
+    rt: &impl Abort,
+    member: &mut Member,
+    from: u32,
+    number: u32,
+    message: Message,
+    wanted: Result<Option<Stamp>, ReceiveRefusal>,
+) {
+    let answer = member.receive(from, number, &message);
+    assert_eq!(rt; answer, wanted);
+}
+
+// Receives an acknowledgement, and compares the answer.
+fn expect_ack(
+    rt: &impl Abort,
+    member: &mut Member,
+    number: u32,
+    stamp: Stamp,
+    wanted: Result<Option<Stamp>, ReceiveRefusal>,
+) {
+    let answer = member.receive(2, number, &Message::Ack { stamp });
     assert_eq!(rt; answer, wanted);
 }
 
@@ -51,12 +82,9 @@ fn expect_record(rt: &impl Abort, member: &Member, place: usize, wanted: Stamp, 
 
 #[test]
 fn founds_a_member_with_no_past(rt: HostRuntime) {
-    let alloc = rt.alloc();
-    let member = alone(&rt, alloc, 7, 5);
-    assert_eq!(rt; member.number(), 1);
-    assert_eq!(rt; member.clock(), 7);
-    assert!(rt; member.sent().is_empty());
-    assert!(rt; member.history().is_empty());
+    let member = first_of(&rt, rt.alloc(), 2, 7, 5);
+    assert_eq!(rt; (member.number(), member.clock(), member.read(2)), (1, 7, 0));
+    assert!(rt; member.sent().is_empty() && member.history().is_empty());
     member.invariants();
 }
 
@@ -64,90 +92,122 @@ fn founds_a_member_with_no_past(rt: HostRuntime) {
 fn founds_no_stranger(rt: HostRuntime) {
     let alloc = rt.alloc();
     let group = Group::build(1, 0, 5).expect(&rt, "a group");
-    assert!(rt; group.members() == 1);
-    let stranger = Member::found(alloc, group, 2, vocabulary(&rt, alloc));
+    let vocabulary = Vocabulary::build(Vec::new(alloc), Vec::new(alloc), Vec::new(alloc));
+    let stranger = Member::found(alloc, group, 2, vocabulary.expect(&rt, "a vocabulary"));
     assert!(rt; matches!(stranger, Err(FoundRefusal::UnknownMember)));
 }
 
 #[test]
 fn submits_in_turn(rt: HostRuntime) {
     let alloc = rt.alloc();
-    let mut member = alone(&rt, alloc, 0, 5);
-    expect_submit(
-        &rt,
-        alloc,
-        &mut member,
-        1,
-        Err(SubmitRefusal::BadSerial { next: 0 }),
-    );
-    expect_submit(&rt, alloc, &mut member, 0, Ok(stamp(1)));
-    expect_submit(
-        &rt,
-        alloc,
-        &mut member,
-        0,
-        Err(SubmitRefusal::BadSerial { next: 1 }),
-    );
-    expect_submit(&rt, alloc, &mut member, 1, Ok(stamp(2)));
-    assert!(rt; member.history().is_empty());
-    assert_eq!(rt; member.sent().len(), 2);
+    let mut member = first_of(&rt, alloc, 1, 0, 2);
+    let next = SubmitRefusal::BadSerial { next: 0 };
+    expect_submit(&rt, alloc, &mut member, 1, Err(next));
+    expect_submit(&rt, alloc, &mut member, 0, Ok(stamp(1, 1)));
+    expect_submit(&rt, alloc, &mut member, 1, Ok(stamp(2, 1)));
+    expect_submit(&rt, alloc, &mut member, 9, Err(SubmitRefusal::SentFull));
     let last = member.sent().last().expect(&rt, "a message");
-    assert_eq!(rt; last.stamp(), stamp(2));
+    assert_eq!(rt; last.stamp(), stamp(2, 1));
 }
 
 #[test]
 fn submits_a_copy(rt: HostRuntime) {
     let alloc = rt.alloc();
-    let mut member = alone(&rt, alloc, 0, 5);
-    let command = add_user(&rt, alloc, "ann");
-    let copied = member.submit_copy(alloc, 7, 0, &command);
-    assert_eq!(rt; copied, Ok(stamp(1)));
+    let mut member = first_of(&rt, alloc, 1, 0, 5);
+    let command = add_user(&rt, alloc);
+    let copied = member.submit_copy(7, 0, &command);
+    assert_eq!(rt; copied, Ok(stamp(1, 1)));
     expect_delivery(&rt, alloc, &mut member, Some(0));
-    expect_record(&rt, &member, 0, stamp(1), Answer::Done);
-}
-
-#[test]
-fn delivers_in_turn(rt: HostRuntime) {
-    let alloc = rt.alloc();
-    let mut member = alone(&rt, alloc, 0, 5);
-    expect_delivery(&rt, alloc, &mut member, None);
-    expect_submit(&rt, alloc, &mut member, 0, Ok(stamp(1)));
-    expect_submit(&rt, alloc, &mut member, 1, Ok(stamp(2)));
-    expect_delivery(&rt, alloc, &mut member, Some(0));
-    expect_delivery(&rt, alloc, &mut member, Some(1));
-    expect_delivery(&rt, alloc, &mut member, None);
-    expect_record(&rt, &member, 0, stamp(1), Answer::Done);
-    expect_record(
-        &rt,
-        &member,
-        1,
-        stamp(2),
-        Answer::Denied(Denial::UserExists),
-    );
-}
-
-#[test]
-fn shows_its_policy(rt: HostRuntime) {
-    let alloc = rt.alloc();
-    let member = alone(&rt, alloc, 0, 5);
-    let missing = Name::read(alloc, b"s1").expect(&rt, "a name");
-    let checked = member.policy().check(&missing, &missing, &missing);
-    assert_eq!(rt; checked, Err(Denial::NoSession));
+    expect_record(&rt, &member, 0, stamp(1, 1), Answer::Done);
 }
 
 #[test]
 fn names_a_full_clock_first(rt: HostRuntime) {
     let alloc = rt.alloc();
-    let mut late = alone(&rt, alloc, 9_007_199_254_740_990, 1);
-    expect_submit(&rt, alloc, &mut late, 0, Ok(stamp(9_007_199_254_740_991)));
+    let mut late = first_of(&rt, alloc, 2, 9_007_199_254_740_990, 1);
+    let last = stamp(9_007_199_254_740_991, 1);
+    expect_submit(&rt, alloc, &mut late, 0, Ok(last));
     expect_submit(&rt, alloc, &mut late, 9, Err(SubmitRefusal::ClockFull));
+    let wanted = Err(ReceiveRefusal::ClockFull);
+    expect_ack(&rt, &mut late, 1, stamp(1, 2), wanted);
 }
 
 #[test]
-fn names_a_full_sent_list(rt: HostRuntime) {
+fn receives_acknowledgements_that_rise(rt: HostRuntime) {
+    let mut member = first_of(&rt, rt.alloc(), 2, 0, 5);
+    let falls = Err(ReceiveRefusal::StampNotRising);
+    expect_ack(&rt, &mut member, 1, stamp(5, 2), Ok(None));
+    expect_ack(&rt, &mut member, 2, stamp(5, 2), falls);
+    expect_ack(&rt, &mut member, 2, stamp(6, 3), falls);
+    expect_ack(&rt, &mut member, 2, stamp(7, 2), Ok(None));
+    assert_eq!(rt; (member.clock(), member.read(2), member.read(1)), (8, 2, 0));
+}
+
+#[test]
+fn receives_the_next_number_of_another_member(rt: HostRuntime) {
+    let mut member = first_of(&rt, rt.alloc(), 2, 0, 5);
+    let gap = ReceiveRefusal::Gap { expected: 1 };
+    expect_ack(&rt, &mut member, 2, stamp(5, 2), Err(gap));
+    expect_ack(&rt, &mut member, 1, stamp(5, 2), Ok(None));
+    let repeat = ReceiveRefusal::Repeat { expected: 2 };
+    expect_ack(&rt, &mut member, 1, stamp(5, 2), Err(repeat));
+    for (from, wanted) in [
+        (1, ReceiveRefusal::FromSelf),
+        (3, ReceiveRefusal::UnknownMember),
+    ] {
+        let message = Message::Ack { stamp: stamp(9, 2) };
+        expect_receipt(&rt, &mut member, from, 2, message, Err(wanted));
+    }
+}
+
+#[test]
+fn acknowledges_a_command_and_holds_it(rt: HostRuntime) {
     let alloc = rt.alloc();
-    let mut small = alone(&rt, alloc, 0, 1);
-    expect_submit(&rt, alloc, &mut small, 0, Ok(stamp(1)));
-    expect_submit(&rt, alloc, &mut small, 9, Err(SubmitRefusal::SentFull));
-    assert_eq!(rt; small.clock(), 1);
+    let mut member = first_of(&rt, alloc, 2, 0, 5);
+    let first = call(&rt, alloc, stamp(9, 2), 1);
+    let next = ReceiveRefusal::BadSerial { next: 0 };
+    expect_receipt(&rt, &mut member, 2, 1, first, Err(next));
+    let first = call(&rt, alloc, stamp(9, 2), 0);
+    expect_receipt(&rt, &mut member, 2, 1, first, Ok(Some(stamp(11, 1))));
+    expect_delivery(&rt, alloc, &mut member, Some(0));
+    expect_record(&rt, &member, 0, stamp(9, 2), Answer::Done);
+    let again = call(&rt, alloc, stamp(12, 2), 0);
+    let next = ReceiveRefusal::BadSerial { next: 1 };
+    expect_receipt(&rt, &mut member, 2, 2, again, Err(next));
+}
+
+#[test]
+fn delivers_in_stamp_order_when_all_have_passed(rt: HostRuntime) {
+    let alloc = rt.alloc();
+    let mut member = first_of(&rt, alloc, 2, 0, 5);
+    expect_submit(&rt, alloc, &mut member, 0, Ok(stamp(1, 1)));
+    expect_delivery(&rt, alloc, &mut member, None);
+    let theirs = call(&rt, alloc, stamp(1, 2), 0);
+    expect_receipt(&rt, &mut member, 2, 1, theirs, Ok(Some(stamp(3, 1))));
+    expect_delivery(&rt, alloc, &mut member, Some(0));
+    expect_delivery(&rt, alloc, &mut member, Some(1));
+    expect_delivery(&rt, alloc, &mut member, None);
+    let denied = Answer::Denied(Denial::UserExists);
+    expect_record(&rt, &member, 0, stamp(1, 1), Answer::Done);
+    expect_record(&rt, &member, 1, stamp(1, 2), denied);
+}
+
+#[test]
+fn names_a_full_sent_list_upon_a_command(rt: HostRuntime) {
+    let alloc = rt.alloc();
+    let mut small = first_of(&rt, alloc, 2, 0, 1);
+    expect_submit(&rt, alloc, &mut small, 0, Ok(stamp(1, 1)));
+    let theirs = call(&rt, alloc, stamp(1, 2), 9);
+    let wanted = Err(ReceiveRefusal::SentFull);
+    expect_receipt(&rt, &mut small, 2, 1, theirs, wanted);
+    assert_eq!(rt; (small.clock(), small.read(2)), (1, 0));
+}
+
+#[test]
+fn shows_its_policy(rt: HostRuntime) {
+    let alloc = rt.alloc();
+    let member = first_of(&rt, alloc, 1, 0, 5);
+    let missing = Name::read(alloc, b"s1").expect(&rt, "a name");
+    let checked = member.policy().check(&missing, &missing, &missing);
+    assert_eq!(rt; checked, Err(Denial::NoSession));
 }

@@ -34,16 +34,21 @@ of_members group vocabulary P f w h = subst P h.same (f h.members h.are_members)
 pub always_right : (group : Group) (vocabulary : Vocabulary) (es : List Event) → IsGroup group → AreHistoriesRight (world_after (founding_world group vocabulary) es)
 always_right group vocabulary es g = of_members group vocabulary AreHistoriesRight (right group vocabulary) (world_after (founding_world group vocabulary) es) (always_has group vocabulary g es)
 
+-- of two histories of a group one is a prefix of the other
+pub one_of_two : (group : Group) (vocabulary : Vocabulary) (ms : List Member) → AreMembers group vocabulary ms → (i j : ℕ) → i < length (map node_of ms) → j < length (map node_of ms)
+    → IsPrefixOf (get_or (map node_of ms) i nobody).history (get_or (map node_of ms) j nobody).history ⊎ IsPrefixOf (get_or (map node_of ms) j nobody).history (get_or (map node_of ms) i nobody).history
+one_of_two group vocabulary ms are i j hi hj =
+    subst (λ (h : List Record). IsPrefixOf h (get_or (map node_of ms) j nobody).history ⊎ IsPrefixOf (get_or (map node_of ms) j nobody).history h) (ap (λ (v : Node). v.history) (sym (node-of_member ms i)))
+    (subst (λ (h : List Record). IsPrefixOf (member_at ms i).history h ⊎ IsPrefixOf h (member_at ms i).history) (ap (λ (v : Node). v.history) (sym (node-of_member ms j)))
+    (one_history group vocabulary ms are i j (inside group vocabulary ms are i hi) (inside group vocabulary ms are j hj)))
+
 pub always_one : (group : Group) (vocabulary : Vocabulary) (es : List Event) (i j : ℕ) → IsGroup group → i < length (world_after (founding_world group vocabulary) es).nodes → j < length (world_after (founding_world group vocabulary) es).nodes
     → IsPrefixOf (get_or (world_after (founding_world group vocabulary) es).nodes i nobody).history (get_or (world_after (founding_world group vocabulary) es).nodes j nobody).history
     ⊎ IsPrefixOf (get_or (world_after (founding_world group vocabulary) es).nodes j nobody).history (get_or (world_after (founding_world group vocabulary) es).nodes i nobody).history
 always_one group vocabulary es i j g =
     of_members group vocabulary
     (λ w. i < length w.nodes → j < length w.nodes → IsPrefixOf (get_or w.nodes i nobody).history (get_or w.nodes j nobody).history ⊎ IsPrefixOf (get_or w.nodes j nobody).history (get_or w.nodes i nobody).history)
-    (λ ms are hi hj.
-    subst (λ (h : List Record). IsPrefixOf h (get_or (map node_of ms) j nobody).history ⊎ IsPrefixOf (get_or (map node_of ms) j nobody).history h) (ap (λ (v : Node). v.history) (sym (node-of_member ms i)))
-    (subst (λ (h : List Record). IsPrefixOf (member_at ms i).history h ⊎ IsPrefixOf h (member_at ms i).history) (ap (λ (v : Node). v.history) (sym (node-of_member ms j)))
-    (one_history group vocabulary ms are i j (inside group vocabulary ms are i hi) (inside group vocabulary ms are j hj))))
+    (λ ms are. one_of_two group vocabulary ms are i j)
     (world_after (founding_world group vocabulary) es) (always_has group vocabulary g es)
 
 pub always_delivered : (group : Group) (vocabulary : Vocabulary) (es : List Event) (at : ℕ) → IsGroup group → IsReadToEnd (world_after (founding_world group vocabulary) es)

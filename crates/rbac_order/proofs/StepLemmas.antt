@@ -279,31 +279,29 @@ module _ (group : Group) (vocabulary : Vocabulary) (ms : List Member) (are : Are
       meets : (m k : ℕ) → nat_lt k (m + 1) ≡ false → nat_lt (m + 1) k ≡ false → k ≡ m + 1
       meets m k f g = grind (arith, nat_tests)
 
-  -- the receipt of a message that is not refused
-  pub members_receive : (i j n : ℕ) → i < length ms → j < length ms → (j ≡ i → ⊥) → receive_refusal group (node_of (at i)) (node_of (at j)) n ≡ None
-      → AreMembers group vocabulary (set ms i (received (at i) (j + 1) (message (node_of (at j)) n)))
-  members_receive i j n hi hj d free =
-      subst (λ k. AreMembers group vocabulary (set ms i (received (at i) k m))) (are.numbered j hj)
-      (members_received i j m (drop 1 r.unread) hi hj d
-      (unread_next r.taken r.unread (Ack (stamp 0 0)) short
-      ∙ ap (λ z. z ∷ drop 1 r.unread) (ap (λ l. get_or l (length r.taken) (Ack (stamp 0 0))) (sym r.sent) ∙ ap (λ l. get_or (at j).sent l (Ack (stamp 0 0))) place))
-      come.room)
+  -- the message of the expected number, where it was sent, is the first that was not read
+  pub comes_next : (i j n : ℕ) → (hi : i < length ms) → (hj : j < length ms) → (d : j ≡ i → ⊥) → n ≡ read_of (node_of (at i)) (at j).number + 1 → n ≤ length (at j).sent
+      → (read_by group vocabulary ms are i j hi hj d).unread ≡ message (node_of (at j)) n ∷ drop 1 (read_by group vocabulary ms are i j hi hj d).unread
+  comes_next i j n hi hj d expected was_sent =
+      unread_next r.taken r.unread (Ack (stamp 0 0)) short
+      ∙ ap (λ z. z ∷ drop 1 r.unread) (ap (λ l. get_or l (length r.taken) (Ack (stamp 0 0))) (sym r.sent) ∙ ap (λ l. get_or (at j).sent l (Ack (stamp 0 0))) place)
     where
-      m : Message
-      m = message (node_of (at j)) n
-
-      come : HasCome (node_of (at i)) (node_of (at j)) n
-      come = has_come (node_of (at i)) (node_of (at j)) n free
-
       r : HasRead (at i) (at j)
       r = read_by group vocabulary ms are i j hi hj d
 
       place : length r.taken ≡ n - 1
-      place = let a : read_of (node_of (at i)) (at j).number ≡ length r.taken = r.has_taken.count in let b : n ≡ read_of (node_of (at i)) (at j).number + 1 = come.next in omega arith
+      place = let a : read_of (node_of (at i)) (at j).number ≡ length r.taken = r.has_taken.count in omega arith
 
       short : length r.taken < length (r.taken ++ r.unread)
-      short = subst (λ l. length r.taken < length l) r.sent
-          (let a : read_of (node_of (at i)) (at j).number ≡ length r.taken = r.has_taken.count in let b : n ≡ read_of (node_of (at i)) (at j).number + 1 = come.next in let c : n ≤ length (at j).sent = come.sent in omega arith)
+      short = subst (λ l. length r.taken < length l) r.sent (let a : read_of (node_of (at i)) (at j).number ≡ length r.taken = r.has_taken.count in omega arith)
+
+  -- the receipt of a message that is not refused
+  pub members_receive : (i j n : ℕ) → i < length ms → j < length ms → (j ≡ i → ⊥) → receive_refusal group (node_of (at i)) (node_of (at j)) n ≡ None
+      → AreMembers group vocabulary (set ms i (received (at i) (j + 1) (message (node_of (at j)) n)))
+  members_receive i j n hi hj d free =
+      let come = has_come (node_of (at i)) (node_of (at j)) n free in
+      subst (λ k. AreMembers group vocabulary (set ms i (received (at i) k (message (node_of (at j)) n)))) (are.numbered j hj)
+      (members_received i j (message (node_of (at j)) n) (drop 1 (read_by group vocabulary ms are i j hi hj d).unread) hi hj d (comes_next i j n hi hj d come.next come.sent) come.room)
 
   receive_step : (k from n : ℕ) → AreAfter (Receive k from n)
   receive_step k from n = go (refusal w (Receive k from n)) refl

@@ -1,8 +1,12 @@
-//! A group of members and the events that happen to it.
+//! A group of members, the events that happen to it, and that each history is right.
 #![tactic(auto)]
 
+mod moves;
+mod play;
+mod step;
 mod world;
 
+pub use play::{Stopped, play};
 pub use rbac_words::{Event, Outcome, Refusal};
 pub use world::World;
 

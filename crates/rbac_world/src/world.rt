@@ -1,23 +1,26 @@
 //! A world of members, and its step.
-ghost use Rattle.std.specs.Prelude.{◌≡◌, true, false, IsTrue, IfOk, IfSome, IfNone};
-ghost use Rattle.rbac_words.specs.World.{is_member, node};
-ghost use Rattle.rbac_words.specs.Right.{founding_world, AreHistoriesRight};
-ghost use Rattle.rbac_words.specs.Member.{node_of};
+ghost use Rattle.std.specs.Prelude.{ℕ, ◌≡◌, ◌≤◌, ◌<◌, ◌||◌, ◌⊎◌, ◌↔◌, ◌==◌, true, false, None, Ok, IsTrue, length, slice_index_or, IfOk, IfSome, IfNone};
+ghost use Rattle.std.specs.List.{list_all};
+ghost use Rattle.rbac_words.specs.Message.{commands_of};
+ghost use Rattle.rbac_words.specs.World.{is_member, node, nobody, step_outcome};
+ghost use Rattle.rbac_words.specs.Right.{all_commands, founding_world, AreHistoriesRight};
+ghost use Rattle.rbac_words.specs.Member.{node_of, founded};
+ghost use Rattle.rbac_words.specs.Play.{IsReadToEnd, IsPrefixOf};
 ghost use Rattle.rbac_words.specs.Step.{IsStep};
-ghost use Rattle.rbac_world.specs.Refusals.{submit_refused};
+ghost use Rattle.rbac_words.specs.declared.event.Event.TheVariants as event;
+ghost use Rattle.rbac_words.specs.declared.event.Outcome.TheVariants as outcome;
+ghost use Rattle.rbac_world.specs.Inside.{has_read, founded_members};
 
-use rbac_member::{Member, SubmitRefusal};
-use rbac_words::{Command, Event, Group, Outcome, Refusal, Vocabulary};
+use crate::step::{place_of, step};
+use rbac_member::Member;
+use rbac_words::{Event, Group, Outcome, Refusal, Vocabulary};
 use std::alloc::{AllocError, Global};
 use std::marker::Model;
 
-// Until groups come a world has this member alone.
-const ONLY_MEMBER: u32 = 1;
-
-/// The members of a group, and nothing else. Until groups come there is one.
+/// The members of a group in order of number, and nothing else.
 #[derive(Drop)]
 pub struct World {
-    member: Member,
+    members: Vec<Member>,
 }
 
 impl Model for World {
@@ -32,31 +35,62 @@ impl Model for World {
     ghost invariant = { IsKept };
 }
 
-// A member's refusal of a submit as the world's.
-fn refusal_of_submit(refusal: SubmitRefusal) -> Refusal
-    ensures { result ≡ submit_refused refusal }
+// A founded member, with a copy of the vocabulary.
+fn founded_member(
+    alloc: Global,
+    group: Group,
+    number: u32,
+    vocabulary: &Vocabulary,
+) -> Result<Member, AllocError>
+    requires low { 1 ≤ number }
+    requires high { number ≤ group.members }
+    ensures { IfOk result (λ member. member ≡ founded group number vocabulary.now) }
 {
-    match refusal {
-        SubmitRefusal::ClockFull => Refusal::ClockFull,
-        SubmitRefusal::SentFull => Refusal::SentFull,
-        SubmitRefusal::BadSerial { next } => Refusal::BadSerial { next },
-        SubmitRefusal::NoMemory => Refusal::NoMemory,
+    match Member::found(alloc, group, number, vocabulary.copy()?) {
+        Ok(member) => Ok(member),
+        Err(_) => Err(AllocError),
     }
 }
 
+// All members of a group, in order of number.
+fn founded_all(
+    alloc: Global,
+    group: Group,
+    vocabulary: &Vocabulary,
+) -> Result<Vec<Member>, AllocError>
+    ensures { IfOk result (λ members. members.items ≡ founded_members group.members 0 group vocabulary.now) }
+{
+    let mut members = Vec::new(alloc);
+    for number in 1..=group.members() {
+        let member = founded_member(alloc, group, number, vocabulary)?;
+        members.push(member)?;
+    }
+    Ok(members)
+}
+
+// Whether a member has read all that another one sent.
+fn has_read_of(member: &Member, other: &Member) -> bool
+    ensures { result ≡ has_read member.now other.now }
+{
+    member.number() == other.number()
+        || member.read(other.number()) as usize == other.sent().len()
+}
+
+// Whether a member has read all that each of the others sent.
+fn has_read_all(member: &Member, others: &[Member]) -> bool
+    ensures { result ≡ list_all (has_read member.now) others.now }
+{
+    others.iter().all(|other| has_read_of(member, other))
+}
+
 impl World {
-    /// The founding world of a group of one.
+    /// The founding world of a group: each member at the group's clock, with nothing sent, read or delivered.
     pub fn found(alloc: Global, group: Group, vocabulary: Vocabulary) -> Result<World, AllocError>
-        requires { group.members ≡ 1 }
-        ensures founded { IfOk result (λ w. w ≡ founding_world group vocabulary) }
+        ensures { IfOk result (λ w. w ≡ founding_world group vocabulary) }
     {
-        match Member::found(alloc, group, ONLY_MEMBER, vocabulary) {
-            Ok(member) => {
-                member.invariants();
-                Ok(World { member })
-            }
-            Err(_) => unreachable!(),
-        }
+        group.invariants();
+        let members = founded_all(alloc, group, &vocabulary)?;
+        Ok(World { members })
     }
 
     /// The member of this number, if there is one.
@@ -67,19 +101,10 @@ impl World {
         ensures known { IfSome result (λ _. is_member self.now at ≡ true) }
         ensures stranger { IfNone result (is_member self.now at ≡ false) }
     {
-        if at == ONLY_MEMBER {
-            Some(&self.member)
-        } else {
-            None
+        match place_of(&self.members, at) {
+            Ok(place) => Some(&self.members[place]),
+            Err(_) => None,
         }
-    }
-
-    /// Each history is right: it is all commands submitted anywhere up to its last stamp, in stamp order, and each answer
-    /// is the one that the commands of smaller stamp give.
-    pub fn right_histories(&self)
-        ensures { AreHistoriesRight self.now }
-    {
-        let _member = &self.member;
     }
 
     /// One event: its outcome and the world after it, or the first refusal that applies, which leaves the world as it
@@ -87,69 +112,38 @@ impl World {
     pub fn step(&mut self, alloc: Global, event: &Event) -> Result<Outcome, Refusal>
         ensures { IsStep self.old event.now result self.new }
     {
-        match event {
-            Event::Submit {
-                at,
-                caller,
-                serial,
-                command,
-            } => self.submit(alloc, *at, *caller, *serial, command),
-            Event::Receive { at, from, number } => self.receive(*at, *from, *number),
-            Event::Deliver { at } => self.deliver(alloc, *at),
-        }
+        step(&mut self.members, alloc, event)
     }
 
-    // Whether there is a member of this number.
-    fn has_member(&self, at: u32) -> bool
-        ensures known { result ≡ is_member self.now at }
-        ensures only { IsTrue result → at ≡ ONLY_MEMBER }
+    /// Whether each member has read all that each other one sent.
+    pub fn read_to_end(&self) -> bool
+        ensures { IsTrue result ↔ IsReadToEnd self.now }
     {
-        let _member = &self.member;
-        at == ONLY_MEMBER
+        self.members
+            .iter()
+            .all(|member| has_read_all(member, &self.members))
     }
 
-    fn submit(
-        &mut self,
-        alloc: Global,
-        at: u32,
-        caller: u32,
-        serial: u32,
-        command: &Command,
-    ) -> Result<Outcome, Refusal>
-        ensures { IsStep self.old (Event.Submit at caller serial command.now) result self.new }
+    /// Each history is right: it is all commands submitted anywhere up to its last stamp, in stamp order, and each answer
+    /// is the one that the commands of smaller stamp give.
+    pub fn right_histories(&self)
+        ensures { AreHistoriesRight self.now }
     {
-        if !self.has_member(at) {
-            return Err(Refusal::UnknownMember);
-        }
-        let outcome = match self.member.submit_copy(alloc, caller, serial, command) {
-            Ok(stamp) => Ok(Outcome::Submitted(stamp)),
-            Err(refusal) => Err(refusal_of_submit(refusal)),
-        };
-        self.member.invariants();
-        outcome
+        let _members = &self.members;
     }
 
-    // A member alone receives nothing: it knows no other, and sends nothing to itself.
-    fn receive(&self, at: u32, from: u32, number: u32) -> Result<Outcome, Refusal>
-        ensures { IsStep self.now (Event.Receive at from number) result self.now }
+    /// Of two histories one is a prefix of the other, answers included.
+    pub fn histories_are_one(&self)
+        ensures { (i j : ℕ) → i < length self.now.nodes → j < length self.now.nodes → IsPrefixOf (slice_index_or self.now.nodes i nobody).history (slice_index_or self.now.nodes j nobody).history ⊎ IsPrefixOf (slice_index_or self.now.nodes j nobody).history (slice_index_or self.now.nodes i nobody).history }
     {
-        if !self.has_member(at) || !self.has_member(from) {
-            return Err(Refusal::UnknownMember);
-        }
-        Err(Refusal::FromSelf)
+        let _members = &self.members;
     }
 
-    fn deliver(&mut self, alloc: Global, at: u32) -> Result<Outcome, Refusal>
-        ensures { IsStep self.old (Event.Deliver at) result self.new }
+    /// Where each member has read all that each other one sent, and a delivery at a member gives nothing, that member's
+    /// history is all commands submitted anywhere.
+    pub fn all_that_was_read_is_delivered(&self)
+        ensures { (at : ℕ) → IsReadToEnd self.now → step_outcome self.now (event.Deliver at) ≡ Ok (outcome.Delivered None) → commands_of (node self.now at).history ≡ all_commands self.now }
     {
-        if !self.has_member(at) {
-            return Err(Refusal::UnknownMember);
-        }
-        let outcome = match self.member.deliver(alloc) {
-            Ok(place) => Ok(Outcome::Delivered(place)),
-            Err(AllocError) => Err(Refusal::NoMemory),
-        };
-        self.member.invariants();
-        outcome
+        let _members = &self.members;
     }
 }

@@ -1,8 +1,5 @@
--- What the code's lists say in the words of the definitions.
-use Rattle.std.proofs.Common.{ℕ, true, ◌≡◌, ◌≤◌, ◌+◌, ◌==◌, ◌||◌, List, [], ◌∷◌, ◌++◌, drop, refl, sym, ap, subst, ◌∙◌, arith, Option, Some, None, get_or}
-use Rattle.std.specs.List.{list_all}
-use Rattle.std.proofs.lemmas.Bool.Decides.{nat_tests}
-use Rattle.rbac_words.specs.Stamp.{has_passed}
+-- What a delivery leaves, in the words of the definitions.
+use Rattle.std.proofs.Common.{Bool, true, false, cond, ◌≡◌, List, [], ◌∷◌, ◌++◌, drop, refl, sym, ap, ◌∙◌, Option, Some, None, is_some, get_or}
 use Rattle.rbac_words.specs.State.{State}
 use Rattle.rbac_words.specs.Rows.{first_denial}
 use Rattle.rbac_words.specs.Change.{change}
@@ -12,20 +9,16 @@ use Rattle.rbac_words.specs.Name.{Name}
 use Rattle.rbac_words.specs.declared.separation.Separation.{Separation}
 use Rattle.rbac_words.specs.declared.separation.Separation.TheVariants.{Static, Dynamic}
 use Rattle.rbac_words.specs.Effect.{effect, effect_unless, reply}
-use Rattle.rbac_words.specs.Message.{submissions_of}
-use Rattle.rbac_words.specs.World.{stamp, least}
+use Rattle.rbac_words.specs.World.{least}
 use Rattle.rbac_words.specs.declared.answer.Answer.{Answer}
 use Rattle.rbac_words.specs.declared.answer.Denial.{Denial}
 use Rattle.rbac_words.specs.declared.command.Command.{Command}
 use Rattle.rbac_words.specs.declared.command.Command.TheVariants.{AddUser, DeleteUser, AddRole, DeleteRole, AssignUser, DeassignUser, GrantPermission, RevokePermission, AddInheritance, DeleteInheritance, AddAscendant, AddDescendant, CreateSet, DeleteSet, AddRoleMember, DeleteRoleMember, SetCardinality, CreateSession, DeleteSession, AddActiveRole, DropActiveRole, CheckAccess, Review as ReviewCommand}
-use Rattle.rbac_words.specs.declared.message.Message.{Message}
-use Rattle.rbac_words.specs.declared.message.Message.TheVariants.{Call}
 use Rattle.rbac_words.specs.declared.message.Submission.{Submission}
 use Rattle.rbac_words.specs.declared.record.Record.{Record}
-use Rattle.rbac_words.specs.declared.stamp.Stamp.{Stamp}
 use Rattle.rbac_member.specs.Inside.{vocabulary_of}
 use Rattle.rbac_member.specs.Lists.{TakesOver}
-use Rattle.rbac_words.specs.Member.{Member, submission, submitted, delivery, delivered, due_at, if_passed, is_passed_by_all, latest_of, numbers, IsMember}
+use Rattle.rbac_words.specs.Member.{Member, delivery, delivered, due_at, if_passed, is_passed_by_all, is_least_passed}
 
 vocabulary-sets : (kind : Separation) (sets : List (Name × RoleSet)) (s : State) → vocabulary_of (with_sets kind sets s) ≡ vocabulary_of s
 vocabulary-sets Static sets s = refl
@@ -82,31 +75,15 @@ delivered_is v policy history before held next answer over same first changed re
     let by_held : held ≡ drop 1 v.held = ap (drop 1) (sym over.held_before) in
     λ i. record { group = v.group; vocabulary = by_vocabulary i; number = v.number; clock = v.clock; sent = v.sent; read = v.read; latest = v.latest; held = by_held i; history = by_history i; policy = by_policy i }
 
--- a message with the next stamp was sent and is held
-pub submitted_is : (v : Member) (caller serial : ℕ) (command : Command) (s : Stamp) (sent : List Message) (held : List Submission) → s ≡ stamp (v.clock + 1) v.number
-    → sent ≡ v.sent ++ Call s caller serial command ∷ [] → held ≡ v.held ++ submissions_of (Call s caller serial command)
-    → (let m : Member = record v { clock = s.clock; sent = sent; held = held } in m) ≡ submitted v caller serial command
-submitted_is v caller serial command s sent held e f g =
-    let by_sent : sent ≡ v.sent ++ Call (stamp (v.clock + 1) v.number) caller serial command ∷ [] = f ∙ ap (λ (t : Stamp). v.sent ++ Call t caller serial command ∷ []) e in
-    let by_held : held ≡ v.held ++ submission v caller serial command ∷ [] = g ∙ ap (λ (t : Stamp). v.held ++ submissions_of (Call t caller serial command)) e in
-    λ i. record { group = v.group; vocabulary = v.vocabulary; number = v.number; clock = (e i).clock; sent = by_sent i; read = v.read; latest = v.latest; held = by_held i; history = v.history; policy = v.policy }
+-- ---- What is due
 
--- ---- A member alone
-
-same_number : (m n : ℕ) → m ≡ n → (m == n) ≡ true
-same_number m n e = grind (arith, nat_tests)
-
--- in a group of one nobody else is waited for
-pub passed_alone : (v : Member) (x : Submission) → v.group.members ≡ 1 → IsMember v → is_passed_by_all v x ≡ true
-passed_alone v x alone k =
-    let low : 1 ≤ v.number = k.low in let high : v.number ≤ v.group.members = k.high in
-    subst (λ n. list_all (λ j. (j == v.number || j == x.stamp.member) || has_passed (latest_of v j) x.stamp) (numbers n 0) ≡ true) (sym alone)
-    (rw (same_number 1 v.number (let e : 1 ≡ v.number = omega arith in e)) refl)
-
--- so the least held command is due
-pub due_alone : (v : Member) (xs : List Submission) → v.held ≡ xs → v.group.members ≡ 1 → IsMember v → due_at v ≡ least xs
-due_alone v xs e alone k = ap (λ l. if_passed v (least l)) e ∙ go xs
+pub due_is_least : (v : Member) → is_some (due_at v) ≡ is_least_passed v.group.members v.number v.latest v.held
+due_is_least v = go v.held
   where
-    go : (l : List Submission) → if_passed v (least l) ≡ least l
+    go : (xs : List Submission) → is_some (if_passed v (least xs)) ≡ is_least_passed v.group.members v.number v.latest xs
     go [] = refl
-    go (x ∷ rest) = rw (passed_alone v x alone k) refl
+    go (x ∷ xs) = one (is_passed_by_all v x)
+      where
+        one : (b : Bool) → is_some (cond {A = Option Submission} b (Some x) None) ≡ b
+        one true = refl
+        one false = refl

@@ -1,0 +1,68 @@
+//! How a member delivers what it holds.
+ghost use Rattle.std.specs.Prelude.{◌≡◌, ◌≢◌, ◌<◌, [], true, is_some, IfOk, OnOk, OnErr, vec_len, vec_capacity};
+ghost use Rattle.rbac_member.specs.Lists.{TakesOver};
+
+use crate::member::Member;
+use rbac_holdback::{Held, Holdback};
+use rbac_words::{Answer, Record};
+use std::alloc::{AllocError, Global};
+
+// Moves the least held command to the history, with its answer.
+fn take_over(held: &mut Holdback, history: &mut Vec<Record>, answer: Answer)
+    requires some { held.old.held ≢ [] }
+    requires room { vec_len history.old < vec_capacity history.old }
+    ensures taken_over { TakesOver answer held.old.held history.old.items held.new.held history.new.items }
+    ensures members { held.new.members ≡ held.old.members }
+{
+    let Some(Held {
+        stamp,
+        caller,
+        serial,
+        command,
+    }) = held.take_least()
+    else {
+        unreachable!()
+    };
+    let Ok(()) = history.push(Record {
+        stamp,
+        caller,
+        serial,
+        command,
+        answer,
+    }) else {
+        unreachable!()
+    };
+}
+
+impl Member {
+    ghost use Rattle.rbac_words.specs.Member.{deliver_due, due_at, node_of};
+    ghost use Rattle.rbac_words.specs.World.{place_of};
+
+    /// Delivers the command that is due, if one is: it leaves what is held, its record joins the history, and the policy
+    /// becomes its effect. Answers the record's place in the history.
+    pub fn deliver(&mut self, alloc: Global) -> Result<Option<usize>, AllocError>
+        ensures place { IfOk result (λ place. place ≡ place_of (node_of self.old) (due_at self.old)) }
+        ensures delivered { OnOk result (self.new ≡ deliver_due self.old (due_at self.old)) }
+        ensures unchanged { OnErr result (self.new ≡ self.old) }
+        ensures was_due { OnErr result (is_some (due_at self.old) ≡ true) }
+    {
+        if !self.is_due() {
+            return Ok(None);
+        }
+        let Some(next) = self.held.least() else {
+            return Ok(None);
+        };
+        self.history.reserve(1)?;
+        let answer = self.policy.apply(alloc, &next.command)?;
+        let place = self.history.len();
+        take_over(&mut self.held, &mut self.history, answer);
+        Ok(Some(place))
+    }
+
+    // Whether the least held command is due.
+    fn is_due(&self) -> bool
+        ensures { result ≡ is_some (due_at self.now) }
+    {
+        self.held.stable(self.number, self.links.latest())
+    }
+}

@@ -1,0 +1,164 @@
+//! How a member receives what the others send.
+ghost use Rattle.std.specs.Prelude.{◌≡◌, ◌≢◌, ◌<◌, ◌++◌, true, None, is_some, length, IfOk, IfErr, OnOk, OnErr};
+ghost use Rattle.rbac_words.specs.World.{acks};
+
+use crate::member::Member;
+use crate::member::counting::{hold, next_serial};
+use crate::refusal::ReceiveRefusal;
+use rbac_links::Outbox;
+use rbac_words::limits::LAST_CLOCK;
+use rbac_words::{Message, Stamp};
+use std::alloc::AllocError;
+
+// Sends an acknowledgement, where there is one.
+fn acknowledge(outbox: &mut Outbox, stamp: Option<Stamp>)
+    requires { is_some stamp ≡ true → (0 < outbox.old.room) × (length outbox.old.sent < outbox.old.limit) }
+    ensures sent { outbox.new.sent ≡ outbox.old.sent ++ acks stamp }
+    ensures limit { outbox.new.limit ≡ outbox.old.limit }
+{
+    if let Some(stamp) = stamp {
+        let Ok(_) = outbox.push(Message::Ack { stamp }) else {
+            unreachable!()
+        };
+    }
+}
+
+impl Member {
+    ghost use Rattle.rbac_words.specs.Member.{IsNext, node_of, links_of, received, serial_refusal, message_refusal};
+    ghost use Rattle.rbac_words.specs.World.{must_acknowledge, clock_after, acknowledgement, room_refusal};
+    ghost use Rattle.rbac_member.specs.Calls.{receipt_refused, rule_of};
+
+    /// Receives message `number` of member `from`, which is the next one that it has not received: a command is held and
+    /// acknowledged, and no message of a smaller stamp is taken of that member any more. Answers the acknowledgement's stamp.
+    pub fn receive(
+        &mut self,
+        from: u32,
+        number: u32,
+        message: &Message,
+    ) -> Result<Option<Stamp>, ReceiveRefusal>
+        ensures acknowledged { IfOk result (λ stamp. stamp ≡ acknowledgement (node_of self.old) message.now) }
+        ensures received { OnOk result (self.new ≡ received self.old from message.now) }
+        ensures accepted { OnOk result (message_refusal self.old from number message.now ≡ None) }
+        ensures first_refusal { IfErr result (λ refusal. message_refusal self.old from number message.now ≡ rule_of (receipt_refused refusal)) }
+        ensures memory_needed { IfErr result (λ refusal. refusal ≡ ReceiveRefusal.NoMemory → must_acknowledge (node_of self.old) message.now ≡ true) }
+        ensures unchanged { OnErr result (self.new ≡ self.old) }
+    {
+        let clock = match self.clock_upon(from, number, message) {
+            Ok(clock) => clock,
+            Err(refusal) => return Err(refusal),
+        };
+        let stamp = self.acknowledgement(message, clock);
+        match self.take(from, number, message, clock, stamp) {
+            Ok(()) => Ok(stamp),
+            Err(AllocError) => Err(ReceiveRefusal::NoMemory),
+        }
+    }
+
+    // Whether a message is acknowledged: it is where it has a command.
+    fn must_acknowledge(&self, message: &Message) -> bool
+        ensures { result ≡ must_acknowledge (node_of self.now) message.now }
+    {
+        matches!(message, Message::Call { .. })
+    }
+
+    // The stamp of what is sent upon a message that leaves this clock, if it is acknowledged.
+    fn acknowledgement(&self, message: &Message, clock: u64) -> Option<Stamp>
+        requires { clock ≡ clock_after (node_of self.now) message.now }
+        ensures { result ≡ acknowledgement (node_of self.now) message.now }
+    {
+        if self.must_acknowledge(message) {
+            Some(Stamp {
+                clock,
+                member: self.number,
+            })
+        } else {
+            None
+        }
+    }
+
+    // The clock after a message, where clock and sent list have room for it and its acknowledgement.
+    fn room_for(&self, message: &Message) -> Result<u64, ReceiveRefusal>
+        ensures clock { IfOk result (λ clock. clock ≡ clock_after (node_of self.now) message.now) }
+        ensures accepted { OnOk result (room_refusal self.now.group (node_of self.now) message.now ≡ None) }
+        ensures first_refusal { IfErr result (λ refusal. (room_refusal self.now.group (node_of self.now) message.now ≡ rule_of (receipt_refused refusal)) × (refusal ≢ ReceiveRefusal.NoMemory)) }
+    {
+        let is_acknowledged = self.must_acknowledge(message);
+        let steps = if is_acknowledged { 2 } else { 1 };
+        let seen = self.clock.max(message.stamp().clock);
+        if LAST_CLOCK - steps < seen {
+            return Err(ReceiveRefusal::ClockFull);
+        }
+        if is_acknowledged && self.outbox.is_full() {
+            return Err(ReceiveRefusal::SentFull);
+        }
+        Ok(seen + steps)
+    }
+
+    // Whether the command of a message has its caller's next serial.
+    fn serial_in_turn(&self, message: &Message) -> Result<(), ReceiveRefusal>
+        ensures accepted { OnOk result (serial_refusal self.now message.now ≡ None) }
+        ensures refused { IfErr result (λ refusal. (serial_refusal self.now message.now ≡ rule_of (receipt_refused refusal)) × (refusal ≢ ReceiveRefusal.NoMemory)) }
+    {
+        let Message::Call {
+            stamp,
+            caller,
+            serial,
+            ..
+        } = message
+        else {
+            return Ok(());
+        };
+        let next = next_serial(&self.serials, stamp.member, *caller);
+        if u64::from(*serial) != next {
+            return Err(ReceiveRefusal::BadSerial { next });
+        }
+        Ok(())
+    }
+
+    // The clock after a message, where nothing but memory stands in its way.
+    fn clock_upon(
+        &self,
+        from: u32,
+        number: u32,
+        message: &Message,
+    ) -> Result<u64, ReceiveRefusal>
+        ensures clock { IfOk result (λ clock. clock ≡ clock_after (node_of self.now) message.now) }
+        ensures accepted { OnOk result (message_refusal self.now from number message.now ≡ None) }
+        ensures first_refusal { IfErr result (λ refusal. (message_refusal self.now from number message.now ≡ rule_of (receipt_refused refusal)) × (refusal ≢ ReceiveRefusal.NoMemory)) }
+    {
+        self.links.check(from, number, message.stamp())?;
+        let clock = self.room_for(message)?;
+        self.serial_in_turn(message)?;
+        Ok(clock)
+    }
+
+    // Takes a message that nothing but memory stands in the way of.
+    fn take(
+        &mut self,
+        from: u32,
+        number: u32,
+        message: &Message,
+        clock: u64,
+        stamp: Option<Stamp>,
+    ) -> Result<(), AllocError>
+        requires accepted { message_refusal self.old from number message.now ≡ None }
+        requires clock { clock ≡ clock_after (node_of self.old) message.now }
+        requires stamp { stamp ≡ acknowledgement (node_of self.old) message.now }
+        ensures received { OnOk result (self.new ≡ received self.old from message.now) }
+        ensures memory_needed { OnErr result (must_acknowledge (node_of self.old) message.now ≡ true) }
+        ensures unchanged { OnErr result (self.new ≡ self.old) }
+    {
+        if stamp.is_some() && self.outbox.make_room().is_err() {
+            return Err(AllocError);
+        }
+        if hold(&mut self.serials, &mut self.held, message).is_err() {
+            return Err(AllocError);
+        }
+        let Ok(()) = self.links.accept(from, number, message.stamp()) else {
+            unreachable!()
+        };
+        acknowledge(&mut self.outbox, stamp);
+        self.clock = clock;
+        Ok(())
+    }
+}

@@ -1,0 +1,49 @@
+//! A list of events, one after the other.
+ghost use Rattle.std.specs.Prelude.{◌≡◌, ◌≤◌, length, take, IfOk, IfErr, OnOk};
+ghost use Rattle.rbac_words.specs.Play.{world_after, outcomes as outcomes_of};
+ghost use Rattle.rbac_words.specs.Right.{AreHistoriesRight};
+
+use crate::world::World;
+use rbac_words::{Event, Outcome, Refusal};
+use std::alloc::Global;
+
+/// Memory ran out after so many events.
+#[derive(Clone, Copy, Debug, PartialEq, Eq, Drop)]
+pub struct Stopped {
+    pub done: usize,
+}
+
+/// Plays events in a world, and answers the outcome or the refusal of each. Want of memory alone stops it, and then what was
+/// done stays: the other events can be played later. Afterwards each history is right.
+pub fn play(
+    world: &mut World,
+    alloc: Global,
+    events: &[Event],
+) -> Result<Vec<Result<Outcome, Refusal>>, Stopped>
+    ensures outcomes { IfOk result (λ outcomes. outcomes.items ≡ outcomes_of world.old events.now) }
+    ensures played { OnOk result (world.new ≡ world_after world.old events.now) }
+    ensures done { IfErr result (λ stopped. world.new ≡ world_after world.old (take stopped.done events.now)) }
+    ensures some { IfErr result (λ stopped. stopped.done ≤ length events.now) }
+    ensures right { AreHistoriesRight world.new }
+{
+    let mut outcomes = Vec::new(alloc);
+    if outcomes.reserve(events.len()).is_err() {
+        world.right_histories();
+        return Err(Stopped { done: 0 });
+    }
+    for (done, event) in events.iter().enumerate() {
+        match world.step(alloc, event) {
+            Err(Refusal::NoMemory) => {
+                world.right_histories();
+                return Err(Stopped { done });
+            }
+            outcome => {
+                let Ok(()) = outcomes.push(outcome) else {
+                    unreachable!()
+                };
+            }
+        }
+    }
+    world.right_histories();
+    Ok(outcomes)
+}

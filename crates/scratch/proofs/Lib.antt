@@ -1,0 +1,3 @@
+pub mod ReceiveLemmas
+pub mod SerialLemmas
+pub mod StepLemmas

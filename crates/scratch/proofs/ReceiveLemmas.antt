@@ -1,0 +1,92 @@
+-- What a message that is not refused has passed, and what a group's messages always pass.
+use Rattle.std.proofs.Common.{ℕ, Bool, true, false, not, cond, ◌≡◌, ◌≤◌, ◌<◌, ◌+◌, ◌-◌, ◌==◌, ◌&&◌, nat_lt, nat_le, List, [], ◌∷◌, ◌++◌, length, refl, sym, ap, subst, ◌∙◌, arith, append-nil, Option, Some, None, true≢false}
+use Rattle.std.specs.List.{filter}
+use Rattle.std.proofs.lemmas.Bool.Decides.{nat_tests}
+use Rattle.rbac_words.specs.Stamp.{IsAfter, is_after}
+use Rattle.rbac_words.specs.Message.{stamp_of, submissions_of, is_by, next_serial, AreSerialsInOrder, CountsFrom}
+use Rattle.rbac_words.specs.Front.{is_of}
+use Rattle.rbac_words.specs.Links.{Links, has_link, next_of, is_rising_of, link_refusal}
+use Rattle.rbac_words.specs.World.{read_of, room_refusal}
+use Rattle.rbac_words.specs.Member.{Member, node_of, links_of, latest_of, known, or_else, serial_refusal, message_refusal, IsMember, IsNext}
+use Rattle.rbac_words.specs.declared.event.Refusal.{Refusal}
+use Rattle.rbac_words.specs.declared.event.Refusal.TheVariants.{UnknownMember, FromSelf, Repeat, Gap, StampNotRising, BadSerial}
+use Rattle.rbac_words.specs.declared.message.Message.{Message}
+use Rattle.rbac_words.specs.declared.message.Message.TheVariants.{Call, Ack}
+use Rattle.rbac_words.specs.declared.message.Submission.{Submission}
+use Rattle.rbac_words.specs.declared.stamp.Stamp.{Stamp}
+use Rattle.rbac_order.proofs.StampLemmas.{before_true}
+use Rattle.rbac_order.proofs.MessageLemmas.{serials_go_on}
+use Rattle.rbac_order.proofs.StepLemmas.{if_none, unless_none, and_both}
+
+equal : (m n : ℕ) → (m == n) ≡ true → m ≡ n
+equal m n e = grind (arith, nat_tests)
+
+-- two refusals, one after the other
+both_none : (a b : Option Refusal) → or_else a b ≡ None → (a ≡ None) × (b ≡ None)
+both_none None b e = (refl, e)
+both_none (Some r) b e = let no : ⊥ = cc in absurd no
+
+passed_by_link : (v : Member) (from n : ℕ) (m : Message) → message_refusal v from n m ≡ None → link_refusal (links_of v) from n (stamp_of m) ≡ None
+passed_by_link v from n m free = (both_none (link_refusal (links_of v) from n (stamp_of m)) _ free).0
+
+pub room_is_free : (v : Member) (from n : ℕ) (m : Message) → message_refusal v from n m ≡ None → room_refusal v.group (node_of v) m ≡ None
+room_is_free v from n m free = (both_none (room_refusal v.group (node_of v) m) (serial_refusal v m) (both_none (link_refusal (links_of v) from n (stamp_of m)) _ free).1).0
+
+pub serial_in_turn : (v : Member) (from n : ℕ) (m : Message) → message_refusal v from n m ≡ None → serial_refusal v m ≡ None
+serial_in_turn v from n m free = (both_none (room_refusal v.group (node_of v) m) (serial_refusal v m) (both_none (link_refusal (links_of v) from n (stamp_of m)) _ free).1).1
+
+-- what a link has seen of a message that it takes
+pub record IsTaken (l : Links) (from n : ℕ) (s : Stamp) : Type 0 where
+  pub low : 1 ≤ from
+  pub high : from ≤ length l.read
+  pub other : from ≡ l.me → ⊥
+  pub sender : s.member ≡ from
+  pub after : is_rising_of l from s ≡ true
+
+pub is_taken : (l : Links) (from n : ℕ) (s : Stamp) → link_refusal l from n s ≡ None → IsTaken l from n s
+is_taken l from n s free =
+    let a = if_none (not (has_link l from)) UnknownMember _ free in
+    let b = if_none (from == l.me) FromSelf _ a.1 in
+    let c = if_none (nat_lt n (next_of l from)) (Repeat (next_of l from)) _ b.1 in
+    let d = if_none (nat_lt (next_of l from) n) (Gap (next_of l from)) _ c.1 in
+    let e = unless_none (is_rising_of l from s) StampNotRising None d.1 in
+    record {
+      low = low (length l.read) from a.0;
+      high = high (length l.read) from a.0;
+      other = apart from l.me b.0;
+      sender = equal s.member from (and_both (s.member == from) _ e.0).0;
+      after = e.0;
+    }
+  where
+    low : (k m : ℕ) → not (nat_le 1 m && nat_le m k) ≡ false → 1 ≤ m
+    low k m e = grind (arith, nat_tests)
+
+    high : (k m : ℕ) → not (nat_le 1 m && nat_le m k) ≡ false → m ≤ k
+    high k m e = grind (arith, nat_tests)
+
+    apart : (k m : ℕ) → (k == m) ≡ false → k ≡ m → ⊥
+    apart k m e f = grind (arith, nat_tests)
+
+after_is : (last : Option Stamp) (s : Stamp) → is_after last s ≡ true → IsAfter last s
+after_is None s e = tt
+after_is (Some last) s e = before_true last s e
+
+-- a message that is not refused is the next of its sender
+pub next_is : (v : Member) (from n : ℕ) (m : Message) → IsMember v → message_refusal v from n m ≡ None → IsNext v from m
+next_is v from n m kept free =
+    let t = is_taken (links_of v) from n (stamp_of m) (passed_by_link v from n m free) in
+    let count : length v.read ≡ v.group.members = kept.reads in let high : from ≤ length v.read = t.high in
+    record {
+      number = record { low = t.low; high = omega arith };
+      other = t.other;
+      sender = t.sender;
+      after = after_is (latest_of v from) (stamp_of m) (and_both ((stamp_of m).member == from) (is_after (latest_of v from) (stamp_of m)) t.after).1;
+      serials = go m t.sender (serial_in_turn v from n m free);
+    }
+  where
+    go : (z : Message) → (stamp_of z).member ≡ from → serial_refusal v z ≡ None → (caller : ℕ) → CountsFrom 0 (filter (is_by caller) (filter (is_of from) (known v) ++ submissions_of z))
+    go (Ack s) e f caller = subst (λ l. CountsFrom 0 (filter (is_by caller) l)) (sym (append-nil (filter (is_of from) (known v)))) (kept.serials from caller)
+    go (Call s c serial command) e f caller =
+        let x : Submission = record { stamp = s; caller = c; serial = serial; command = command } in
+        let same = unless_none (serial == next_serial c (filter (is_of s.member) (known v))) (BadSerial (next_serial c (filter (is_of s.member) (known v)))) None f in
+        serials_go_on (filter (is_of from) (known v)) x (kept.serials from) (equal serial (next_serial c (filter (is_of s.member) (known v))) same.0 ∙ ap (λ k. next_serial c (filter (is_of k) (known v))) e) caller
