@@ -22,17 +22,15 @@ pub struct Inlinks {
 }
 
 impl Model for Inlinks {
-    ghost use Rattle.std.specs.Prelude.{◌≤◌};
-    ghost use Rattle.rbac_words.specs.Limits.{most_members};
     ghost use Rattle.rbac_words.specs.Links.{Links};
 
     ghost Value = { Links };
 
-    ghost use Rattle.rbac_links.specs.Inside.{links_of};
+    ghost use Rattle.rbac_links.specs.Inside.{links_of, HasPlaces};
 
     ghost view = { links_of };
 
-    ghost invariant = { λ a. a.members ≤ most_members };
+    ghost invariant = { HasPlaces };
 }
 
 // Whether a stamp comes after the last one, if there is a last one.

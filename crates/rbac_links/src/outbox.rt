@@ -56,6 +56,8 @@ impl Outbox {
     pub fn len(&self) -> u32
         ensures { result ≡ length self.now.sent }
     {
+        // The length is at most the limit.
+        let _limit = self.limit;
         self.messages.len() as u32
     }
 
