@@ -1,10 +1,9 @@
 -- What the links' arrays say in the words of the definitions.
-use Rattle.std.proofs.Common.{ℕ, ◌≡◌, ◌≤◌, ◌<◌, ◌+◌, ◌-◌, List, Option, Some, None, length, take, set, arith, sym, subst, ◌∙◌, ap, slice_index, slice_set}
+use Rattle.std.proofs.Common.{ℕ, ◌≡◌, ◌≤◌, ◌<◌, ◌-◌, List, Option, Some, None, length, take, arith, ◌∙◌, ap, slice_set}
 use Rattle.std.proofs.lemmas.Grind.{common_steps}
-use Rattle.std.proofs.lemmas.List.{length-take, take-replicate}
+use Rattle.std.proofs.lemmas.List.{length-take}
 use Rattle.std.proofs.Math.Seq.{take-set-lt}
-use Rattle.rbac_words.specs.Stamp.{is_after}
-use Rattle.rbac_words.specs.Links.{Links, founded_links, has_link, next_of, link_refusal, taken_from}
+use Rattle.rbac_words.specs.Links.{Links, next_of, link_refusal, taken_from}
 use Rattle.rbac_words.specs.declared.stamp.Stamp.{Stamp}
 use Rattle.rbac_links.specs.Inside.{links_of}
 use Rattle.rbac_links.specs.declared.inlinks.Inlinks.TheInside.{Inside}
@@ -28,5 +27,5 @@ taken_is a l from number s is free =
     let facts = not_refused (links_of a) from number s (ap (λ k. link_refusal k from number s) is ∙ free) in
     let in_list : from - 1 < a.members = omega (arith, length-take a.members a.read, facts.first, facts.last) in
     let taken : links_of (record a { read = slice_set a.read (from - 1) number; latest = slice_set a.latest (from - 1) (Some s) }) ≡ taken_from (links_of a) from s =
-      rw (take-set-lt a.members a.read (from - 1) number in_list, take-set-lt a.members a.latest (from - 1) (Some s) in_list, facts.next) in
+    rw (take-set-lt a.members a.read (from - 1) number in_list, take-set-lt a.members a.latest (from - 1) (Some s) in_list, facts.next) in
     taken ∙ ap (λ k. taken_from k from s) is

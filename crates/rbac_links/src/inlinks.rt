@@ -64,11 +64,18 @@ impl Inlinks {
         let _members = self.members;
     }
 
+    // Whether there is a link of this member.
+    fn has_link(&self, from: u32) -> bool
+        ensures { result ≡ has_link self.now from }
+    {
+        1 <= from && from <= self.members
+    }
+
     /// The number of the message that is taken next of a member; 0 for a stranger.
     pub fn next(&self, from: u32) -> u64
         ensures { result ≡ (if has_link self.now from then next_of self.now from else 0) }
     {
-        if from < 1 || self.members < from {
+        if !self.has_link(from) {
             return 0;
         }
         u64::from(self.read[from as usize - 1]) + 1
@@ -78,7 +85,7 @@ impl Inlinks {
     pub fn read(&self, from: u32) -> u32
         ensures { result ≡ (if has_link self.now from then slice_index self.now.read (from - 1) else 0) }
     {
-        if from < 1 || self.members < from {
+        if !self.has_link(from) {
             return 0;
         }
         self.read[from as usize - 1]
@@ -96,7 +103,7 @@ impl Inlinks {
         ensures taken { OnOk result (link_refusal self.now from number stamp ≡ None) }
         ensures first_refusal { IfErr result (λ refusal. link_refusal self.now from number stamp ≡ Some (link_refused refusal)) }
     {
-        if from < 1 || self.members < from {
+        if !self.has_link(from) {
             return Err(LinkRefusal::UnknownMember);
         }
         if from == self.me {

@@ -78,9 +78,30 @@ fn a_stranger_is_named_first(rt: HostRuntime) {
 #[test]
 fn a_member_takes_nothing_from_itself(rt: HostRuntime) {
     let mut links = links();
-    expect_answer(&rt, &mut links, 1, 1, stamp(1, 1), Err(LinkRefusal::FromSelf));
-    expect_answer(&rt, &mut links, 1, 0, stamp(1, 2), Err(LinkRefusal::FromSelf));
-    expect_answer(&rt, &mut links, 1, u32::MAX, stamp(1, 2), Err(LinkRefusal::FromSelf));
+    expect_answer(
+        &rt,
+        &mut links,
+        1,
+        1,
+        stamp(1, 1),
+        Err(LinkRefusal::FromSelf),
+    );
+    expect_answer(
+        &rt,
+        &mut links,
+        1,
+        0,
+        stamp(1, 2),
+        Err(LinkRefusal::FromSelf),
+    );
+    expect_answer(
+        &rt,
+        &mut links,
+        1,
+        u32::MAX,
+        stamp(1, 2),
+        Err(LinkRefusal::FromSelf),
+    );
 }
 
 #[test]
@@ -111,7 +132,9 @@ fn stamps_are_the_senders_and_rise(rt: HostRuntime) {
 
 // Sends an acknowledgement, and compares the number that it gets.
 fn expect_sent(rt: &impl Abort, outbox: &mut Outbox, wanted: u32) {
-    let number = match outbox.push(Message::Ack { stamp: stamp(u64::from(wanted), 1) }) {
+    let number = match outbox.push(Message::Ack {
+        stamp: stamp(u64::from(wanted), 1),
+    }) {
         Ok(number) => number,
         Err(_) => 0,
     };
