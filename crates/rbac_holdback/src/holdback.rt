@@ -1,6 +1,6 @@
 //! The commands that are held, in the order of their stamps.
-ghost use Rattle.std.specs.Prelude.{◌≡◌, ◌≤◌, ◌↔◌, IsTrue, [], drop, length, IfErr, OnOk, OnErr, IfSome, IfNone};
-ghost use Rattle.std.specs.List.{AllByRecursion, list_all};
+ghost use Rattle.std.specs.Prelude.{◌≡◌, ◌==◌, ◌||◌, ◌≤◌, ◌↔◌, IsTrue, [], drop, length, IfErr, OnOk, OnErr, IfSome, IfNone};
+ghost use Rattle.std.specs.List.{AllByRecursion};
 ghost use Rattle.rbac_words.specs.Message.{submitted_at};
 ghost use Rattle.rbac_words.specs.Stamp.{IsBefore, has_passed, insert_by_stamp};
 ghost use Rattle.rbac_holdback.specs.Passed.{passed_by_all};
@@ -29,23 +29,21 @@ impl Model for Holdback {
     ghost invariant = { IsKept };
 }
 
-// Whether a member's latest message came after this stamp.
-fn is_later(latest: Option<Stamp>, stamp: Stamp) -> bool
-    ensures { result ≡ has_passed latest stamp }
+// Whether this member need not be waited for: it is this one or the stamp's own, or sent its latest message after the stamp.
+fn lets_pass(member: usize, me: u32, latest: Option<Stamp>, stamp: Stamp) -> bool
+    ensures { result ≡ ((member == me || member == stamp.member) || has_passed latest stamp) }
 {
-    match latest {
-        None => false,
-        Some(latest) => stamp.is_before(latest),
-    }
+    member == me as usize
+        || member == stamp.member as usize
+        || latest.is_some_and(|latest| stamp.is_before(latest))
 }
 
-// Whether each member but this one and the stamp's own sent something after the stamp.
+// Whether no member need be waited for. Item k - 1 is the latest stamp of member k.
 fn is_passed_by_all(me: u32, latest: &[Option<Stamp>], stamp: Stamp) -> bool
     ensures { result ≡ passed_by_all me latest.now stamp }
 {
     for (place, last) in latest.iter().enumerate() {
-        let member = place + 1;
-        if member != me as usize && member != stamp.member as usize && !is_later(*last, stamp) {
+        if !lets_pass(place + 1, me, *last, stamp) {
             return false;
         }
     }
@@ -99,9 +97,7 @@ impl Holdback {
         ensures unchanged { OnErr result (self.new.held ≡ self.old.held) }
     {
         let stamp = held.stamp;
-        let place = self
-            .held
-            .partition_point(|other| !stamp.is_before(other.stamp));
+        let place = self.held.partition_point(|other| other.stamp <= stamp);
         match self.held.insert(place, held) {
             Ok(()) => Ok(()),
             Err(failed) => Err(failed.value),
