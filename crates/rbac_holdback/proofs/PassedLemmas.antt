@@ -1,10 +1,10 @@
 -- The test of the latest stamps, from one member on.
-use Rattle.std.proofs.Common.{ℕ, zero, suc, add-one, Bool, true, false, ◌||◌, ◌&&◌, ◌==◌, ◌≡◌, ◌<◌, ◌≤◌, ◌+◌, ◌-◌, arith, refl, sym, subst, ap, ◌∙◌, List, [], ◌∷◌, length, Option, None, get_or}
+use Rattle.std.proofs.Common.{ℕ, suc, add-one, Bool, true, ◌||◌, ◌&&◌, ◌==◌, ◌≡◌, ◌<◌, ◌+◌, ◌-◌, arith, refl, sym, subst, ap, ◌∙◌, List, ◌∷◌, length, Option, None, get_or}
 use Rattle.std.specs.List.{list_all}
 use Rattle.rbac_words.specs.declared.stamp.Stamp.{Stamp}
 use Rattle.rbac_words.specs.Member.{numbers}
 use Rattle.rbac_words.specs.Stamp.{has_passed}
-use Rattle.rbac_holdback.specs.Passed.{lets_pass, passed_by_all}
+use Rattle.rbac_holdback.specs.Passed.{lets_pass}
 
 -- whether no member from this place on need be waited for
 abbrev pub passed_from : ℕ → List (Option Stamp) → Stamp → ℕ → Bool

@@ -1,5 +1,5 @@
 -- The place of a command among those that are held.
-use Rattle.std.proofs.Common.{ℕ, zero, suc, Bool, true, false, not, cond, ◌≡◌, ◌⊎◌, inl, inr, ◌<◌, ◌≤◌, arith, refl, sym, subst, ap, ◌∙◌, true≢false, List, [], ◌∷◌, length, drop, get_or}
+use Rattle.std.proofs.Common.{ℕ, zero, suc, Bool, true, false, not, ◌≡◌, ◌⊎◌, inl, inr, ◌<◌, ◌≤◌, arith, refl, sym, subst, ap, ◌∙◌, true≢false, List, [], ◌∷◌, length, drop, get_or}
 use Rattle.std.specs.List.{AllByRecursion as Each, insert}
 use Rattle.std.specs.List.Sorted.{IsPartitionedBy, IsPartitionPoint}
 use Rattle.std.specs.Ordering.{is_le}
@@ -10,7 +10,7 @@ use Rattle.rbac_words.specs.declared.message.Submission.{Submission}
 use Rattle.rbac_words.specs.Message.{submitted_at}
 use Rattle.rbac_words.specs.Stamp.{IsBefore, is_before, stamp_cmp, IsRising, insert_by_stamp}
 use Rattle.rbac_holdback.specs.Holdback.{Holdback, IsHoldback}
-use Rattle.rbac_order.proofs.StampLemmas.{before_trans, before_irrefl, before_true, true_before, before_total, IsApart, Each-insert, Rising-insert}
+use Rattle.rbac_order.proofs.StampLemmas.{before_trans, before_true, true_before, before_total, IsApart, Each-insert, Rising-insert}
 
 module _ {X : Type 0} where
   pub Each-at : (P : X → Type 0) (xs : List X) (i : ℕ) (d : X) → i < length xs → Each P xs → P (get_or xs i d)

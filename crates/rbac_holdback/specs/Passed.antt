@@ -1,5 +1,5 @@
 -- The test of the latest stamps, one by one.
-use Rattle.std.specs.Prelude.{ℕ, Bool, true, suc, ◌-◌, ◌==◌, ◌||◌, ◌&&◌, List, [], ◌∷◌, length, Option, None, slice_index_or}
+use Rattle.std.specs.Prelude.{ℕ, Bool, ◌-◌, ◌==◌, ◌||◌, List, length, Option, None, slice_index_or}
 use Rattle.std.specs.List.{list_all}
 use Rattle.rbac_words.specs.Member.{numbers}
 use Rattle.rbac_words.specs.Stamp.{has_passed}

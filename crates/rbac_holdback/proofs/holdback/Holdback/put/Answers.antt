@@ -1,4 +1,4 @@
-use Rattle.std.proofs.Common.{rules, true, false, arith, ◌≡◌, ◌≤◌, ◌∙◌, ap, length}
+use Rattle.std.proofs.Common.{rules, true, false, arith, ◌≡◌, ◌∙◌, ap}
 use Rattle.std.specs.Ordering.{is_le}
 use Rattle.std.specs.List.{insert}
 use Rattle.std.specs.List.Sorted.{IsPartitionPoint}
