@@ -1,0 +1,2 @@
+pub mod PassedLemmas
+pub mod PlaceLemmas

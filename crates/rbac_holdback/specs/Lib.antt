@@ -1,0 +1,3 @@
+pub mod Holdback
+pub mod Inside
+pub mod Passed

@@ -1,0 +1,11 @@
+//! The commands that a member of a group holds back until no command with a smaller stamp can come (Lamport 1978,
+//! "Ordering the Events Totally": the request queue).
+#![tactic(auto)]
+
+mod holdback;
+
+pub use holdback::Holdback;
+pub use rbac_words::Submission as Held;
+
+#[cfg(test)]
+mod tests;
