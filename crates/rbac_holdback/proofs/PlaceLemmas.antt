@@ -1,5 +1,5 @@
 -- The place of a command among those that are held.
-use Rattle.std.proofs.Common.{ℕ, zero, suc, Bool, true, false, not, ◌≡◌, ◌⊎◌, inl, inr, ◌<◌, ◌≤◌, arith, refl, sym, subst, ap, ◌∙◌, true≢false, List, [], ◌∷◌, length, drop, get_or}
+use Rattle.std.proofs.Common.{ℕ, zero, suc, Bool, true, false, not, ◌≡◌, ◌⊎◌, inl, inr, ◌<◌, ◌≤◌, arith, refl, sym, subst, ap, ◌∙◌, true≢false, List, [], ◌∷◌, length, get_or}
 use Rattle.std.specs.List.{AllByRecursion as Each, insert}
 use Rattle.std.specs.List.Sorted.{IsPartitionedBy, IsPartitionPoint}
 use Rattle.std.specs.Ordering.{is_le}
@@ -18,15 +18,7 @@ module _ {X : Type 0} where
   Each-at P (x ∷ xs) zero d h a = a.0
   Each-at P (x ∷ xs) (suc i) d h a = Each-at P xs i d (omega arith) a.1
 
-  pub Each-drop_one : (P : X → Type 0) (xs : List X) → Each P xs → Each P (drop 1 xs)
-  Each-drop_one P [] a = tt
-  Each-drop_one P (x ∷ xs) a = a.1
-
 module _ {X : Type 0} (at : X → Stamp) where
-  pub Rising-drop_one : (xs : List X) → IsRising at xs → IsRising at (drop 1 xs)
-  Rising-drop_one [] r = tt
-  Rising-drop_one (x ∷ xs) r = r.1
-
   -- whether an element goes after another one
   abbrev pub goes_after : X → X → Bool
   goes_after x y = not (is_before (at x) (at y))

@@ -1,3 +1,2 @@
 pub mod Holdback
 pub mod Inside
-pub mod Passed

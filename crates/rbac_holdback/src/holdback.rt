@@ -3,7 +3,7 @@ ghost use Rattle.std.specs.Prelude.{◌≡◌, ◌==◌, ◌||◌, ◌≤◌, �
 ghost use Rattle.std.specs.List.{AllByRecursion};
 ghost use Rattle.rbac_words.specs.Message.{submitted_at};
 ghost use Rattle.rbac_words.specs.Stamp.{IsBefore, has_passed, insert_by_stamp};
-ghost use Rattle.rbac_holdback.specs.Passed.{passed_by_all};
+ghost use Rattle.rbac_words.specs.Member.{is_passed};
 
 use rbac_words::{Stamp, Submission as Held};
 use std::alloc::Global;
@@ -29,21 +29,21 @@ impl Model for Holdback {
     ghost invariant = { IsKept };
 }
 
-// Whether this member need not be waited for: it is this one or the stamp's own, or sent its latest message after the stamp.
-fn lets_pass(member: usize, me: u32, latest: Option<Stamp>, stamp: Stamp) -> bool
+// Whether this member need not be waited for: it is this one or the stamp's own, or its latest stamp is greater.
+fn passes(member: usize, me: u32, latest: Option<Stamp>, stamp: Stamp) -> bool
     ensures { result ≡ ((member == me || member == stamp.member) || has_passed latest stamp) }
 {
     member == me as usize
         || member == stamp.member as usize
-        || latest.is_some_and(|latest| stamp.is_before(latest))
+        || latest.is_some_and(|latest| stamp < latest)
 }
 
 // Whether no member need be waited for. Item k - 1 is the latest stamp of member k.
-fn is_passed_by_all(me: u32, latest: &[Option<Stamp>], stamp: Stamp) -> bool
-    ensures { result ≡ passed_by_all me latest.now stamp }
+fn is_passed_by_all(me: u32, latest: &[Option<Stamp>], held: &Held) -> bool
+    ensures { result ≡ is_passed (length latest.now) me latest.now held.now }
 {
     for (place, last) in latest.iter().enumerate() {
-        if !lets_pass(place + 1, me, *last, stamp) {
+        if !passes(place + 1, me, *last, held.stamp) {
             return false;
         }
     }
@@ -87,7 +87,8 @@ impl Holdback {
         self.held.is_empty()
     }
 
-    /// Holds a command, before the first one with a greater stamp. Where memory is wanting it is handed back.
+    /// Holds a command, before the first one with a greater stamp. Each member's stamps rise, so it comes after those of
+    /// its own member. Where memory is wanting, the command is handed back.
     pub fn put(&mut self, held: Held) -> Result<(), Held>
         requires member { (1 ≤ held.stamp.member) × (held.stamp.member ≤ self.old.members) }
         requires above { AllByRecursion (λ x. x.stamp.member ≡ held.stamp.member → IsBefore x.stamp held.stamp) self.old.held }
@@ -131,7 +132,7 @@ impl Holdback {
     {
         match self.held.front() {
             None => false,
-            Some(least) => is_passed_by_all(me, latest, least.stamp),
+            Some(least) => is_passed_by_all(me, latest, least),
         }
     }
 }

@@ -1,8 +1,13 @@
-use Rattle.std.proofs.Common.{sym, ◌∙◌}
-use Rattle.rbac_holdback.proofs.PassedLemmas.{passed_on}
+use Rattle.std.proofs.Common.{true, false, sym, ◌∙◌}
+use Rattle.rbac_holdback.proofs.PassedLemmas.{passed_step}
 use Rattle.rbac_holdback.proofs.holdback.is_passed_by_all.Goals as goal
 
 pub loop-place-preserved : goal.loop-place-preserved
 loop-place-preserved c =
-    sym (passed_on c.args.me c.args.latest.now c.args.stamp c.loop-place.place c.loop-place-test.true (sym c.lets_pass.ensures ∙ c.if-not-lets_pass.false))
+    sym (passed_step c.args.me c.args.latest.now c.args.held.now.stamp c.loop-place.place c.loop-place-test.true true (sym c.passes.ensures ∙ c.if-not-passes.false))
+    ∙ c.loop-place.invariant
+
+pub returns-then-not-passes : goal.returns-then-not-passes
+returns-then-not-passes c =
+    sym (passed_step c.args.me c.args.latest.now c.args.held.now.stamp c.loop-place.place c.loop-place-test.true false (sym c.passes.ensures ∙ c.if-not-passes.true))
     ∙ c.loop-place.invariant

@@ -17,11 +17,16 @@ placed c =
     let xs = c.self.inside.held.items in
     let i = c.partition_point-place.result in
     let part : IsPartitionPoint (λ y. goes_after submitted_at x y ≡ true) (λ y. goes_after submitted_at x y ≡ false) xs i =
-    IsPartitionPoint-from_clause (goes_after submitted_at x) xs i c.partition_point-place.ensures.partitioned (parted submitted_at x xs c.self.invariant.kept.rising) (λ a r f called. let e : r ≡ is_le (stamp_cmp a.0.now.stamp x.stamp) = search rules in (e ∙ le-after x.stamp a.0.now.stamp, search rules)) in
+    IsPartitionPoint-from_clause (goes_after submitted_at x) xs i c.partition_point-place.ensures.partitioned
+    (parted submitted_at x xs c.self.invariant.kept.rising)
+    (λ a r f called. let e : r ≡ is_le (stamp_cmp a.0.now.stamp x.stamp) = search rules in (e ∙ le-after x.stamp a.0.now.stamp, search rules)) in
     at_place submitted_at x xs i (omega arith) part
 
 pub returns-clause-held : goal.returns-clause-held
-returns-clause-held c = elim c.match-insert.branch [ in-Ok w ↦ rw w.result-is (w.in-Ok.ensures.items ∙ placed c ∙ ap (λ (h : Holdback). insert_by_stamp submitted_at c.args.held h.held) c.self.view_is) | in-Err w ↦ rw w.result-is tt ]
+returns-clause-held c = elim c.match-insert.branch [
+  | in-Ok w ↦ rw w.result-is (w.in-Ok.ensures.items ∙ placed c ∙ ap (λ (h : Holdback). insert_by_stamp submitted_at c.args.held h.held) c.self.view_is)
+  | in-Err w ↦ rw w.result-is tt
+]
 
 pub invariant_of-self : goal.invariant_of-self
 invariant_of-self c =
