@@ -1,5 +1,5 @@
 -- What a delivery leaves, in the words of the definitions.
-use Rattle.std.proofs.Common.{Bool, true, false, cond, ◌≡◌, List, [], ◌∷◌, ◌++◌, drop, refl, sym, ap, ◌∙◌, Option, Some, None, is_some, get_or}
+use Rattle.std.proofs.Common.{Bool, true, false, cond, ◌≡◌, List, [], ◌∷◌, ◌++◌, drop, refl, sym, ap, ◌∙◌, Option, Some, None, is_some, true≢false}
 use Rattle.rbac_words.specs.State.{State}
 use Rattle.rbac_words.specs.Rows.{first_denial}
 use Rattle.rbac_words.specs.Change.{change}
@@ -57,9 +57,9 @@ vocabulary-effect c s = go (first_denial c s)
     go None = vocabulary-change c s
     go (Some d) = refl
 
--- the first of a list is the first
-pub same_first : (xs ys : List Submission) (next first : Submission) → next ≡ get_or xs 0 next → xs ≡ first ∷ ys → next ≡ first
-same_first xs ys next first e f = e ∙ ap (λ (l : List Submission). get_or l 0 next) f
+-- the least of a list is its first
+pub same_first : (xs ys : List Submission) (next first : Submission) → least xs ≡ Some next → xs ≡ first ∷ ys → next ≡ first
+same_first xs ys next first e f = let g : Some next ≡ Some first = sym e ∙ ap least f in let h : next ≡ first = cc in h
 
 -- the least held command is taken over with its reply
 pub delivered_is : (v : Member) (policy : State) (history before : List Record) (held : List Submission) (next : Submission) (answer : Answer) (over : TakesOver answer v.held before held history)
@@ -87,3 +87,14 @@ due_is_least v = go v.held
         one : (b : Bool) → is_some (cond {A = Option Submission} b (Some x) None) ≡ b
         one true = refl
         one false = refl
+
+-- where something is due, it is the first that is held
+pub due_first : (v : Member) (x : Submission) (rest : List Submission) → v.held ≡ x ∷ rest → is_some (due_at v) ≡ true → (is_passed_by_all v x ≡ true) × (due_at v ≡ Some x)
+due_first v x rest e some = go (is_passed_by_all v x) refl
+  where
+    is : due_at v ≡ (cond {A = Option Submission} (is_passed_by_all v x) (Some x) None)
+    is = ap (λ l. if_passed v (least l)) e
+
+    go : (b : Bool) → is_passed_by_all v x ≡ b → (is_passed_by_all v x ≡ true) × (due_at v ≡ Some x)
+    go true f = (f, is ∙ ap (λ t. cond {A = Option Submission} t (Some x) None) f)
+    go false f = absurd (true≢false (sym some ∙ ap is_some (is ∙ ap (λ t. cond {A = Option Submission} t (Some x) None) f)))

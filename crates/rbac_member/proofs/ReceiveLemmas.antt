@@ -18,7 +18,7 @@ use Rattle.rbac_order.proofs.StampLemmas.{before_true}
 use Rattle.rbac_order.proofs.MessageLemmas.{serials_go_on}
 use Rattle.rbac_order.proofs.StepLemmas.{if_none, unless_none, and_both}
 
-equal : (m n : ℕ) → (m == n) ≡ true → m ≡ n
+pub equal : (m n : ℕ) → (m == n) ≡ true → m ≡ n
 equal m n e = grind (arith, nat_tests)
 
 -- two refusals, one after the other

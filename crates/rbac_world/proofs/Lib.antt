@@ -1,2 +1,1 @@
-pub mod AloneLemmas
 pub mod StepLemmas

@@ -1,25 +1,36 @@
--- What the step of a world of one member is.
-use Rattle.std.proofs.Common.{ℕ, Bool, true, false, ◌≡◌, ◌+◌, ◌==◌, ◌⊎◌, inl, inr, [], ◌∷◌, Option, Some, None, is_some, Ok, Err, refl, sym, ap, subst, ◌∙◌, arith, true≢false}
+-- A move of one member of a group is the step of its world.
+use Rattle.std.proofs.Common.{ℕ, zero, suc, Bool, true, false, not, cond, ◌≡◌, ◌≤◌, ◌<◌, ◌+◌, ◌-◌, ◌==◌, ◌||◌, ◌&&◌, ◌⊎◌, inl, inr, nat_lt, nat_le, List, [], ◌∷◌, ◌++◌, length, set, get_or, drop, Option, Some, None, is_some, Result, Ok, Err, refl, sym, ap, subst, ◌∙◌, arith, true≢false}
+use Rattle.std.specs.List.{filter}
 use Rattle.std.proofs.lemmas.Bool.Decides.{nat_tests}
-use Rattle.rbac_words.specs.World.{World, Node, is_member, stamp, submit_refusal, deliver_at, with_node, place_of, refusal, outcome, after, answer_unless, world_unless}
+use Rattle.std.proofs.lemmas.List.{length-map}
+use Rattle.std.proofs.lemmas.List.Elements.{filter-append}
+use Rattle.rbac_words.specs.Founding.{Group, Vocabulary}
+use Rattle.rbac_words.specs.Stamp.{IsAfter, is_after}
+use Rattle.rbac_words.specs.Message.{stamp_of, submissions_of, is_by, next_serial, CountsFrom}
+use Rattle.rbac_words.specs.Front.{is_of}
+use Rattle.rbac_words.specs.World.{World, Node, node, is_member, read_of, stamp, message, submit_refusal, receive_refusal, room_refusal, submit_at, receive_at, deliver_at, with_node, refusal, outcome, after, place_of, due, answer_unless, world_unless, must_acknowledge, acknowledgement}
+use Rattle.rbac_words.specs.Links.{Links, has_link, next_of, is_rising_of, link_refusal}
+use Rattle.rbac_words.specs.Step.{grows, IsStep}
+use Rattle.rbac_words.specs.Member.{Member, node_of, links_of, latest_of, known, submitted, received, deliver_due, due_at, or_else, serial_refusal, message_refusal, IsMember, IsNext}
+use Rattle.rbac_words.specs.Members.{AreMembers, HasRead, no_member, member_at, world_of}
 use Rattle.rbac_words.specs.declared.command.Command.{Command}
 use Rattle.rbac_words.specs.declared.event.Event.{Event}
 use Rattle.rbac_words.specs.declared.event.Event.TheVariants.{Submit, Receive, Deliver}
 use Rattle.rbac_words.specs.declared.event.Outcome.{Outcome}
-use Rattle.rbac_words.specs.declared.event.Outcome.TheVariants.{Submitted, Delivered}
+use Rattle.rbac_words.specs.declared.event.Outcome.TheVariants.{Submitted, Received, Delivered}
 use Rattle.rbac_words.specs.declared.event.Refusal.{Refusal}
 use Rattle.rbac_words.specs.declared.event.Refusal.TheVariants as refused
+use Rattle.rbac_words.specs.declared.message.Message.{Message}
+use Rattle.rbac_words.specs.declared.message.Message.TheVariants.{Call, Ack}
 use Rattle.rbac_words.specs.declared.message.Submission.{Submission}
 use Rattle.rbac_words.specs.declared.stamp.Stamp.{Stamp}
-use Rattle.rbac_member.specs.declared.refusal.SubmitRefusal.{SubmitRefusal}
-use Rattle.rbac_member.specs.declared.refusal.SubmitRefusal.TheVariants.{ClockFull, SentFull, BadSerial, NoMemory}
-use Rattle.rbac_words.specs.Step.{grows, IsStep}
-use Rattle.rbac_words.specs.Member.{Member, node_of, submitted, deliver_due, due_at}
-use Rattle.rbac_order.proofs.StepLemmas.{deliver_is}
-use Rattle.rbac_member.specs.Calls.{refusal_of}
-use Rattle.rbac_world.specs.Inside.{world_alone, IsAlone}
-use Rattle.rbac_world.specs.Refusals.{submit_refused}
-use Rattle.rbac_world.proofs.AloneLemmas.{own_number, members_alone, due_alone}
+use Rattle.rbac_order.proofs.StampLemmas.{true_before}
+use Rattle.rbac_order.proofs.MessageLemmas.{CountsFrom-next}
+use Rattle.rbac_order.proofs.GroupLemmas.{apart, read_by, due_is_due, same_number, other_number}
+use Rattle.rbac_order.proofs.StepLemmas.{world_set, node_is, next_of as next_message, comes_next, members_submitted, members_receive, members_delivered, deliver_is}
+use Rattle.rbac_world.specs.Moves.{Move, IsMoved, IsMovedAt, submit_of, receipt_refusal, receipt_of, delivery_of, IsGroupStep}
+
+-- ---- Any event
 
 -- an event that is not refused
 taken : (w new : World) (e : Event) (o : Outcome) → refusal w e ≡ None → outcome w e ≡ o → new ≡ after w e → IsStep w e (Ok o) new
@@ -33,7 +44,7 @@ taken w new e o none gives leaves = record {
 }
 
 -- an event that is refused
-not_taken : (w : World) (e : Event) (r : Refusal) → refusal w e ≡ Some r → (r ≡ refused.NoMemory → ⊥) → IsStep w e (Err r) w
+pub not_taken : (w : World) (e : Event) (r : Refusal) → refusal w e ≡ Some r → (r ≡ refused.NoMemory → ⊥) → IsStep w e (Err r) w
 not_taken w e r some other = record {
   outcome = tt;
   stepped = tt;
@@ -43,74 +54,236 @@ not_taken w e r some other = record {
   unchanged = refl;
 }
 
--- an event for which memory ran out
-starved : (w : World) (e : Event) → refusal w e ≡ None → grows w e ≡ true → IsStep w e (Err refused.NoMemory) w
-starved w e none longer = record {
+-- an event for which memory may have run out
+starved : (w : World) (e : Event) (r : Refusal) → ((r ≡ refused.NoMemory → ⊥) → refusal w e ≡ Some r) → (r ≡ refused.NoMemory → refusal w e ≡ None) → (r ≡ refused.NoMemory → grows w e ≡ true) → IsStep w e (Err r) w
+starved w e r some none longer = record {
   outcome = tt;
   stepped = tt;
-  first_refusal = λ other. absurd (other refl);
-  memory_last = λ _. none;
-  memory_needed = λ _. longer;
+  first_refusal = λ other. ap (λ (s : Option Refusal). answer_unless s (outcome w e)) (some other);
+  memory_last = λ f. none (let g : r ≡ refused.NoMemory = cc in g);
+  memory_needed = λ f. longer (let g : r ≡ refused.NoMemory = cc in g);
   unchanged = refl;
 }
 
--- ---- Submit
+set_itself : {X : Type 0} (xs : List X) (i : ℕ) (d : X) → set xs i (get_or xs i d) ≡ xs
+set_itself [] i d = refl
+set_itself (x ∷ xs) zero d = refl
+set_itself (x ∷ xs) (suc i) d = ap (λ l. x ∷ l) (set_itself xs i d)
 
-pub submit_unknown : (w : World) (at caller serial : ℕ) (c : Command) → is_member w at ≡ false → IsStep w (Submit at caller serial c) (Err refused.UnknownMember) w
-submit_unknown w at caller serial c e = not_taken w (Submit at caller serial c) refused.UnknownMember (rw e refl) (λ f. cc)
+module _ (group : Group) (vocabulary : Vocabulary) (ms : List Member) (are : AreMembers group vocabulary ms) where
+  abbrev w : World
+  w = world_of group vocabulary ms
 
-pub submit_taken : (v : Member) (at caller serial : ℕ) (c : Command) (s : Stamp) → IsAlone v → at ≡ 1 → submit_refusal v.group (node_of v) caller serial ≡ None → s ≡ stamp (v.clock + 1) v.number
-    → IsStep (world_alone v) (Submit at caller serial c) (Ok (Submitted s)) (world_alone (submitted v caller serial c))
-submit_taken v at caller serial c s a one none is =
-    subst (λ k. IsStep (world_alone v) (Submit k caller serial c) (Ok (Submitted s)) (world_alone (submitted v caller serial c))) (sym one)
-    (taken (world_alone v) (world_alone (submitted v caller serial c)) (Submit 1 caller serial c) (Submitted s) none
-    (ap (λ n. Submitted (stamp (v.clock + 1) n)) (sym (own_number v a)) ∙ ap Submitted (sym is)) refl)
+  abbrev at : ℕ → Member
+  at i = member_at ms i
 
-pub submit_not_taken : (v : Member) (at caller serial : ℕ) (c : Command) (r : SubmitRefusal) → at ≡ 1 → submit_refusal v.group (node_of v) caller serial ≡ refusal_of r
-    → IsStep (world_alone v) (Submit at caller serial c) (Err (submit_refused r)) (world_alone v)
-submit_not_taken v at caller serial c r one is =
-    subst (λ k. IsStep (world_alone v) (Submit k caller serial c) (Err (submit_refused r)) (world_alone v)) (sym one) (go r is)
-  where
-    go : (r : SubmitRefusal) → submit_refusal v.group (node_of v) caller serial ≡ refusal_of r → IsStep (world_alone v) (Submit 1 caller serial c) (Err (submit_refused r)) (world_alone v)
-    go ClockFull e = not_taken (world_alone v) (Submit 1 caller serial c) refused.ClockFull e (λ f. cc)
-    go SentFull e = not_taken (world_alone v) (Submit 1 caller serial c) refused.SentFull e (λ f. cc)
-    go (BadSerial next) e = not_taken (world_alone v) (Submit 1 caller serial c) (refused.BadSerial next) e (λ f. cc)
-    go NoMemory e = starved (world_alone v) (Submit 1 caller serial c) e refl
+  -- a move of the member at a place that the event is, in the words of the world
+  record IsMoveOf (i : ℕ) (m : Move) (e : Event) : Type 0 where
+    refused : refusal w e ≡ m.refusal
+    gives : outcome w e ≡ m.outcome
+    leaves : world_of group vocabulary (set ms i m.after) ≡ after w e
+    longer : grows w e ≡ m.grows
+    keeps : m.refusal ≡ None → AreMembers group vocabulary (set ms i m.after)
 
--- ---- Receive
+  by_move : (i : ℕ) (m : Move) (e : Event) → IsMoveOf i m e → (result : Result Outcome Refusal) (new : List Member) → IsMovedAt i m ms result new → IsGroupStep group vocabulary ms e result new
+  by_move i m e is (Ok o) new moved =
+      let changed : new ≡ set ms i m.after = moved.changed ∙ ap (set ms i) moved.is_moved.moved in record {
+        step = taken w (world_of group vocabulary new) e o (is.refused ∙ moved.is_moved.accepted) (is.gives ∙ sym moved.is_moved.outcome) (ap (world_of group vocabulary) changed ∙ is.leaves);
+        members = subst (AreMembers group vocabulary) (sym changed) (is.keeps moved.is_moved.accepted);
+      }
+  by_move i m e is (Err r) new moved =
+      let unchanged : new ≡ ms = moved.changed ∙ ap (set ms i) moved.is_moved.unchanged ∙ set_itself ms i no_member in record {
+        step = subst (λ l. IsStep w e (Err r) (world_of group vocabulary l)) (sym unchanged)
+            (starved w e r (λ other. is.refused ∙ moved.is_moved.first_refusal other) (λ f. is.refused ∙ moved.is_moved.memory_last f) (λ f. is.longer ∙ moved.is_moved.memory_needed f));
+        members = subst (AreMembers group vocabulary) (sym unchanged) are;
+      }
 
-pub receive_unknown : (w : World) (at from n : ℕ) → (is_member w at ≡ false) ⊎ (is_member w from ≡ false) → IsStep w (Receive at from n) (Err refused.UnknownMember) w
-receive_unknown w at from n e = not_taken w (Receive at from n) refused.UnknownMember (go (is_member w at) (is_member w from) refl refl e) (λ f. cc)
-  where
-    go : (a b : Bool) → is_member w at ≡ a → is_member w from ≡ b → (a ≡ false) ⊎ (b ≡ false) → refusal w (Receive at from n) ≡ Some refused.UnknownMember
-    go false b f g e = rw f refl
-    go true false f g e = rw (f, g) refl
-    go true true f g e = absurd (elim e [ inl h ↦ true≢false h | inr h ↦ true≢false h ])
+  -- ---- Members and strangers
 
-pub receive_self : (w : World) (at from n : ℕ) → is_member w at ≡ true → is_member w from ≡ true → from ≡ at → IsStep w (Receive at from n) (Err refused.FromSelf) w
-receive_self w at from n e f same = not_taken w (Receive at from n) refused.FromSelf (rw (e, f) (rw (own at from same) refl)) (λ g. cc)
-  where
-    own : (at from : ℕ) → from ≡ at → (from == at) ≡ true
-    own at from e = grind (arith, nat_tests)
+  inside : (i : ℕ) → i < length ms → is_member w (i + 1) ≡ true
+  inside i h = let a : length w.nodes ≡ length ms = length-map ms node_of in both i (length w.nodes) (omega arith)
+    where
+      both : (m n : ℕ) → m < n → (nat_le 1 (m + 1) && nat_le (m + 1) n) ≡ true
+      both m n l = grind (arith, nat_tests)
 
--- ---- Deliver
+  node_at : (i : ℕ) → node w (i + 1) ≡ node_of (at i)
+  node_at i = node_is group vocabulary ms are (i + 1) ∙ ap (λ k. node_of (at k)) (let z : i + 1 - 1 ≡ i = omega arith in z)
 
-pub deliver_unknown : (w : World) (at : ℕ) → is_member w at ≡ false → IsStep w (Deliver at) (Err refused.UnknownMember) w
-deliver_unknown w at e = not_taken w (Deliver at) refused.UnknownMember (rw e refl) (λ f. cc)
+  place : (i : ℕ) (v : Member) → world_of group vocabulary (set ms i v) ≡ with_node w (i + 1) (node_of v)
+  place i v = world_set group vocabulary ms are i v ∙ ap (λ k. let z : World = record w { nodes = set w.nodes k (node_of v) } in z) (let z : i ≡ i + 1 - 1 = omega arith in z)
 
-pub deliver_starved : (v : Member) (at : ℕ) → IsAlone v → at ≡ 1 → is_some (due_at v) ≡ true → IsStep (world_alone v) (Deliver at) (Err refused.NoMemory) (world_alone v)
-deliver_starved v at a e some =
-    subst (λ k. IsStep (world_alone v) (Deliver k) (Err refused.NoMemory) (world_alone v)) (sym e)
-    (starved (world_alone v) (Deliver 1) refl (ap is_some (due_alone v a) ∙ some))
+  pub stranger : (k : ℕ) → (k < 1) ⊎ (length ms < k) → is_member w k ≡ false
+  stranger k h = let a : length w.nodes ≡ length ms = length-map ms node_of in elim h [ inl l ↦ low k (length w.nodes) l | inr l ↦ high k (length w.nodes) (omega arith) ]
+    where
+      low : (m n : ℕ) → m < 1 → (nat_le 1 m && nat_le m n) ≡ false
+      low m n l = grind (arith, nat_tests)
 
-delivered_is : (v : Member) → IsAlone v → (o : Option Submission) → world_alone (deliver_due v o) ≡ with_node (world_alone v) 1 (deliver_at v.vocabulary (node_of v) o)
-delivered_is v a None = refl
-delivered_is v a (Some x) = ap (λ (n : Node). with_node (world_alone v) 1 n) (deliver_is v.group v.vocabulary (v ∷ []) (members_alone v a) 0 (Some x) (omega arith))
+      high : (m n : ℕ) → n < m → (nat_le 1 m && nat_le m n) ≡ false
+      high m n l = grind (arith, nat_tests)
 
-pub deliver_taken : (v new : Member) (at : ℕ) (place : Option ℕ) → IsAlone v → at ≡ 1 → place ≡ place_of (node_of v) (due_at v) → new ≡ deliver_due v (due_at v)
-    → IsStep (world_alone v) (Deliver at) (Ok (Delivered place)) (world_alone new)
-deliver_taken v new at place a one is leaves =
-    subst (λ k. IsStep (world_alone v) (Deliver k) (Ok (Delivered place)) (world_alone new)) (sym one)
-    (taken (world_alone v) (world_alone new) (Deliver 1) (Delivered place) refl
-    (ap (λ (o : Option Submission). Delivered (place_of (node_of v) o)) (due_alone v a) ∙ ap Delivered (sym is))
-    (ap world_alone leaves ∙ delivered_is v a (due_at v) ∙ ap (λ (o : Option Submission). with_node (world_alone v) 1 (deliver_at v.vocabulary (node_of v) o)) (sym (due_alone v a))))
+  -- an event of a stranger
+  pub by_stranger : (e : Event) → refusal w e ≡ Some refused.UnknownMember → IsGroupStep group vocabulary ms e (Err refused.UnknownMember) ms
+  by_stranger e is = record { step = not_taken w e refused.UnknownMember is (λ f. cc); members = are }
+
+  pub strange_submit : (k caller serial : ℕ) (c : Command) → (k < 1) ⊎ (length ms < k) → refusal w (Submit k caller serial c) ≡ Some refused.UnknownMember
+  strange_submit k caller serial c h = rw (stranger k h) refl
+
+  pub strange_delivery : (k : ℕ) → (k < 1) ⊎ (length ms < k) → refusal w (Deliver k) ≡ Some refused.UnknownMember
+  strange_delivery k h = rw (stranger k h) refl
+
+  pub strange_receiver : (k from n : ℕ) → (k < 1) ⊎ (length ms < k) → refusal w (Receive k from n) ≡ Some refused.UnknownMember
+  strange_receiver k from n h = rw (stranger k h) refl
+
+  pub strange_sender : (k from n : ℕ) → (from < 1) ⊎ (length ms < from) → refusal w (Receive k from n) ≡ Some refused.UnknownMember
+  strange_sender k from n h = go (is_member w k) refl
+    where
+      go : (b : Bool) → is_member w k ≡ b → refusal w (Receive k from n) ≡ Some refused.UnknownMember
+      go true e = rw (e, stranger from h) refl
+      go false e = rw e refl
+
+  pub from_itself : (i n : ℕ) → i < length ms → IsGroupStep group vocabulary ms (Receive (i + 1) (i + 1) n) (Err refused.FromSelf) ms
+  from_itself i n h = record {
+    step = not_taken w (Receive (i + 1) (i + 1) n) refused.FromSelf (rw (inside i h) (rw (same_number (i + 1) (i + 1) refl) refl)) (λ f. cc);
+    members = are;
+  }
+
+  -- ---- The three moves
+
+  number : (i : ℕ) → i < length ms → (at i).number ≡ i + 1
+  number i h = are.numbered i h
+
+  group_of : (i : ℕ) → i < length ms → (at i).group ≡ group
+  group_of i h = are.same_group i h
+
+  submits : (i caller serial : ℕ) (c : Command) → i < length ms → IsMoveOf i (submit_of (at i) caller serial c) (Submit (i + 1) caller serial c)
+  submits i caller serial c h =
+      let same = ap (λ (g : Group). submit_refusal g (node_of (at i)) caller serial) (group_of i h) in record {
+        refused = rw (inside i h) (ap (λ (v : Node). submit_refusal group v caller serial) (node_at i) ∙ sym same);
+        gives = ap (λ (v : Node). Submitted (stamp (v.clock + 1) (i + 1))) (node_at i) ∙ ap (λ k. Submitted (stamp ((at i).clock + 1) k)) (sym (number i h));
+        leaves = place i (submitted (at i) caller serial c) ∙ ap (λ (v : Node). with_node w (i + 1) (submit_at v caller serial c)) (sym (node_at i));
+        longer = refl;
+        keeps = λ free. members_submitted group vocabulary ms are i caller serial c h (sym same ∙ free);
+      }
+
+  pub submit_step : (i caller serial : ℕ) (c : Command) (result : Result Outcome Refusal) (new : List Member) → i < length ms → IsMovedAt i (submit_of (at i) caller serial c) ms result new → IsGroupStep group vocabulary ms (Submit (i + 1) caller serial c) result new
+  submit_step i caller serial c result new h = by_move i (submit_of (at i) caller serial c) (Submit (i + 1) caller serial c) (submits i caller serial c h) result new
+
+  delivers : (i : ℕ) → i < length ms → IsMoveOf i (delivery_of (at i)) (Deliver (i + 1))
+  delivers i h = record {
+    refused = rw (inside i h) refl;
+    gives = ap (λ (v : Node). Delivered (place_of v (due w v))) (node_at i) ∙ ap (λ (o : Option Submission). Delivered (place_of (node_of (at i)) o)) is_due;
+    leaves = place i (deliver_due (at i) (due_at (at i))) ∙ ap (λ (v : Node). with_node w (i + 1) v) (deliver_is group vocabulary ms are i (due_at (at i)) h)
+        ∙ ap (λ (o : Option Submission). with_node w (i + 1) (deliver_at vocabulary (node_of (at i)) o)) (sym is_due) ∙ ap (λ (v : Node). with_node w (i + 1) (deliver_at vocabulary v (due w v))) (sym (node_at i));
+    longer = ap (λ (v : Node). is_some (due w v)) (node_at i) ∙ ap is_some is_due;
+    keeps = λ _. members_delivered group vocabulary ms are i h;
+  }
+    where
+      is_due : due w (node_of (at i)) ≡ due_at (at i)
+      is_due = due_is_due group vocabulary ms are i h
+
+  pub deliver_step : (i : ℕ) (result : Result Outcome Refusal) (new : List Member) → i < length ms → IsMovedAt i (delivery_of (at i)) ms result new → IsGroupStep group vocabulary ms (Deliver (i + 1)) result new
+  deliver_step i result new h = by_move i (delivery_of (at i)) (Deliver (i + 1)) (delivers i h) result new
+
+  -- ---- A message that a sender of the group sent is refused by what the world refuses
+
+  is_after_true : (last : Option Stamp) (s : Stamp) → IsAfter last s → is_after last s ≡ true
+  is_after_true None s a = refl
+  is_after_true (Some last) s a = true_before last s a
+
+  -- the next message of a sender has a rising stamp
+  is_rising : (v : Member) (k : ℕ) (m : Message) → IsNext v k m → is_rising_of (links_of v) k (stamp_of m) ≡ true
+  is_rising v k m next = rw (same_number (stamp_of m).member k next.sender) (is_after_true (latest_of v k) (stamp_of m) next.after)
+
+  -- and its command the next serial
+  in_turn : (v : Member) (k : ℕ) (m : Message) → IsNext v k m → serial_refusal v m ≡ None
+  in_turn v k (Ack s) next = refl
+  in_turn v k (Call s caller serial command) next = rw (same_number serial (next_serial caller (filter (is_of s.member) (known v))) is) refl
+    where
+      x : Submission
+      x = record { stamp = s; caller = caller; serial = serial; command = command }
+
+      own : filter (is_by caller) (x ∷ []) ≡ x ∷ []
+      own = rw (same_number caller caller refl) refl
+
+      in_order : CountsFrom 0 (filter (is_by caller) (filter (is_of k) (known v)) ++ x ∷ [])
+      in_order = subst (CountsFrom 0) (filter-append (is_by caller) (filter (is_of k) (known v)) (x ∷ []) ∙ ap (λ l. filter (is_by caller) (filter (is_of k) (known v)) ++ l) own) (next.serials caller)
+
+      is : serial ≡ next_serial caller (filter (is_of s.member) (known v))
+      is = let e : serial ≡ 0 + next_serial caller (filter (is_of k) (known v)) = CountsFrom-next 0 (filter (is_by caller) (filter (is_of k) (known v))) x [] in_order in
+          let f : next_serial caller (filter (is_of k) (known v)) ≡ next_serial caller (filter (is_of s.member) (known v)) = ap (λ n. next_serial caller (filter (is_of n) (known v))) (sym next.sender) in omega arith
+
+  or_else-none : (o : Option Refusal) → or_else o None ≡ o
+  or_else-none None = refl
+  or_else-none (Some r) = refl
+
+  same_refusal : (i j n : ℕ) → i < length ms → j < length ms → (j ≡ i → ⊥) → receive_refusal group (node_of (at i)) (node_of (at j)) n ≡ receipt_refusal (at i) (at j) n
+  same_refusal i j n hi hj d = go (n == 0 || nat_lt (length (at j).sent) n) refl
+    where
+      k : ℕ
+      k = (at j).number
+
+      m : Message
+      m = message (node_of (at j)) n
+
+      expected : ℕ
+      expected = read_of (node_of (at i)) k + 1
+
+      linked : has_link (links_of (at i)) k ≡ true
+      linked =
+          let a : (at j).number ≡ j + 1 = number j hj in let b : length ms ≡ group.members = are.count in
+          let c : (at i).group.members ≡ group.members = ap (λ (g : Group). g.members) (group_of i hi) in
+          let e : length (at i).read ≡ (at i).group.members = (are.kept i hi).reads in both k (length (at i).read) (omega arith) (omega arith)
+        where
+          both : (p q : ℕ) → 1 ≤ p → p ≤ q → (nat_le 1 p && nat_le p q) ≡ true
+          both p q l h = grind (arith, nat_tests)
+
+      other : (k == (at i).number) ≡ false
+      other = other_number k (at i).number (apart group vocabulary ms are i j hi hj d)
+
+      within : (p q : ℕ) → (q == 0 || nat_lt p q) ≡ false → q ≤ p
+      within p q e = grind (arith, nat_tests)
+
+      meets : (p q : ℕ) → nat_lt q p ≡ false → nat_lt p q ≡ false → q ≡ p
+      meets p q e f = grind (arith, nat_tests)
+
+      by_link : (o : Option Refusal) → cond (not (has_link (links_of (at i)) k)) (Some refused.UnknownMember) (cond (k == (at i).number) (Some refused.FromSelf) o) ≡ o
+      by_link o = rw (linked, other) refl
+
+      room : room_refusal group (node_of (at i)) m ≡ room_refusal (at i).group (node_of (at i)) m
+      room = ap (λ (g : Group). room_refusal g (node_of (at i)) m) (sym (group_of i hi))
+
+      by_number : (a b : Bool) → nat_lt n expected ≡ a → nat_lt expected n ≡ b → n ≤ length (at j).sent
+          → cond a (Some (refused.Repeat expected)) (cond b (Some (refused.Gap expected)) (room_refusal group (node_of (at i)) m))
+          ≡ or_else (cond a (Some (refused.Repeat expected)) (cond b (Some (refused.Gap expected)) (cond (is_rising_of (links_of (at i)) k (stamp_of m)) None (Some refused.StampNotRising)))) (or_else (room_refusal (at i).group (node_of (at i)) m) (serial_refusal (at i) m))
+      by_number true b e f l = refl
+      by_number false true e f l = refl
+      by_number false false e f l =
+          let next = next_message group vocabulary ms are i j m (drop 1 (read_by group vocabulary ms are i j hi hj d).unread) hi hj d (comes_next group vocabulary ms are i j n hi hj d (meets expected n e f) l) in
+          rw (is_rising (at i) k m next, in_turn (at i) k m next) (room ∙ sym (or_else-none (room_refusal (at i).group (node_of (at i)) m)))
+
+      go : (b : Bool) → (n == 0 || nat_lt (length (at j).sent) n) ≡ b
+          → cond b (Some refused.NotSent) (cond (nat_lt n expected) (Some (refused.Repeat expected)) (cond (nat_lt expected n) (Some (refused.Gap expected)) (room_refusal group (node_of (at i)) m)))
+          ≡ cond b (Some refused.NotSent) (message_refusal (at i) k n m)
+      go true e = refl
+      go false e =
+          by_number (nat_lt n expected) (nat_lt expected n) refl refl (within (length (at j).sent) n e)
+          ∙ ap (λ (o : Option Refusal). or_else o (or_else (room_refusal (at i).group (node_of (at i)) m) (serial_refusal (at i) m))) (sym (by_link _))
+
+  receives : (i j n : ℕ) → i < length ms → j < length ms → (j ≡ i → ⊥) → IsMoveOf i (receipt_of (at i) (at j) n) (Receive (i + 1) (j + 1) n)
+  receives i j n hi hj d = record {
+    refused = rw (inside i hi, inside j hj) (rw (other_number (j + 1) (i + 1) (λ e. d (omega arith)))
+        (ap (λ (v : Node). receive_refusal group v (node w (j + 1)) n) (node_at i) ∙ ap (λ (u : Node). receive_refusal group (node_of (at i)) u n) (node_at j) ∙ same_refusal i j n hi hj d));
+    gives = ap (λ (v : Node). Received (acknowledgement v (message (node w (j + 1)) n))) (node_at i) ∙ ap (λ (u : Node). Received (acknowledgement (node_of (at i)) (message u n))) (node_at j);
+    leaves = place i (received (at i) (at j).number m) ∙ ap (λ k. with_node w (i + 1) (receive_at (node_of (at i)) k m)) (number j hj)
+        ∙ ap (λ (u : Node). with_node w (i + 1) (receive_at (node_of (at i)) (j + 1) (message u n))) (sym (node_at j))
+        ∙ ap (λ (v : Node). with_node w (i + 1) (receive_at v (j + 1) (message (node w (j + 1)) n))) (sym (node_at i));
+    longer = ap (λ (v : Node). must_acknowledge v (message (node w (j + 1)) n)) (node_at i) ∙ ap (λ (u : Node). must_acknowledge (node_of (at i)) (message u n)) (node_at j);
+    keeps = λ free. subst (λ k. AreMembers group vocabulary (set ms i (received (at i) k m))) (sym (number j hj)) (members_receive group vocabulary ms are i j n hi hj d (same_refusal i j n hi hj d ∙ free));
+  }
+    where
+      m : Message
+      m = message (node_of (at j)) n
+
+  pub receive_step : (i j n : ℕ) (result : Result Outcome Refusal) (new : List Member) → i < length ms → j < length ms → (j ≡ i → ⊥) → IsMovedAt i (receipt_of (at i) (at j) n) ms result new
+      → IsGroupStep group vocabulary ms (Receive (i + 1) (j + 1) n) result new
+  receive_step i j n result new hi hj d = by_move i (receipt_of (at i) (at j) n) (Receive (i + 1) (j + 1) n) (receives i j n hi hj d) result new

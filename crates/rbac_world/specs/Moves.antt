@@ -1,5 +1,5 @@
 -- What one member's move leaves of the members of a group.
-use Rattle.std.specs.Prelude.{ℕ, Bool, true, ◌≡◌, ◌≢◌, ◌+◌, ◌==◌, ◌||◌, nat_lt, if◌then◌else◌, List, length, slice_set, Option, Some, None, is_some, Result, Err, IfOk, IfErr, OnOk, OnErr}
+use Rattle.std.specs.Prelude.{ℕ, Bool, true, not, ◌≡◌, ◌≢◌, ◌+◌, ◌==◌, ◌||◌, nat_lt, if◌then◌else◌, List, length, slice_set, Option, Some, None, is_some, Result, Err, IfOk, IfErr, OnOk, OnErr}
 use Rattle.rbac_words.specs.Founding.{Group, Vocabulary}
 use Rattle.rbac_words.specs.World.{stamp, message, acknowledgement, must_acknowledge, place_of, submit_refusal}
 use Rattle.rbac_words.specs.Step.{IsStep}
@@ -12,55 +12,62 @@ use Rattle.rbac_words.specs.declared.event.Outcome.TheVariants.{Submitted, Recei
 use Rattle.rbac_words.specs.declared.event.Refusal.{Refusal}
 use Rattle.rbac_words.specs.declared.event.Refusal.TheVariants.{NotSent, NoMemory}
 
--- a move of the member at a place: what refuses it, what it gives, what it leaves of the member, and whether it wants memory
+-- a move of one member: what refuses it, what it gives, what it leaves of the member, and whether it makes something longer
 pub record Move : Type 0 where
-  pub place : ℕ
   pub refusal : Option Refusal
   pub outcome : Outcome
   pub after : Member
   pub grows : Bool
 
-pub record IsMoved (m : Move) (old : List Member) (result : Result Outcome Refusal) (new : List Member) : Type 0 where
+-- what a member answers that makes a move, where memory may run out, and what is left of it
+pub record IsMoved (m : Move) (old : Member) (result : Result Outcome Refusal) (new : Member) : Type 0 where
   pub outcome : IfOk result (λ o. o ≡ m.outcome)
-  pub moved : OnOk result (new ≡ slice_set old m.place m.after)
+  pub moved : OnOk result (new ≡ m.after)
   pub accepted : OnOk result (m.refusal ≡ None)
   pub first_refusal : IfErr result (λ r. r ≢ NoMemory → m.refusal ≡ Some r)
-  pub memory_last : result ≡ Err NoMemory → m.refusal ≡ None
-  pub memory_needed : result ≡ Err NoMemory → m.grows ≡ true
+  pub memory_last : IfErr result (λ r. r ≡ NoMemory → m.refusal ≡ None)
+  pub memory_needed : IfErr result (λ r. r ≡ NoMemory → m.grows ≡ true)
   pub unchanged : OnErr result (new ≡ old)
 
-abbrev pub submit_of : ℕ → Member → ℕ → ℕ → Command → Move
-submit_of place v caller serial command = record {
-  place = place;
+-- the member at this place made the move, and all others are as they were
+pub record IsMovedAt (place : ℕ) (m : Move) (old : List Member) (result : Result Outcome Refusal) (new : List Member) : Type 0 where
+  pub after : Member
+  pub is_moved : IsMoved m (member_at old place) result after
+  pub changed : new ≡ slice_set old place after
+
+abbrev pub submit_of : Member → ℕ → ℕ → Command → Move
+submit_of v caller serial command = record {
   refusal = submit_refusal v.group (node_of v) caller serial;
   outcome = Submitted (stamp (v.clock + 1) v.number);
   after = submitted v caller serial command;
   grows = true;
 }
 
+-- whether a member sent a message of this number
+abbrev pub is_sent : Member → ℕ → Bool
+is_sent v n = not (n == 0 || nat_lt (length v.sent) n)
+
 -- why a member does not receive the message of this number of another one
 abbrev pub receipt_refusal : Member → Member → ℕ → Option Refusal
 receipt_refusal v sender n = if n == 0 || nat_lt (length sender.sent) n then Some NotSent else message_refusal v sender.number n (message (node_of sender) n)
 
-abbrev pub receipt_of : ℕ → Member → Member → ℕ → Move
-receipt_of place v sender n = record {
-  place = place;
+abbrev pub receipt_of : Member → Member → ℕ → Move
+receipt_of v sender n = record {
   refusal = receipt_refusal v sender n;
   outcome = Received (acknowledgement (node_of v) (message (node_of sender) n));
   after = received v sender.number (message (node_of sender) n);
   grows = must_acknowledge (node_of v) (message (node_of sender) n);
 }
 
-abbrev pub delivery_of : ℕ → Member → Move
-delivery_of place v = record {
-  place = place;
+abbrev pub delivery_of : Member → Move
+delivery_of v = record {
   refusal = None;
   outcome = Delivered (place_of (node_of v) (due_at v));
   after = deliver_due v (due_at v);
   grows = is_some (due_at v);
 }
 
--- the step of the world that an event is, for the members of any group
+-- an event was the step of the world, and its members are still those of a group
 pub record IsGroupStep (group : Group) (vocabulary : Vocabulary) (old : List Member) (e : Event) (result : Result Outcome Refusal) (new : List Member) : Type 0 where
   pub step : IsStep (world_of group vocabulary old) e result (world_of group vocabulary new)
   pub members : AreMembers group vocabulary new

@@ -1,9 +1,9 @@
 //! What one member of a group does upon an event.
-ghost use Rattle.std.specs.Prelude.{◌≡◌, IfSome, IfNone, ◌<◌, ◌≢◌, length};
+ghost use Rattle.std.specs.Prelude.{◌≡◌, ◌≢◌, ◌<◌, true, false, length, IfSome, IfNone};
 ghost use Rattle.rbac_words.specs.World.{message};
 ghost use Rattle.rbac_words.specs.Member.{node_of};
 ghost use Rattle.rbac_words.specs.Members.{member_at};
-ghost use Rattle.rbac_world.specs.Moves.{IsMoved, IsMovedAt, IsSent, submit_of, receipt_of, delivery_of};
+ghost use Rattle.rbac_world.specs.Moves.{IsMoved, IsMovedAt, is_sent, submit_of, receipt_of, delivery_of};
 
 use rbac_member::Member;
 use rbac_words::{Command, Message, Outcome, Refusal};
@@ -35,8 +35,8 @@ pub(crate) fn deliver(member: &mut Member, alloc: Global) -> Result<Outcome, Ref
 // Message `number` of what a member sent, counted from 1, if it was sent.
 fn message_of(sender: &Member, number: u32) -> Option<&Message>
     ensures sent { IfSome result (λ m. m.now ≡ message (node_of sender.now) number) }
-    ensures known { IfSome result (λ _. IsSent sender.now number ≡ true) }
-    ensures not_sent { IfNone result (IsSent sender.now number ≡ false) }
+    ensures known { IfSome result (λ _. is_sent sender.now number ≡ true) }
+    ensures not_sent { IfNone result (is_sent sender.now number ≡ false) }
 {
     if number == 0 {
         return None;

@@ -1,5 +1,5 @@
 //! What a member holds, and the serials that it counts.
-ghost use Rattle.std.specs.Prelude.{◌≡◌, ◌≢◌, IfOk, OnOk, OnErr};
+ghost use Rattle.std.specs.Prelude.{◌≡◌, ◌≢◌, [], OnOk, OnErr};
 ghost use Rattle.std.specs.List.{AllByRecursion};
 ghost use Rattle.rbac_words.specs.Stamp.{insert_all};
 ghost use Rattle.rbac_words.specs.Message.{submitted_at, submissions_of};

@@ -10,6 +10,22 @@ use rbac_words::limits::LAST_CLOCK;
 use rbac_words::{Message, Stamp};
 use std::alloc::AllocError;
 
+// Makes room for an acknowledgement, where there is one.
+fn make_room(outbox: &mut Outbox, stamp: Option<Stamp>) -> Result<(), AllocError>
+    ensures room { OnOk result (is_some stamp ≡ true → (0 < outbox.new.room) × (length outbox.new.sent < outbox.new.limit)) }
+    ensures wanted { OnErr result (is_some stamp ≡ true) }
+    ensures sent { outbox.new.sent ≡ outbox.old.sent }
+    ensures limit { outbox.new.limit ≡ outbox.old.limit }
+{
+    if stamp.is_none() {
+        return Ok(());
+    }
+    match outbox.make_room() {
+        Ok(()) => Ok(()),
+        Err(_) => Err(AllocError),
+    }
+}
+
 // Sends an acknowledgement, where there is one.
 fn acknowledge(outbox: &mut Outbox, stamp: Option<Stamp>)
     requires { is_some stamp ≡ true → (0 < outbox.old.room) × (length outbox.old.sent < outbox.old.limit) }
@@ -148,12 +164,8 @@ impl Member {
         ensures memory_needed { OnErr result (must_acknowledge (node_of self.old) message.now ≡ true) }
         ensures unchanged { OnErr result (self.new ≡ self.old) }
     {
-        if stamp.is_some() && self.outbox.make_room().is_err() {
-            return Err(AllocError);
-        }
-        if hold(&mut self.serials, &mut self.held, message).is_err() {
-            return Err(AllocError);
-        }
+        make_room(&mut self.outbox, stamp)?;
+        hold(&mut self.serials, &mut self.held, message)?;
         let Ok(()) = self.links.accept(from, number, message.stamp()) else {
             unreachable!()
         };

@@ -1,16 +1,50 @@
 //! How a member sends the commands of its callers.
-ghost use Rattle.std.specs.Prelude.{◌≡◌, ◌+◌, None, IfOk, IfErr, OnOk, OnErr};
+ghost use Rattle.std.specs.Prelude.{◌≡◌, ◌+◌, ◌++◌, ◌∷◌, [], None, IfOk, IfErr, OnOk, OnErr};
+ghost use Rattle.std.specs.List.{AllByRecursion};
+ghost use Rattle.rbac_words.specs.Stamp.{insert_all};
+ghost use Rattle.rbac_words.specs.Message.{submitted_at, submissions_of};
+ghost use Rattle.rbac_member.specs.Lists.{CanBeHeld};
+ghost use Rattle.rbac_member.specs.Serials.{counted};
 
 use crate::member::Member;
 use crate::member::counting::{hold, next_serial};
 use crate::refusal::SubmitRefusal;
+use rbac_holdback::Holdback;
+use rbac_links::Outbox;
 use rbac_words::limits::LAST_CLOCK;
 use rbac_words::{Command, Message, Stamp};
+use sorted_keys::SortedMap;
 use std::alloc::AllocError;
 
 // Drops a message that is not sent, in this one place: a drop of a command is a case for each command.
 fn dropped(_message: Message) -> AllocError {
     AllocError
+}
+
+// Sends a message of the member itself, counts its command, and holds it.
+fn send(
+    serials: &mut SortedMap<(u32, u32), u64>,
+    outbox: &mut Outbox,
+    held: &mut Holdback,
+    message: Message,
+) -> Result<(), AllocError>
+    requires { AllByRecursion (CanBeHeld held.old) (submissions_of message) }
+    ensures counted { OnOk result (serials.new.content ≡ counted (submissions_of message) serials.old.content) }
+    ensures sent { OnOk result (outbox.new.sent ≡ outbox.old.sent ++ message ∷ []) }
+    ensures held { OnOk result (held.new.held ≡ insert_all submitted_at (submissions_of message) held.old.held) }
+    ensures limit { outbox.new.limit ≡ outbox.old.limit }
+    ensures members { held.new.members ≡ held.old.members }
+    ensures serials_unchanged { OnErr result (serials.new.content ≡ serials.old.content) }
+    ensures sent_unchanged { OnErr result (outbox.new.sent ≡ outbox.old.sent) }
+    ensures held_unchanged { OnErr result (held.new.held ≡ held.old.held) }
+{
+    if outbox.make_room().is_err() || hold(serials, held, &message).is_err() {
+        return Err(dropped(message));
+    }
+    let Ok(_) = outbox.push(message) else {
+        unreachable!()
+    };
+    Ok(())
 }
 
 impl Member {
@@ -109,14 +143,12 @@ impl Member {
             serial,
             command,
         };
-        if self.outbox.make_room().is_err()
-            || hold(&mut self.serials, &mut self.held, &message).is_err()
-        {
-            return Err(dropped(message));
-        }
-        let Ok(_) = self.outbox.push(message) else {
-            unreachable!()
-        };
+        send(
+            &mut self.serials,
+            &mut self.outbox,
+            &mut self.held,
+            message,
+        )?;
         self.clock = next.clock;
         Ok(())
     }

@@ -1,0 +1,51 @@
+use Rattle.std.proofs.Common.{refl, sym, ◌∙◌, ap, ◌+◌, ◌≡◌, ◌∷◌, ◌++◌, [], subst}
+use Rattle.std.specs.List.{filter}
+use Rattle.rbac_words.specs.Stamp.{insert_by_stamp}
+use Rattle.rbac_words.specs.Front.{is_of}
+use Rattle.rbac_words.specs.Message.{submitted_at, next_serial, commands_of}
+use Rattle.rbac_words.specs.World.{stamp, submit_refusal}
+use Rattle.rbac_words.specs.Member.{Member, IsMember, known, node_of, submitted}
+use Rattle.rbac_words.specs.declared.message.Message.{Message}
+use Rattle.rbac_words.specs.declared.message.Message.TheVariants.{Call}
+use Rattle.rbac_words.specs.declared.message.Submission.{Submission}
+use Rattle.rbac_words.specs.declared.stamp.Stamp.{Stamp}
+use Rattle.rbac_order.proofs.MemberLemmas.{passed_submit, keeps_submit}
+use Rattle.rbac_member.specs.Inside.{member_of}
+use Rattle.rbac_member.specs.Lists.{CanBeHeld}
+use Rattle.rbac_member.specs.Serials.{counted, AreCounted}
+use Rattle.rbac_member.proofs.SerialLemmas.{counted-held}
+use Rattle.rbac_member.proofs.HoldLemmas.{submission_fits, submitted_is}
+use Rattle.rbac_member.proofs.member.Member.send_call.Goals as goal
+
+pub send-requires : goal.send-requires
+send-requires c =
+    let v = member_of c.self.inside in
+    let next = c.requires.next ∙ ap (λ (m : Member). stamp (m.clock + 1) m.number) (sym c.self.view_is) in
+    (subst (λ (s : Stamp). let x : Submission = record { stamp = s; caller = c.args.caller; serial = c.args.serial; command = c.args.command } in CanBeHeld c.self.inside.held x) (sym next)
+    (submission_fits v c.self.inside.held c.args.caller c.args.serial c.args.command c.self.invariant.members refl c.self.invariant.kept), tt)
+
+pub invariant_of-self-2 : goal.invariant_of-self-2
+invariant_of-self-2 c =
+    let v = member_of c.self.inside in
+    let next = c.requires.next ∙ ap (λ (m : Member). stamp (m.clock + 1) m.number) (sym c.self.view_is) in
+    let free = ap (λ (m : Member). submit_refusal m.group (node_of m) c.args.caller c.args.serial) c.self.view_is ∙ c.requires.accepted in
+    let x : Submission = record { stamp = c.args.next; caller = c.args.caller; serial = c.args.serial; command = c.args.command } in
+    let sent = c.in_ok-send.ensures.sent in
+    let is = submitted_is v c.args.caller c.args.serial c.args.command c.args.next c.send.new.outbox.sent c.send.new.held.held next sent c.in_ok-send.ensures.held c.self.invariant.kept in
+    let turn = (passed_submit v c.args.caller c.args.serial free).next ∙ ap (next_serial c.args.caller) (sym c.self.invariant.kept.own) ∙ ap (λ (s : Stamp). next_serial c.args.caller (filter (is_of s.member) (known v))) (sym next) in
+    record {
+      counted = subst (λ l. AreCounted c.send.new.serials.content (commands_of v.history ++ l)) (sym c.in_ok-send.ensures.held)
+          (subst (λ l. AreCounted l (commands_of v.history ++ insert_by_stamp submitted_at x v.held)) (sym c.in_ok-send.ensures.counted) (counted-held c.self.inside.serials.content (commands_of v.history) v.held x c.self.invariant.counted turn));
+      limit = c.send.ensures.limit ∙ c.self.invariant.limit;
+      me = c.self.invariant.me;
+      members = c.send.ensures.members ∙ c.self.invariant.members;
+      kept = subst IsMember (sym is) (keeps_submit v c.args.caller c.args.serial c.args.command free c.self.invariant.kept);
+    }
+
+pub returns-clause-submitted : goal.returns-clause-submitted
+returns-clause-submitted c =
+    let v = member_of c.self.inside in
+    let next = c.requires.next ∙ ap (λ (m : Member). stamp (m.clock + 1) m.number) (sym c.self.view_is) in
+    let sent = c.in_ok-send.ensures.sent in
+    submitted_is v c.args.caller c.args.serial c.args.command c.args.next c.send.new.outbox.sent c.send.new.held.held next sent c.in_ok-send.ensures.held c.self.invariant.kept
+    ∙ ap (λ (m : Member). submitted m c.args.caller c.args.serial c.args.command) c.self.view_is

@@ -1,0 +1,41 @@
+use Rattle.std.proofs.Common.{refl, sym, ◌∙◌, ap, ◌≡◌, ◌++◌, subst, None, Option}
+use Rattle.rbac_words.specs.Links.{Links, taken_from}
+use Rattle.rbac_words.specs.Message.{submissions_of, submitted_at, commands_of}
+use Rattle.rbac_words.specs.Stamp.{insert_all}
+use Rattle.rbac_words.specs.World.{clock_after, acknowledgement, acks}
+use Rattle.rbac_words.specs.Member.{Member, IsMember, node_of, message_refusal, received}
+use Rattle.rbac_words.specs.declared.stamp.Stamp.{Stamp}
+use Rattle.rbac_order.proofs.MemberLemmas.{keeps_received}
+use Rattle.rbac_member.specs.Inside.{member_of}
+use Rattle.rbac_member.specs.Serials.{AreCounted}
+use Rattle.rbac_member.proofs.ReceiveLemmas.{next_is, room_is_free, serial_in_turn}
+use Rattle.rbac_member.proofs.HoldLemmas.{message_fits, received_is, counted_received}
+use Rattle.rbac_member.proofs.member.Member.take.Goals as goal
+
+pub hold-requires : goal.hold-requires
+hold-requires c =
+    let v = member_of c.self.inside in
+    let free = ap (λ (m : Member). message_refusal m c.args.from c.args.number c.args.message.now) c.self.view_is ∙ c.requires.accepted in
+    message_fits v c.self.inside.held c.args.from c.args.message.now c.self.invariant.members refl c.self.invariant.kept (next_is v c.args.from c.args.number c.args.message.now c.self.invariant.kept free)
+
+pub invariant_of-self-2 : goal.invariant_of-self-2
+invariant_of-self-2 c =
+    let v = member_of c.self.inside in
+    let from = c.args.from in
+    let m = c.args.message.now in
+    let free = ap (λ (u : Member). message_refusal u from c.args.number m) c.self.view_is ∙ c.requires.accepted in
+    let clock = c.requires.clock ∙ ap (λ (u : Member). clock_after (node_of u) m) (sym c.self.view_is) in
+    let ack = c.requires.stamp ∙ ap (λ (u : Member). acknowledgement (node_of u) m) (sym c.self.view_is) in
+    let sent = c.acknowledge.ensures.sent ∙ ap (λ l. l ++ acks c.args.stamp) c.make_room.ensures.sent in
+    let taken = c.in-Ok.ensures.taken ∙ ap (taken_from c.self.inside.links from) c.stamp.ensures in
+    let is = received_is v from m c.args.clock c.args.stamp c.acknowledge.new.outbox.sent c.accept.new.self c.hold.new.held.held clock ack sent
+    (ap (λ (l : Links). l.read) taken) (ap (λ (l : Links). l.latest) taken) c.in_ok-hold.ensures.held in
+    record {
+      counted = subst (λ l. AreCounted c.hold.new.serials.content (commands_of v.history ++ l)) (sym c.in_ok-hold.ensures.held)
+          (subst (λ l. AreCounted l (commands_of v.history ++ insert_all submitted_at (submissions_of m) v.held)) (sym c.in_ok-hold.ensures.counted)
+          (counted_received c.self.inside.serials.content v m c.self.invariant.counted (serial_in_turn v from c.args.number m free)));
+      limit = c.acknowledge.ensures.limit ∙ c.make_room.ensures.limit ∙ c.self.invariant.limit;
+      me = ap (λ (l : Links). l.me) taken ∙ c.self.invariant.me;
+      members = c.hold.ensures.members ∙ c.self.invariant.members;
+      kept = subst IsMember (sym is) (keeps_received v from m c.self.invariant.kept (next_is v from c.args.number m c.self.invariant.kept free) (room_is_free v from c.args.number m free));
+    }
