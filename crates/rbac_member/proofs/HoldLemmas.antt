@@ -63,7 +63,6 @@ message_fits v h from m members held k next = Each-weaker (λ (x : Submission). 
           (λ y b f. subst (IsBefore y.stamp) (sym e) (b (f ∙ ap (λ (s : Stamp). s.member) e ∙ next.sender))) below);
     }
 
-
 -- ---- What a submit and a receipt leave
 
 -- a message with the next stamp was sent and is held

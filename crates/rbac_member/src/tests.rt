@@ -83,7 +83,10 @@ fn expect_record(rt: &impl Abort, member: &Member, place: usize, wanted: Stamp, 
 #[test]
 fn founds_a_member_with_no_past(rt: HostRuntime) {
     let member = first_of(&rt, rt.alloc(), 2, 7, 5);
-    assert_eq!(rt; (member.number(), member.clock(), member.read(2)), (1, 7, 0));
+    assert_eq!(rt;
+        (member.number(), member.clock(), member.read(2)),
+        (1, 7, 0)
+    );
     assert!(rt; member.sent().is_empty() && member.history().is_empty());
     member.invariants();
 }

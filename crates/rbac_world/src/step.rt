@@ -65,11 +65,7 @@ fn deliver(members: &mut [Member], alloc: Global, at: u32) -> Result<Outcome, Re
 }
 
 // One event: its outcome, or the first refusal that applies, which leaves the members as they were.
-pub(crate) fn step(
-    members: &mut [Member],
-    alloc: Global,
-    event: &Event,
-) -> Result<Outcome, Refusal>
+pub(crate) fn step(members: &mut [Member], alloc: Global, event: &Event) -> Result<Outcome, Refusal>
     ensures { (group : GroupValue) (vocabulary : VocabularyValue) → AreMembers group vocabulary members.old → IsGroupStep group vocabulary members.old event.now result members.new }
 {
     match event {

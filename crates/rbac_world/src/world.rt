@@ -72,8 +72,7 @@ fn found_all(
 fn has_read_of(member: &Member, other: &Member) -> bool
     ensures { result ≡ has_read member.now other.now }
 {
-    member.number() == other.number()
-        || member.read(other.number()) as usize == other.sent().len()
+    member.number() == other.number() || member.read(other.number()) as usize == other.sent().len()
 }
 
 // Whether a member has read all that each of the others sent.

@@ -14,12 +14,14 @@ fn take_over(held: &mut Holdback, history: &mut Vec<Record>, answer: Answer)
     ensures taken_over { TakesOver answer held.old.held history.old.items held.new.held history.new.items }
     ensures members { held.new.members ≡ held.old.members }
 {
-    let Some(Held {
-        stamp,
-        caller,
-        serial,
-        command,
-    }) = held.take_least()
+    let Some(
+        Held {
+            stamp,
+            caller,
+            serial,
+            command,
+        },
+    ) = held.take_least()
     else {
         unreachable!()
     };

@@ -132,12 +132,7 @@ impl Member {
     }
 
     // The clock after a message, where nothing but memory stands in its way.
-    fn clock_upon(
-        &self,
-        from: u32,
-        number: u32,
-        message: &Message,
-    ) -> Result<u64, ReceiveRefusal>
+    fn clock_upon(&self, from: u32, number: u32, message: &Message) -> Result<u64, ReceiveRefusal>
         ensures clock { IfOk result (λ clock. clock ≡ clock_after (node_of self.now) message.now) }
         ensures accepted { OnOk result (message_refusal self.now from number message.now ≡ None) }
         ensures first_refusal { IfErr result (λ refusal. (message_refusal self.now from number message.now ≡ rule_of (receipt_refused refusal)) × (refusal ≢ ReceiveRefusal.NoMemory)) }

@@ -143,12 +143,7 @@ impl Member {
             serial,
             command,
         };
-        send(
-            &mut self.serials,
-            &mut self.outbox,
-            &mut self.held,
-            message,
-        )?;
+        send(&mut self.serials, &mut self.outbox, &mut self.held, message)?;
         self.clock = next.clock;
         Ok(())
     }

@@ -20,9 +20,11 @@ use Rattle.rbac_member.proofs.member.Member.send_call.Goals as goal
 pub send-requires : goal.send-requires
 send-requires c =
     let v = member_of c.self.inside in
-    let next = c.requires.next ∙ ap (λ (m : Member). stamp (m.clock + 1) m.number) (sym c.self.view_is) in
-    (subst (λ (s : Stamp). let x : Submission = record { stamp = s; caller = c.args.caller; serial = c.args.serial; command = c.args.command } in CanBeHeld c.self.inside.held x) (sym next)
-    (submission_fits v c.self.inside.held c.args.caller c.args.serial c.args.command c.self.invariant.members refl c.self.invariant.kept), tt)
+    let next = c.requires.next ∙ ap (λ (m : Member). stamp (m.clock + 1) m.number) (sym c.self.view_is) in (
+      subst (λ (s : Stamp). let x : Submission = record { stamp = s; caller = c.args.caller; serial = c.args.serial; command = c.args.command } in CanBeHeld c.self.inside.held x) (sym next)
+          (submission_fits v c.self.inside.held c.args.caller c.args.serial c.args.command c.self.invariant.members refl c.self.invariant.kept),
+      tt,
+    )
 
 pub invariant_of-self-2 : goal.invariant_of-self-2
 invariant_of-self-2 c =
