@@ -194,23 +194,3 @@ fn delivers_in_stamp_order_when_all_have_passed(rt: HostRuntime) {
     expect_record(&rt, &member, 0, stamp(1, 1), Answer::Done);
     expect_record(&rt, &member, 1, stamp(1, 2), denied);
 }
-
-#[test]
-fn names_a_full_sent_list_upon_a_command(rt: HostRuntime) {
-    let alloc = rt.alloc();
-    let mut small = first_of(&rt, alloc, 2, 0, 1);
-    expect_submit(&rt, alloc, &mut small, 0, Ok(stamp(1, 1)));
-    let theirs = call(&rt, alloc, stamp(1, 2), 9);
-    let wanted = Err(ReceiveRefusal::SentFull);
-    expect_receipt(&rt, &mut small, 2, 1, theirs, wanted);
-    assert_eq!(rt; (small.clock(), small.read(2)), (1, 0));
-}
-
-#[test]
-fn shows_its_policy(rt: HostRuntime) {
-    let alloc = rt.alloc();
-    let member = first_of(&rt, alloc, 1, 0, 5);
-    let missing = Name::read(alloc, b"s1").expect(&rt, "a name");
-    let checked = member.policy().check(&missing, &missing, &missing);
-    assert_eq!(rt; checked, Err(Denial::NoSession));
-}
