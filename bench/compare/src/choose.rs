@@ -8,6 +8,9 @@ use crate::players::Player;
 /// How many lines are tried before it is given up that each of them occurs.
 const LINES_TRIED: usize = 400_000;
 
+/// How many lines of groups there are where each answer would occur in fewer.
+const LEAST_GROUP_LINES: usize = 4_000;
+
 /// Takes the random schedules in which something occurs that did not occur before, and then the first ones, up to the lines
 /// that are wanted. Half of those are of groups, where there are both. What occurs is what the reference answers.
 pub fn chosen_cases(reference: &dyn Player, choices: &Choices, fixed: &[Case]) -> Result<Vec<Case>, String> {
@@ -23,6 +26,7 @@ pub fn chosen_cases(reference: &dyn Player, choices: &Choices, fixed: &[Case]) -
     let lines = choices.lines / kinds.len();
     let mut chosen = Vec::new();
     for is_group in kinds {
+        let lines = if is_group { lines.max(LEAST_GROUP_LINES) } else { lines };
         chosen.extend(chosen_of_kind(reference, choices, is_group, lines, &mut coverage)?);
     }
     Ok(chosen)
@@ -36,9 +40,8 @@ fn chosen_of_kind(
     coverage: &mut Coverage,
 ) -> Result<Vec<Case>, String> {
     let missing = |coverage: &Coverage| {
-        // What of groups is missing is not looked for in days of one member.
-        let all = coverage.missing(choices).len();
-        if is_group { all } else { all - if choices.members.has_groups() { coverage.missing_kinds().len() } else { 0 } }
+        let words = if is_group { coverage.missing_of_groups() } else { coverage.missing_of_one(choices) };
+        words.len()
     };
     let (mut chosen, mut others) = (Vec::new(), Vec::new());
     for case in generate::random_cases(choices, is_group, LINES_TRIED.max(lines)) {

@@ -66,20 +66,21 @@ impl Coverage {
 
     /// What can occur and did not.
     pub fn missing(&self, choices: &Choices) -> Vec<String> {
-        let mut missing = Vec::new();
-        if choices.members.has_one() {
-            missing.extend(self.missing_answers(choices));
-            let others = OUTCOMES.iter().chain(&REFUSALS).chain(&ENDS);
-            missing.extend(others.filter(|word| !self.others.contains_key(**word)).map(|word| word.to_string()));
-        }
-        if choices.members.has_groups() {
-            missing.extend(self.missing_kinds());
-        }
+        let of_one = choices.members.has_one().then(|| self.missing_of_one(choices));
+        let of_groups = choices.members.has_groups().then(|| self.missing_of_groups());
+        of_one.into_iter().chain(of_groups).flatten().collect()
+    }
+
+    /// What can occur at one member and did not.
+    pub fn missing_of_one(&self, choices: &Choices) -> Vec<String> {
+        let mut missing = self.missing_answers(choices);
+        let others = OUTCOMES.iter().chain(&REFUSALS).chain(&ENDS);
+        missing.extend(others.filter(|word| !self.others.contains_key(**word)).map(|word| word.to_string()));
         missing
     }
 
     /// The kinds of events of groups that did not occur.
-    pub fn missing_kinds(&self) -> Vec<String> {
+    pub fn missing_of_groups(&self) -> Vec<String> {
         let absent = group_run::KINDS.iter().filter(|kind| !self.kinds.contains_key(**kind));
         absent.map(|kind| kind.to_string()).collect()
     }

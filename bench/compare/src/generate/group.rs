@@ -54,7 +54,12 @@ pub fn case(random: &mut Random, rows: &[&'static Row], extent: Extent, number: 
     let founding = day.founding(&format!("members = {members}\nclock = {clock}\nsent_limit = {sent_limit}"));
     let model = Model::new(members, clock, sent_limit);
     let mut group = Group { day, habits, model, awake, schedule: Vec::new() };
-    (0..length).for_each(|_| group.step());
+    for _ in 0..length {
+        if group.is_stuck() && group.day.random.chance(2) {
+            break;
+        }
+        group.step();
+    }
     if group.day.random.chance(65) {
         group.end();
     }
@@ -71,6 +76,12 @@ impl Group<'_> {
         let varied = self.day.random.chance(self.habits.varied);
         let line = if varied { event.varied(self.day.random) } else { event.compact() };
         self.line(&line);
+    }
+
+    /// Whether nobody who is awake can submit or take anything.
+    fn is_stuck(&self) -> bool {
+        let can_receive = self.model.open_pairs().iter().any(|(at, _)| self.awake.contains(at));
+        !can_receive && !self.awake.iter().any(|at| self.model.can_submit(*at))
     }
 
     /// Each command makes about as many messages as there are pairs of members, so in a large group few are submitted.
