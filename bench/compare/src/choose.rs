@@ -12,14 +12,13 @@ const LINES_TRIED: usize = 400_000;
 const LEAST_GROUP_LINES: usize = 4_000;
 
 /// Takes the random schedules in which something occurs that did not occur before, and then the first ones, up to the lines
-/// that are wanted. Half of those are of groups, where there are both. What occurs is what the reference answers.
+/// that are wanted. Half of those are of groups, or all. What occurs is what the reference answers.
 pub fn chosen_cases(reference: &dyn Player, choices: &Choices, fixed: &[Case]) -> Result<Vec<Case>, String> {
     let mut coverage = Coverage::default();
     for (case, played) in fixed.iter().zip(reference.play(fixed)?) {
         coverage.count(case, &played);
     }
     let kinds: Vec<bool> = match choices.members {
-        Members::One => vec![false],
         Members::OneAndGroups => vec![false, true],
         Members::Groups => vec![true],
     };

@@ -1,7 +1,7 @@
 //! Counts what occurred: answers of each command, refusals, ends of runs, and kinds of events of groups.
 
 use crate::case::{Case, Played, lines_of};
-use crate::generate::Choices;
+use crate::generate::{Choices, Members};
 use crate::group_run::{self, GroupRun};
 use crate::rows::{ENDS, GROUP_OUTCOMES, OUTCOMES, REFUSALS, row_of};
 use crate::text::text_between;
@@ -66,9 +66,11 @@ impl Coverage {
 
     /// What can occur and did not.
     pub fn missing(&self, choices: &Choices) -> Vec<String> {
-        let of_one = choices.members.has_one().then(|| self.missing_of_one(choices));
-        let of_groups = choices.members.has_groups().then(|| self.missing_of_groups());
-        of_one.into_iter().chain(of_groups).flatten().collect()
+        let mut missing = self.missing_of_groups();
+        if choices.members == Members::OneAndGroups {
+            missing.extend(self.missing_of_one(choices));
+        }
+        missing
     }
 
     /// What can occur at one member and did not.
@@ -159,7 +161,7 @@ fn end_of(played: &Played) -> String {
 #[cfg(test)]
 mod tests {
     use super::*;
-    use crate::generate::{Extent, Members};
+    use crate::generate::Extent;
 
     #[test]
     fn what_occurred_is_not_missing() {
@@ -172,7 +174,8 @@ mod tests {
         let mut coverage = Coverage::default();
         let case = Case::new("a".to_owned(), None, schedule.to_vec());
         coverage.count(&case, &Played::new(0, output.to_vec(), String::new()));
-        let choices = Choices { seed: 1, lines: 0, reviews: false, extent: Extent::Whole, members: Members::One };
+        let choices =
+            Choices { seed: 1, lines: 0, reviews: false, extent: Extent::Whole, members: Members::OneAndGroups };
         let (all, missing) = (Coverage::default().missing(&choices), coverage.missing(&choices));
         let occurred: Vec<&String> = all.iter().filter(|word| !missing.contains(word)).collect();
         assert_eq!(

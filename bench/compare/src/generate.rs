@@ -14,10 +14,6 @@ use crate::case::Case;
 use crate::random::Random;
 use crate::rows::{Group, ROWS, Row};
 
-/// Whether the program that is compared takes groups of more than one member. Where it does not, schedules of groups are
-/// played only on demand.
-pub const PLAYS_GROUPS: bool = false;
-
 pub struct Choices {
     pub seed: u64,
     /// Lines of random schedules, at least. Those that are always there come on top.
@@ -30,19 +26,8 @@ pub struct Choices {
 /// Of which schedules there are some.
 #[derive(Clone, Copy, PartialEq, Eq)]
 pub enum Members {
-    One,
     OneAndGroups,
     Groups,
-}
-
-impl Members {
-    pub fn has_one(self) -> bool {
-        self != Members::Groups
-    }
-
-    pub fn has_groups(self) -> bool {
-        self != Members::One
-    }
 }
 
 #[derive(Clone, Copy, PartialEq, Eq)]
@@ -68,7 +53,7 @@ impl Choices {
 
 /// The cases that are there whatever the random choices of a day are.
 pub fn fixed_cases(choices: &Choices) -> Vec<Case> {
-    if !choices.members.has_one() {
+    if choices.members == Members::Groups {
         return Vec::new();
     }
     let mut random = Random::new(choices.seed);

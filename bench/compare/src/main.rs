@@ -14,7 +14,7 @@ mod text;
 mod tree;
 
 use coverage::Coverage;
-use generate::{Choices, Extent, Members, PLAYS_GROUPS};
+use generate::{Choices, Extent, Members};
 use players::{Binary, Player, Tried};
 use shrink::Pair;
 use std::path::{Path, PathBuf};
@@ -57,7 +57,7 @@ fn main() -> ExitCode {
 
 fn read_words() -> Option<Words> {
     let (mut reference, mut program, mut tried, mut room) = (None, None, None, None);
-    let members = if PLAYS_GROUPS { Members::OneAndGroups } else { Members::One };
+    let members = Members::OneAndGroups;
     let mut choices = Choices { seed: 1, lines: 100_000, reviews: true, extent: Extent::Whole, members };
     let mut lines = None;
     let mut words = std::env::args().skip(1);
@@ -97,7 +97,7 @@ fn compare(words: &Words) -> Result<bool, String> {
     };
     let choices = &words.choices;
     println!("seed {}", choices.seed);
-    if choices.extent == Extent::Short && choices.members.has_one() {
+    if choices.extent == Extent::Short && choices.members == Members::OneAndGroups {
         println!("left out, since they take rt try too long: schedules that fill the users or the sessions");
     }
     let pair = Pair { reference: &reference, program: program.as_ref() };

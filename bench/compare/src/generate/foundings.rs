@@ -1,6 +1,6 @@
 //! Founding files: good ones in each form, and bad ones with one fault or several.
 
-use super::{Extent, PLAYS_GROUPS};
+use super::Extent;
 use crate::case::Case;
 use crate::random::Random;
 
@@ -25,7 +25,7 @@ const KEYS: [Key; 7] = [
     },
     Key {
         name: "members",
-        good: if PLAYS_GROUPS { &["1", "+1", "0x1", "2", "0b111", "8"] } else { &["1", "+1", "0x1"] },
+        good: &["1", "+1", "0x1", "2", "0b111", "8"],
         bad: &["0", "9", "-1", "\"1\"", "1.0", "[]", "9223372036854775807", "9223372036854775808"],
     },
     Key {
