@@ -347,7 +347,7 @@ module _ (group : Group) (vocabulary : Vocabulary) where
   founded-at (suc n) j zero h = ap (λ k. founded group k vocabulary) (let z : suc j ≡ suc (j + 0) = omega arith in z)
   founded-at (suc n) j (suc i) h = founded-at n (suc j) i (omega arith) ∙ ap (λ k. founded group k vocabulary) (let z : suc (suc j + i) ≡ suc (j + suc i) = omega arith in z)
 
-  founded-nodes : (n j : ℕ) → map node_of (founded_members n j group vocabulary) ≡ founded_nodes n j group
+  pub founded-nodes : (n j : ℕ) → map node_of (founded_members n j group vocabulary) ≡ founded_nodes n j group
   founded-nodes zero j = refl
   founded-nodes (suc n) j = ap (λ l. node_of (founded group (suc j) vocabulary) ∷ l) (founded-nodes n (suc j))
 
@@ -356,7 +356,7 @@ module _ (group : Group) (vocabulary : Vocabulary) where
   get_or-zero (suc n) zero = refl
   get_or-zero (suc n) (suc i) = get_or-zero n i
 
-  founding_are : IsGroup group → AreMembers group vocabulary (founded_members group.members 0 group vocabulary)
+  pub founding_are : IsGroup group → AreMembers group vocabulary (founded_members group.members 0 group vocabulary)
   founding_are g = record {
     count = founded-length group.members 0;
     numbered = λ i h. ap (λ (v : Member). v.number) (at i h) ∙ (let z : suc (0 + i) ≡ i + 1 = omega arith in z);

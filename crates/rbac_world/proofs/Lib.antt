@@ -1,1 +1,4 @@
+pub mod PlaceLemmas
+pub mod PlayLemmas
 pub mod StepLemmas
+pub mod WorldLemmas

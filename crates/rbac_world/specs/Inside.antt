@@ -1,8 +1,8 @@
 -- A world's members as the world of the definitions.
-use Rattle.std.specs.Prelude.{ℕ, zero, suc, Bool, ◌≡◌, ◌<◌, ◌==◌, ◌||◌, List, [], ◌∷◌, length}
+use Rattle.std.specs.Prelude.{ℕ, Bool, ◌<◌, ◌==◌, ◌||◌, List, length, map}
 use Rattle.rbac_words.specs.Founding.{Group, Vocabulary}
 use Rattle.rbac_words.specs.World.{World}
-use Rattle.rbac_words.specs.Member.{Member, founded}
+use Rattle.rbac_words.specs.Member.{Member, founded, numbers}
 use Rattle.rbac_words.specs.Members.{AreMembers, member_at, world_of}
 use Rattle.rbac_member.specs.Calls.{taken_of}
 use Rattle.rbac_world.specs.declared.world.World.TheInside.{Inside}
@@ -22,10 +22,9 @@ pub record IsGroupOf (ms : List Member) : Type 0 where
 abbrev pub IsKept : Inside → Type 0
 IsKept a = IsGroupOf a.members.items
 
--- so many members, numbered from n + 1 on, as they are founded
-abbrev pub founded_members : ℕ → ℕ → Group → Vocabulary → List Member
-founded_members zero n group vocabulary = []
-founded_members (suc more) n group vocabulary = founded group (suc n) vocabulary ∷ founded_members more (suc n) group vocabulary
+-- all members of a group, in order of number, as they are founded
+abbrev pub founded_all : Group → Vocabulary → ℕ → List Member
+founded_all group vocabulary n = map (λ k. founded group k vocabulary) (numbers n 0)
 
 -- whether a member has read all that another one sent
 abbrev pub has_read : Member → Member → Bool

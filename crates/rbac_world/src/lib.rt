@@ -2,11 +2,11 @@
 #![tactic(auto)]
 
 mod moves;
-mod play;
+mod playing;
 mod step;
 mod world;
 
-pub use play::{Stopped, play};
+pub use playing::{Stopped, play};
 pub use rbac_words::{Event, Outcome, Refusal};
 pub use world::World;
 

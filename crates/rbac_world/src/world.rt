@@ -9,7 +9,7 @@ ghost use Rattle.rbac_words.specs.Play.{IsReadToEnd, IsPrefixOf};
 ghost use Rattle.rbac_words.specs.Step.{IsStep};
 ghost use Rattle.rbac_words.specs.declared.event.Event.TheVariants as event;
 ghost use Rattle.rbac_words.specs.declared.event.Outcome.TheVariants as outcome;
-ghost use Rattle.rbac_world.specs.Inside.{has_read, founded_members};
+ghost use Rattle.rbac_world.specs.Inside.{has_read, founded_all};
 
 use crate::step::{place_of, step};
 use rbac_member::Member;
@@ -53,16 +53,16 @@ fn founded_member(
 }
 
 // All members of a group, in order of number.
-fn founded_all(
+fn found_all(
     alloc: Global,
     group: Group,
     vocabulary: &Vocabulary,
 ) -> Result<Vec<Member>, AllocError>
-    ensures { IfOk result (λ members. members.items ≡ founded_members group.members 0 group vocabulary.now) }
+    ensures { IfOk result (λ members. members.items ≡ founded_all group vocabulary.now group.members) }
 {
     let mut members = Vec::new(alloc);
-    for number in 1..=group.members() {
-        let member = founded_member(alloc, group, number, vocabulary)?;
+    for place in 0..group.members() {
+        let member = founded_member(alloc, group, place + 1, vocabulary)?;
         members.push(member)?;
     }
     Ok(members)
@@ -83,13 +83,20 @@ fn has_read_all(member: &Member, others: &[Member]) -> bool
     others.iter().all(|other| has_read_of(member, other))
 }
 
+// Whether each member has read all that each other one sent.
+fn have_read_all(members: &[Member]) -> bool
+    ensures { result ≡ list_all (λ member. list_all (has_read member) members.now) members.now }
+{
+    members.iter().all(|member| has_read_all(member, members))
+}
+
 impl World {
     /// The founding world of a group: each member at the group's clock, with nothing sent, read or delivered.
     pub fn found(alloc: Global, group: Group, vocabulary: Vocabulary) -> Result<World, AllocError>
         ensures { IfOk result (λ w. w ≡ founding_world group vocabulary) }
     {
         group.invariants();
-        let members = founded_all(alloc, group, &vocabulary)?;
+        let members = found_all(alloc, group, &vocabulary)?;
         Ok(World { members })
     }
 
@@ -119,9 +126,7 @@ impl World {
     pub fn read_to_end(&self) -> bool
         ensures { IsTrue result ↔ IsReadToEnd self.now }
     {
-        self.members
-            .iter()
-            .all(|member| has_read_all(member, &self.members))
+        have_read_all(&self.members)
     }
 
     /// Each history is right: it is all commands submitted anywhere up to its last stamp, in stamp order, and each answer

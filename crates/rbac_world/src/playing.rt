@@ -1,5 +1,5 @@
 //! A list of events, one after the other.
-ghost use Rattle.std.specs.Prelude.{◌≡◌, ◌≤◌, length, take, IfOk, IfErr, OnOk};
+ghost use Rattle.std.specs.Prelude.{◌≡◌, ◌≢◌, ◌≤◌, true, false, length, take, Err, IfOk, IfErr, OnOk};
 ghost use Rattle.rbac_words.specs.Play.{world_after, outcomes as outcomes_of};
 ghost use Rattle.rbac_words.specs.Right.{AreHistoriesRight};
 
@@ -11,6 +11,14 @@ use std::alloc::Global;
 #[derive(Clone, Copy, Debug, PartialEq, Eq, Drop)]
 pub struct Stopped {
     pub done: usize,
+}
+
+// Whether memory ran out.
+fn is_starved(outcome: Result<Outcome, Refusal>) -> bool
+    ensures starved { result ≡ true → outcome ≡ Err Refusal.NoMemory }
+    ensures served { result ≡ false → outcome ≢ Err Refusal.NoMemory }
+{
+    matches!(outcome, Err(Refusal::NoMemory))
 }
 
 /// Plays events in a world, and answers the outcome or the refusal of each. Want of memory alone stops it, and then what was
@@ -32,17 +40,14 @@ pub fn play(
         return Err(Stopped { done: 0 });
     }
     for (done, event) in events.iter().enumerate() {
-        match world.step(alloc, event) {
-            Err(Refusal::NoMemory) => {
-                world.right_histories();
-                return Err(Stopped { done });
-            }
-            outcome => {
-                let Ok(()) = outcomes.push(outcome) else {
-                    unreachable!()
-                };
-            }
+        let outcome = world.step(alloc, event);
+        if is_starved(outcome) {
+            world.right_histories();
+            return Err(Stopped { done });
         }
+        let Ok(()) = outcomes.push(outcome) else {
+            unreachable!()
+        };
     }
     world.right_histories();
     Ok(outcomes)

@@ -1,3 +1,0 @@
-pub mod ReceiveLemmas
-pub mod SerialLemmas
-pub mod StepLemmas
