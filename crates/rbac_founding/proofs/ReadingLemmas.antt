@@ -1,5 +1,5 @@
 -- Reading values of which each has to be of one kind, and keys that have to be known.
-use Rattle.std.proofs.Common.{◌≡◌, ◌&&◌, ◌||◌, ℕ, List, [], ◌∷◌, map, Bool, true, false, Option, None, Some, is_some, option_map, option_and_then, unwrap_or, if◌then◌else◌, refl, ap}
+use Rattle.std.proofs.Common.{◌≡◌, ◌&&◌, ◌||◌, List, [], ◌∷◌, map, Bool, true, false, Option, None, Some, is_some, option_map, option_and_then, unwrap_or, if◌then◌else◌, refl, ap}
 use Rattle.std.specs.List.{list_any}
 use Rattle.std.specs.Option.{ok_or}
 use Rattle.rbac_founding.specs.Steps.{seen}

@@ -6,7 +6,7 @@ use Rattle.std.specs.List.{list_all}
 use Rattle.toml.specs.Data.{Data, integer, Items, no_items, item, Members, no_members, member, get_member, as_str, as_integer, as_array}
 use Rattle.toml.specs.Parse.{parse_document}
 use Rattle.sorted_keys.specs.Keys.{set_of, repeats}
-use Rattle.rbac_words.specs.Limits.{most_operations, most_objects, most_permissions, last_clock, most_sent}
+use Rattle.rbac_words.specs.Limits.{most_members, most_operations, most_objects, most_permissions, last_clock, most_sent}
 use Rattle.rbac_words.specs.Name.{Permission, is_name, name_cmp, pair_cmp}
 use Rattle.rbac_words.specs.Founding.{Group, Vocabulary, is_listed}
 use Rattle.rbac_founding.specs.Keys.{is_one_of}
@@ -132,10 +132,6 @@ entries_of document = do
 
 -- ---- Whether they are in range
 
--- how many members a group has, until there are larger ones
-abbrev pub founded_members : ℕ
-founded_members = 1
-
 -- the number, if it is one of these
 abbrev pub in_range : ℕ → ℕ → ℤ → Reading ℕ
 in_range least most (pos n) = if nat_le least n && nat_le n most then Ok n else Err OutOfRange
@@ -151,7 +147,7 @@ are_few entries =
 -- the group, where all numbers and all lists are in range
 abbrev pub group_of : Entries → Reading Group
 group_of entries = do
-  members ← in_range 1 founded_members entries.members
+  members ← in_range 1 most_members entries.members
   clock ← in_range 0 last_clock entries.clock
   sent_limit ← in_range 1 most_sent entries.sent_limit
   provided (are_few entries) OutOfRange

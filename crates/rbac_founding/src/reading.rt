@@ -6,11 +6,12 @@ ghost use Rattle.rbac_founding.specs.FoundingEntries.{entries_view};
 use crate::document::{document_of, right_keys};
 use crate::entries::entries_of;
 use crate::founding::Founding;
-use crate::limits::FOUNDED_MEMBERS;
 use crate::names::{names_of, permissions_of};
 use crate::refusal::FoundingRefusal;
 use crate::values::Entries;
-use rbac_words::limits::{LAST_CLOCK, MOST_OBJECTS, MOST_OPERATIONS, MOST_PERMISSIONS, MOST_SENT};
+use rbac_words::limits::{
+    LAST_CLOCK, MOST_MEMBERS, MOST_OBJECTS, MOST_OPERATIONS, MOST_PERMISSIONS, MOST_SENT,
+};
 use rbac_words::{Group, Vocabulary, VocabularyRefusal};
 use std::alloc::Global;
 
@@ -22,7 +23,6 @@ use std::alloc::Global;
 pub fn read_founding(alloc: Global, file: &[u8]) -> Result<Founding, FoundingRefusal>
     ensures founding_read { IfOk result (λ founding. founding_of file.now ≡ Ok founding) }
     ensures first_refusal { IfErr result (λ refusal. refusal ≢ FoundingRefusal.NoMemory → founding_of file.now ≡ Err refusal) }
-    ensures of_one { IfOk result (λ founding. founding.group.members ≡ 1) }
 {
     let document = document_of(alloc, file)?;
     right_keys(&document)?;
@@ -54,10 +54,9 @@ fn are_few(entries: &Entries) -> bool
 /// The group, where all numbers and all lists are in range.
 fn group_of(entries: &Entries) -> Result<Group, FoundingRefusal>
     ensures group { result ≡ group_of (entries_view entries.now) }
-    ensures of_one { IfOk result (λ group. group.members ≡ 1) }
     ensures few { OnOk result (IsTrue (are_few (entries_view entries.now))) }
 {
-    let members = in_range(entries.members, 1, FOUNDED_MEMBERS)?;
+    let members = in_range(entries.members, 1, u64::from(MOST_MEMBERS))?;
     let clock = in_range(entries.clock, 0, LAST_CLOCK)?;
     let sent_limit = in_range(entries.sent_limit, 1, u64::from(MOST_SENT))?;
     if !are_few(entries) {

@@ -58,6 +58,25 @@ fn the_sample(rt: HostRuntime) -> Result<(), AllocError> {
     Ok(())
 }
 
+/// How many members the group of a file has.
+fn members_of(alloc: Global, file: &[u8]) -> Option<u32> {
+    match read_founding(alloc, file) {
+        Ok(founding) => Some(founding.group.members()),
+        Err(_) => None,
+    }
+}
+
+#[test]
+fn groups_of_three_and_of_eight(rt: HostRuntime) -> Result<(), AllocError> {
+    for members in [3, 8] {
+        let file = format!(in rt.alloc();
+            "version = 1\nmembers = {members}\noperations = []\nobjects = []\npermissions = []"
+        )?;
+        assert_eq!(rt; members_of(rt.alloc(), file.as_bytes()), Some(members));
+    }
+    Ok(())
+}
+
 #[test]
 fn a_file_has_1048576_bytes_at_most(rt: HostRuntime) -> Result<(), AllocError> {
     let mut file = Vec::from_slice(rt.alloc(), SAMPLE.as_bytes())?;
@@ -111,7 +130,8 @@ fn the_first_refusal_of_keys_and_numbers(rt: HostRuntime) {
             "version = 1\nmembers = 9\nclock = 1.0",
             FoundingRefusal::WrongKind,
         ),
-        ("version = 1\nmembers = 2", FoundingRefusal::OutOfRange),
+        ("version = 1\nmembers = 0", FoundingRefusal::OutOfRange),
+        ("version = 1\nmembers = 9", FoundingRefusal::OutOfRange),
         ("version = 1\nmembers = -1", FoundingRefusal::OutOfRange),
         (
             "version = 1\nmembers = 1\nclock = 9007199254740992",

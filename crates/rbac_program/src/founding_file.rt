@@ -42,7 +42,6 @@ pub(crate) fn read_file<'w, R: Read + Drop>(
     ensures founding_read { IfOk result (λ founding. IfSome (R.remaining reader) (λ file. founding_of file ≡ Ok founding)) }
     ensures first_refusal { (refusal : Refusal) → result ≡ Err (Fault.Founding refusal) → refusal ≢ Refusal.NoMemory
         → IfSome (R.remaining reader) (λ file. founding_of file ≡ Err refusal) }
-    ensures of_one { IfOk result (λ founding. founding.group.members ≡ 1) }
 {
     match bytes_of(alloc, reader) {
         Ok(bytes) => Ok(read_founding(alloc, &bytes)?),
@@ -55,7 +54,6 @@ pub(crate) fn founding_of<'w, T: Files + AllocGlobal>(
     rt: &T,
     path: &'w str,
 ) -> Result<Founding, Fault<'w>>
-    ensures of_one { IfOk result (λ founding. founding.group.members ≡ 1) }
     ensures sample_group { path.now ≡ codes "-" → IfOk result (λ founding. founding.group ≡ sample_group) }
     ensures sample_vocabulary { path.now ≡ codes "-" → IfOk result (λ founding. founding.vocabulary ≡ sample_vocabulary) }
 {

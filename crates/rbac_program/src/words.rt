@@ -30,7 +30,8 @@ Without words: the same as 'play - -'.
 docs/LINES.md says what lines may contain and what each refusal means, docs/lines.schema.json their shape.
 
 A founding file is TOML with the keys
-  version = 1, members = 1   needed
+  version = 1                needed
+  members                    a whole number from 1 to 8, needed
   operations, objects        arrays of names, needed
   permissions                an array of [operation, object], needed
   clock, sent_limit          whole numbers; 0 and 65536 where they are absent

@@ -3,7 +3,7 @@
 //! Each also asks, at the limit, for what an earlier precondition denies, and goes below the limit and back to it.
 
 use super::Extent;
-use super::builder::Builder;
+use super::builder::{self, Builder};
 use crate::case::Case;
 use crate::random::Random;
 use crate::tree::{self, Tree};
@@ -19,6 +19,7 @@ pub fn cases(random: &mut Random, extent: Extent) -> Vec<Case> {
     ];
     if extent == Extent::Whole {
         cases.push(named("users", None, users()));
+        cases.push(users_at_two_members());
         cases.push(named("sessions", None, sessions()));
     }
     for (number, left) in [0, 1, 20].into_iter().enumerate() {
@@ -54,6 +55,29 @@ fn users() -> Vec<u8> {
         builder.command(name, &[field("user", user)]);
     }
     builder.schedule
+}
+
+/// Member 2 takes each command and member 1 each acknowledgement, and then each of them delivers all commands: both deny the
+/// same one, and then nothing is left.
+fn users_at_two_members() -> Case {
+    const USERS: u32 = 4_097;
+    let mut builder = Builder::new();
+    for user in 1..=USERS {
+        let event = builder.next_submit(0, builder::command("AddUser", &[field("user", &format!("u{user}"))]));
+        builder.line(event.compact());
+    }
+    for (at, from) in [(2, 1), (1, 2)] {
+        for number in 1..=USERS {
+            builder.line(builder::receive(at, from, number).compact());
+        }
+    }
+    for at in [1, 2] {
+        for _ in 0..=USERS {
+            builder.line(builder::deliver(at).compact());
+        }
+    }
+    let founding = format!("version = 1\nmembers = 2\n{VOCABULARY}");
+    Case::of_group("limit-users-at-two-members".to_owned(), founding.into_bytes(), builder.schedule)
 }
 
 fn all_roles() -> Vec<u8> {

@@ -1,4 +1,4 @@
-//! Texts that no golden shows: a member alone receives nothing, and some refusals need a second member.
+//! Texts at the largest numbers, and of refusals that no line gets.
 
 use crate::text::{put_received, put_refused, put_submitted};
 use rbac_words::{Refusal, Stamp};
@@ -29,22 +29,18 @@ fn submitted_and_received(rt: HostRuntime) -> Result<(), AllocError> {
 fn refused_events(rt: HostRuntime) -> Result<(), AllocError> {
     let mut text = Vec::new(rt.alloc());
     for refusal in [
-        Refusal::NotSent,
-        Refusal::Repeat { expected: 2 },
-        Refusal::Gap { expected: 1 },
+        Refusal::Gap {
+            expected: 18_446_744_073_709_551_615,
+        },
         Refusal::StampNotRising,
-        Refusal::SentFull,
         Refusal::NoMemory,
     ] {
         put_refused(&mut text, 5, &refusal)?;
     }
     assert_eq!(rt;
         text.as_slice(),
-        br#"{"line":5,"refused":"NotSent"}
-{"expected":2,"line":5,"refused":"Repeat"}
-{"expected":1,"line":5,"refused":"Gap"}
+        br#"{"expected":18446744073709551615,"line":5,"refused":"Gap"}
 {"line":5,"refused":"StampNotRising"}
-{"line":5,"refused":"SentFull"}
 {"line":5,"refused":"NoMemory"}
 "#
             .as_slice()
