@@ -11,13 +11,26 @@ pub struct Case {
     pub founding: Option<Vec<u8>>,
     /// What stands on standard input, and in the file at the schedule's path.
     pub schedule: Vec<u8>,
+    /// Whether the laws of groups are checked on what is printed for it.
+    pub is_group: bool,
 }
 
 impl Case {
     /// A schedule that is played from standard input on a founding, or on the sample.
     pub fn new(name: String, founding: Option<Vec<u8>>, schedule: Vec<u8>) -> Case {
         let founding_word = if founding.is_some() { file_name(&name) } else { "-".to_owned() };
-        Case { words: vec!["play".to_owned(), founding_word, "-".to_owned()], name, founding, schedule }
+        Case {
+            words: vec!["play".to_owned(), founding_word, "-".to_owned()],
+            name,
+            founding,
+            schedule,
+            is_group: false,
+        }
+    }
+
+    /// A schedule that is played on the founding of a group. A line of it that is taken as an event has each number once.
+    pub fn of_group(name: String, founding: Vec<u8>, schedule: Vec<u8>) -> Case {
+        Case { is_group: true, ..Case::new(name, Some(founding), schedule) }
     }
 
     pub fn founding_name(&self) -> String {

@@ -1,15 +1,20 @@
-//! Counts what occurred: answers of each command, refusals, and ends of runs.
+//! Counts what occurred: answers of each command, refusals, ends of runs, and kinds of events of groups.
 
 use crate::case::{Case, Played, lines_of};
-use crate::generate::Choices;
-use crate::rows::{ENDS, OUTCOMES, REFUSALS, row_of};
-use std::collections::{BTreeMap, VecDeque};
+use crate::generate::{Choices, Members};
+use crate::group_run::{self, GroupRun};
+use crate::rows::{ENDS, GROUP_OUTCOMES, OUTCOMES, REFUSALS, row_of};
+use crate::text::text_between;
+use std::collections::{BTreeMap, HashMap};
 
 #[derive(Default)]
 pub struct Coverage {
     pub lines: u64,
     answers: BTreeMap<(String, String), u64>,
     others: BTreeMap<String, u64>,
+    kinds: BTreeMap<&'static str, u64>,
+    /// Which laws of the order are broken, and where.
+    pub broken_laws: Vec<String>,
 }
 
 /// Commands of lines that are written in another way than compactly are not read here.
@@ -18,7 +23,8 @@ const UNREAD: &str = "(varied lines)";
 impl Coverage {
     pub fn count(&mut self, case: &Case, played: &Played) {
         self.count_other(end_of(played));
-        let mut held = VecDeque::new();
+        // The command of each stamp.
+        let mut submitted: HashMap<String, String> = HashMap::new();
         for (line, text) in case.lines().iter().zip(lines_of(&played.output)) {
             self.lines += 1;
             let text = String::from_utf8_lossy(text);
@@ -28,12 +34,25 @@ impl Coverage {
                 self.count_other("delivered nothing".to_owned());
             } else if let Some(answer) = text.strip_prefix("{\"answer\":") {
                 self.count_other("delivered".to_owned());
-                let command = held.pop_front().unwrap_or_else(|| UNREAD.to_owned());
+                let command = submitted.get(stamp_of(&text)).cloned().unwrap_or_else(|| UNREAD.to_owned());
                 *self.answers.entry((command, word_of(answer).to_owned())).or_default() += 1;
+            } else if let Some(stamp) = text.strip_prefix("{\"acknowledged\":") {
+                let word = if stamp.starts_with("null") { "read" } else { "acknowledged" };
+                self.count_other(word.to_owned());
             } else {
                 self.count_other("submitted".to_owned());
-                held.push_back(command_of(line));
+                submitted.insert(stamp_of(&text).to_owned(), command_of(line));
             }
+        }
+        if case.is_group {
+            self.count_group(case, played);
+        }
+    }
+
+    fn count_group(&mut self, case: &Case, played: &Played) {
+        match GroupRun::read(case, played) {
+            Err(law) => self.broken_laws.push(law),
+            Ok(run) => run.kinds.into_iter().for_each(|kind| *self.kinds.entry(kind).or_default() += 1),
         }
     }
 
@@ -47,10 +66,25 @@ impl Coverage {
 
     /// What can occur and did not.
     pub fn missing(&self, choices: &Choices) -> Vec<String> {
+        let mut missing = self.missing_of_groups();
+        if choices.members == Members::OneAndGroups {
+            missing.extend(self.missing_of_one(choices));
+        }
+        missing
+    }
+
+    /// What can occur at one member and did not.
+    pub fn missing_of_one(&self, choices: &Choices) -> Vec<String> {
         let mut missing = self.missing_answers(choices);
         let others = OUTCOMES.iter().chain(&REFUSALS).chain(&ENDS);
         missing.extend(others.filter(|word| !self.others.contains_key(**word)).map(|word| word.to_string()));
         missing
+    }
+
+    /// The kinds of events of groups that did not occur.
+    pub fn missing_of_groups(&self) -> Vec<String> {
+        let absent = group_run::KINDS.iter().filter(|kind| !self.kinds.contains_key(**kind));
+        absent.map(|kind| kind.to_string()).collect()
     }
 
     /// The answers of commands that can occur and did not.
@@ -68,8 +102,8 @@ impl Coverage {
             row_of(command).map_or(command == UNREAD, |row| row.answers.contains(&answer))
         };
         let answers = self.answers.keys().filter(|(command, answer)| !is_known(command, answer));
-        let others =
-            self.others.keys().filter(|word| !OUTCOMES.iter().chain(&REFUSALS).chain(&ENDS).any(|known| known == word));
+        let known = OUTCOMES.iter().chain(&GROUP_OUTCOMES).chain(&REFUSALS).chain(&ENDS);
+        let others = self.others.keys().filter(|word| !known.clone().any(|known| known == word));
         answers.map(|(command, answer)| format!("{command} {answer}")).chain(others.cloned()).collect()
     }
 
@@ -83,11 +117,15 @@ impl Coverage {
         }
         let words: Vec<String> = self.others.iter().map(|(word, count)| format!("{word} {count}")).collect();
         println!("  lines and runs: {}", words.join(", "));
+        let words: Vec<String> = self.kinds.iter().map(|(kind, count)| format!("{kind} {count}")).collect();
+        if !words.is_empty() {
+            println!("  in groups: {}", words.join(", "));
+        }
     }
 }
 
-fn text_between<'a>(text: &'a str, before: &str, after: &str) -> Option<&'a str> {
-    text.split_once(before)?.1.split_once(after).map(|(between, _)| between)
+fn stamp_of(text: &str) -> &str {
+    text_between(text, "\"stamp\":", "}").unwrap_or_default()
 }
 
 /// The word of an answer: its text, its denial, or the kind of its list.
@@ -136,7 +174,8 @@ mod tests {
         let mut coverage = Coverage::default();
         let case = Case::new("a".to_owned(), None, schedule.to_vec());
         coverage.count(&case, &Played::new(0, output.to_vec(), String::new()));
-        let choices = Choices { seed: 1, lines: 0, reviews: false, extent: Extent::Whole };
+        let choices =
+            Choices { seed: 1, lines: 0, reviews: false, extent: Extent::Whole, members: Members::OneAndGroups };
         let (all, missing) = (Coverage::default().missing(&choices), coverage.missing(&choices));
         let occurred: Vec<&String> = all.iter().filter(|word| !missing.contains(word)).collect();
         assert_eq!(
@@ -152,7 +191,7 @@ mod tests {
         let mut coverage = Coverage::default();
         let case = Case::new("a".to_owned(), None, b"{\"name\":\"AddUser\"}\n{}\n".to_vec());
         let output =
-            b"{\"line\":1,\"stamp\":[1,1]}\n{\"answer\":\"Granted\",\"caller\":0,\"line\":2}\n{\"refused\":\"Odd\"}\n";
+            b"{\"line\":1,\"stamp\":[1,1]}\n{\"answer\":\"Granted\",\"line\":2,\"stamp\":[1,1]}\n{\"refused\":\"Odd\"}\n";
         coverage.count(&case, &Played::new(1, output.to_vec(), "rbac_monitor: run: Odd\n".to_owned()));
         assert_eq!(coverage.unknown(), ["AddUser Granted", "status 1 run: Odd"]);
     }

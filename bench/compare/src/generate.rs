@@ -5,8 +5,10 @@ mod cutting;
 mod day;
 mod ends;
 mod foundings;
+mod group;
 mod hostile;
 mod limits;
+mod model;
 
 use crate::case::Case;
 use crate::random::Random;
@@ -18,6 +20,14 @@ pub struct Choices {
     pub lines: usize,
     pub reviews: bool,
     pub extent: Extent,
+    pub members: Members,
+}
+
+/// Of which schedules there are some.
+#[derive(Clone, Copy, PartialEq, Eq)]
+pub enum Members {
+    OneAndGroups,
+    Groups,
 }
 
 #[derive(Clone, Copy, PartialEq, Eq)]
@@ -43,6 +53,9 @@ impl Choices {
 
 /// The cases that are there whatever the random choices of a day are.
 pub fn fixed_cases(choices: &Choices) -> Vec<Case> {
+    if choices.members == Members::Groups {
+        return Vec::new();
+    }
     let mut random = Random::new(choices.seed);
     let mut cases = ends::cases();
     cases.extend(cutting::cases(&mut random, choices.extent));
@@ -54,16 +67,20 @@ pub fn fixed_cases(choices: &Choices) -> Vec<Case> {
     cases
 }
 
-/// Random days with this many lines or more.
-pub fn days(choices: &Choices, lines: usize) -> Vec<Case> {
-    let mut random = Random::new(!choices.seed);
+/// Random schedules with this many lines or more: days of one member, or schedules of groups.
+pub fn random_cases(choices: &Choices, is_group: bool, lines: usize) -> Vec<Case> {
+    let mut random = Random::new(if is_group { !choices.seed ^ 1 << 63 } else { !choices.seed });
     let rows = choices.rows();
-    let mut days: Vec<Case> = Vec::new();
+    let mut cases: Vec<Case> = Vec::new();
     let mut made = 0;
     while made < lines {
-        let day = day::case(&mut random, &rows, days.len());
-        made += day.lines().len();
-        days.push(day);
+        let case = if is_group {
+            group::case(&mut random, &rows, choices.extent, cases.len())
+        } else {
+            day::case(&mut random, &rows, cases.len())
+        };
+        made += case.lines().len();
+        cases.push(case);
     }
-    days
+    cases
 }

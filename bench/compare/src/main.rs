@@ -4,22 +4,24 @@ mod case;
 mod choose;
 mod coverage;
 mod generate;
+mod group_run;
 mod players;
 mod random;
 mod report;
 mod rows;
 mod shrink;
+mod text;
 mod tree;
 
 use coverage::Coverage;
-use generate::{Choices, Extent};
+use generate::{Choices, Extent, Members};
 use players::{Binary, Player, Tried};
 use shrink::Pair;
 use std::path::{Path, PathBuf};
 use std::process::ExitCode;
 
 const HELP: &str = "\
-usage: compare --reference PROGRAM --room FOLDER (--program PROGRAM | --try FOLDER) [--lines N] [--seed N] [--without-reviews]
+usage: compare --reference PROGRAM --room FOLDER (--program PROGRAM | --try FOLDER) [--lines N] [--seed N] [--without-reviews] [--groups]
 
   --reference PROGRAM  the reference
   --program PROGRAM    the monitor, as built
@@ -27,7 +29,8 @@ usage: compare --reference PROGRAM --room FOLDER (--program PROGRAM | --try FOLD
   --room FOLDER        an empty folder for the schedules
   --lines N            at least so many lines of random schedules (100000; with --try as many as it takes for each answer)
   --seed N             of the random choices (1)
-  --without-reviews    no review commands";
+  --without-reviews    no review commands
+  --groups             random schedules of groups alone";
 
 struct Words {
     reference: PathBuf,
@@ -54,7 +57,8 @@ fn main() -> ExitCode {
 
 fn read_words() -> Option<Words> {
     let (mut reference, mut program, mut tried, mut room) = (None, None, None, None);
-    let mut choices = Choices { seed: 1, lines: 100_000, reviews: true, extent: Extent::Whole };
+    let members = Members::OneAndGroups;
+    let mut choices = Choices { seed: 1, lines: 100_000, reviews: true, extent: Extent::Whole, members };
     let mut lines = None;
     let mut words = std::env::args().skip(1);
     while let Some(word) = words.next() {
@@ -66,6 +70,7 @@ fn read_words() -> Option<Words> {
             "--lines" => lines = Some(words.next()?.parse().ok()?),
             "--seed" => choices.seed = words.next()?.parse().ok()?,
             "--without-reviews" => choices.reviews = false,
+            "--groups" => choices.members = Members::Groups,
             _ => return None,
         }
     }
@@ -92,13 +97,13 @@ fn compare(words: &Words) -> Result<bool, String> {
     };
     let choices = &words.choices;
     println!("seed {}", choices.seed);
-    if choices.extent == Extent::Short {
+    if choices.extent == Extent::Short && choices.members == Members::OneAndGroups {
         println!("left out, since they take rt try too long: schedules that fill the users or the sessions");
     }
     let pair = Pair { reference: &reference, program: program.as_ref() };
     let mut coverage = Coverage::default();
     let mut cases = generate::fixed_cases(choices);
-    cases.extend(choose::chosen_days(&reference, choices, &cases)?);
+    cases.extend(choose::chosen_cases(&reference, choices, &cases)?);
     for some in cases.chunks(program.cases_at_once()) {
         let played = pair.play(some)?;
         let differing = (0..some.len()).filter(|number| played[*number].0 != played[*number].1);
@@ -111,6 +116,11 @@ fn compare(words: &Words) -> Result<bool, String> {
         }
         for (case, (wanted, _)) in some.iter().zip(&played) {
             coverage.count(case, wanted);
+        }
+        if !coverage.broken_laws.is_empty() {
+            println!("the outputs are the same, and a law of the order is broken:");
+            coverage.broken_laws.iter().for_each(|law| println!("  {law}"));
+            return Ok(false);
         }
     }
     println!("{} schedules, {} lines: the outputs are the same", cases.len(), coverage.lines);

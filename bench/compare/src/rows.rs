@@ -111,6 +111,9 @@ pub const ROWS: [Row; 43] = [
 /// What a line can get besides the answer of a command.
 pub const OUTCOMES: [&str; 3] = ["submitted", "delivered", "delivered nothing"];
 
+/// What a line can get besides in a group alone.
+pub const GROUP_OUTCOMES: [&str; 5] = ["acknowledged", "read", "NotSent", "Repeat", "Gap"];
+
 /// The refusals of lines, and those of events that a member alone can meet.
 pub const REFUSALS: [&str; 13] = [
     "TooLong",

@@ -2,6 +2,7 @@
 
 use crate::case::{Case, Played, lines_of};
 use crate::players::Player;
+use crate::text::{contains, number_after};
 use std::collections::HashMap;
 use std::ops::Range;
 use std::time::Instant;
@@ -19,11 +20,28 @@ impl Pair<'_> {
     }
 }
 
-/// A line, and the caller whose next submit it is where the reference takes it as one.
+/// A line, and what it is the next one of where the reference takes it.
 #[derive(Clone)]
 struct Line {
     text: Vec<u8>,
-    accepted_of: Option<u32>,
+    next_of: Option<Numbered>,
+}
+
+/// What is numbered.
+#[derive(Clone, Copy, PartialEq, Eq, Hash)]
+enum Numbered {
+    SubmitsOf { at: u32, caller: u32 },
+    Receipts { at: u32, from: u32 },
+}
+
+impl Numbered {
+    /// The key of the number, and the first number.
+    fn key(self) -> (&'static str, u32) {
+        match self {
+            Numbered::SubmitsOf { .. } => ("serial", 0),
+            Numbered::Receipts { .. } => ("number", 1),
+        }
+    }
 }
 
 /// Cuts lines away while the difference stays.
@@ -34,7 +52,7 @@ pub fn shrink(pair: &Pair, case: Case) -> Result<Case, String> {
     };
     let (at_once, time) = pair.program.shrink_effort();
     let mut shrinking =
-        Shrinking { pair, lines: lines_with_callers(&case, wanted), case, at_once, end: Instant::now() + time };
+        Shrinking { pair, lines: numbered_lines(&case, wanted), case, at_once, end: Instant::now() + time };
     let seen = lines_up_to_difference(wanted, got).min(shrinking.lines.len());
     let cut = shrinking.lines[..seen].to_vec();
     if shrinking.differing(std::slice::from_ref(&cut))?[0] {
@@ -116,31 +134,38 @@ fn lines_up_to_difference(wanted: &Played, got: &Played) -> usize {
     alike + 1
 }
 
-fn lines_with_callers(case: &Case, played: &Played) -> Vec<Line> {
+fn numbered_lines(case: &Case, played: &Played) -> Vec<Line> {
     let outputs = lines_of(&played.output);
     let line = |(place, text): (usize, &&[u8])| {
-        let is_accepted = outputs
-            .get(place)
-            .is_some_and(|output| output.starts_with(b"{\"line\":") && contains(output, b"\"stamp\":"));
-        let caller = number_after(text, b"\"caller\":").map(|(_, number)| number);
-        Line { text: text.to_vec(), accepted_of: caller.filter(|_| is_accepted) }
+        let output = outputs.get(place).copied().unwrap_or_default();
+        let number = |key| number_after(text, key).map(|(_, number)| number);
+        let is_submitted = output.starts_with(b"{\"line\":") && contains(output, b"\"stamp\":");
+        let next_of = if is_submitted {
+            number("at").zip(number("caller")).map(|(at, caller)| Numbered::SubmitsOf { at, caller })
+        } else if output.starts_with(b"{\"acknowledged\":") {
+            number("at").zip(number("from")).map(|(at, from)| Numbered::Receipts { at, from })
+        } else {
+            None
+        };
+        Line { text: text.to_vec(), next_of }
     };
     case.lines().iter().enumerate().map(line).collect()
 }
 
-/// The case with these lines alone. Serials are counted anew, so that what was in turn stays in turn.
+/// The case with these lines alone. Serials and messages are counted anew, so that what was in turn stays in turn.
 fn with_lines(case: &Case, lines: &[Line]) -> Case {
-    let mut serials: HashMap<u32, u32> = HashMap::new();
+    let mut counts: HashMap<Numbered, u32> = HashMap::new();
     let mut schedule = Vec::new();
     for (place, line) in lines.iter().enumerate() {
         if place > 0 {
             schedule.push(b'\n');
         }
-        match line.accepted_of {
-            Some(caller) => {
-                let serial = serials.entry(caller).or_default();
-                schedule.extend(with_serial(&line.text, *serial));
-                *serial += 1;
+        match line.next_of {
+            Some(numbered) => {
+                let (key, first) = numbered.key();
+                let count = counts.entry(numbered).or_default();
+                schedule.extend(with_number(&line.text, key, first + *count));
+                *count += 1;
             }
             None => schedule.extend_from_slice(&line.text),
         }
@@ -151,23 +176,11 @@ fn with_lines(case: &Case, lines: &[Line]) -> Case {
     Case { schedule, ..case.clone() }
 }
 
-fn with_serial(line: &[u8], serial: u32) -> Vec<u8> {
-    match number_after(line, b"\"serial\":") {
-        Some((range, _)) => [&line[..range.start], serial.to_string().as_bytes(), &line[range.end..]].concat(),
+fn with_number(line: &[u8], key: &str, number: u32) -> Vec<u8> {
+    match number_after(line, key) {
+        Some((range, _)) => [&line[..range.start], number.to_string().as_bytes(), &line[range.end..]].concat(),
         None => line.to_vec(),
     }
-}
-
-/// The number behind this key, and where it stands.
-fn number_after(line: &[u8], key: &[u8]) -> Option<(Range<usize>, u32)> {
-    let start = line.windows(key.len()).position(|window| window == key)? + key.len();
-    let length = line[start..].iter().take_while(|byte| byte.is_ascii_digit()).count();
-    let number = str::from_utf8(&line[start..start + length]).ok()?.parse().ok()?;
-    Some((start..start + length, number))
-}
-
-fn contains(text: &[u8], part: &[u8]) -> bool {
-    text.windows(part.len()).any(|window| window == part)
 }
 
 #[cfg(test)]
@@ -199,7 +212,7 @@ mod tests {
         fn output(&self, case: &Case) -> String {
             let (mut next, mut came, mut output) = (0, false, String::new());
             for line in case.lines() {
-                let serial = number_after(line, b"\"serial\":").map(|(_, serial)| serial);
+                let serial = number_after(line, "serial").map(|(_, serial)| serial);
                 let is_in_turn = serial == Some(next);
                 next += u32::from(is_in_turn);
                 came |= is_in_turn && contains(line, b"needed");
@@ -218,13 +231,14 @@ mod tests {
             61 => "odd",
             _ => "other",
         });
-        let lines =
-            words.enumerate().map(|(serial, word)| format!("{{\"caller\":0,\"serial\":{serial},\"{word}\"}}\n"));
+        let lines = words
+            .enumerate()
+            .map(|(serial, word)| format!("{{\"at\":1,\"caller\":0,\"serial\":{serial},\"{word}\"}}\n"));
         let case = Case::new("a".to_owned(), None, lines.collect::<String>().into_bytes());
         let (reference, program) = (Fake { odd: "{\"line\":0,\"stamp\":[1,1]}" }, Fake { odd: "differs" });
         let pair = Pair { reference: &reference, program: &program };
         let Ok(left) = shrink(&pair, case) else { panic!("it shrinks") };
-        let wanted = "{\"caller\":0,\"serial\":0,\"needed\"}\n{\"caller\":0,\"serial\":1,\"odd\"}\n";
+        let wanted = "{\"at\":1,\"caller\":0,\"serial\":0,\"needed\"}\n{\"at\":1,\"caller\":0,\"serial\":1,\"odd\"}\n";
         assert_eq!(String::from_utf8_lossy(&left.schedule), wanted);
     }
 }

@@ -68,8 +68,8 @@ impl Tree {
                 written.push('{');
                 for (place, (key, value)) in entries.iter().enumerate() {
                     written.push_str(if place > 0 { "," } else { "" });
-                    if matches!(key.as_str(), "caller" | "serial") {
-                        // Always compact, so that the serials of a schedule can be counted anew.
+                    if matches!(key.as_str(), "at" | "caller" | "serial" | "from" | "number") {
+                        // Always compact, so that a line is easily found to be the event that it is.
                         written.push_str(&format!("\"{key}\":"));
                         value.write(written, &mut Style::Compact);
                         continue;

@@ -10,7 +10,7 @@ use fields::Fields;
 
 pub enum Event {
     Submit { at: u32, caller: u32, serial: u32, command: Command },
-    Receive { at: u32, from: u32 },
+    Receive { at: u32, from: u32, number: u32 },
     Deliver { at: u32 },
 }
 
@@ -44,11 +44,9 @@ pub fn read_line(line: &[u8]) -> Result<Event, LineRefusal> {
             Ok(Event::Submit { at, caller, serial, command: commands::read_command(command)? })
         }
         "receive" => {
-            let (at, from) = (fields.number("at")?, fields.number("from")?);
-            // Messages are numbered, but a member alone has none to receive.
-            fields.number("number")?;
+            let (at, from, number) = (fields.number("at")?, fields.number("from")?, fields.number("number")?);
             fields.end()?;
-            Ok(Event::Receive { at, from })
+            Ok(Event::Receive { at, from, number })
         }
         "deliver" => {
             let at = fields.number("at")?;

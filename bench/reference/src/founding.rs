@@ -8,6 +8,7 @@ use std::collections::HashSet;
 
 #[derive(Debug)]
 pub struct Founding {
+    pub members: u32,
     pub clock: u64,
     pub sent_limit: u32,
     pub vocabulary: Vocabulary,
@@ -84,7 +85,8 @@ impl<'a> Texts<'a> {
     }
 
     fn founding(&self) -> Result<Founding, FoundingRefusal> {
-        require((1..=i64::from(limits::MEMBERS)).contains(&self.members), OutOfRange)?;
+        let members = u32::try_from(self.members).map_err(|_| OutOfRange)?;
+        require((1..=limits::MEMBERS).contains(&members), OutOfRange)?;
         let clock = u64::try_from(self.clock).map_err(|_| OutOfRange)?;
         require(clock <= limits::CLOCK, OutOfRange)?;
         let sent_limit = u32::try_from(self.sent_limit).map_err(|_| OutOfRange)?;
@@ -92,7 +94,7 @@ impl<'a> Texts<'a> {
         require(self.operations.len() <= limits::OPERATIONS, OutOfRange)?;
         require(self.objects.len() <= limits::OBJECTS, OutOfRange)?;
         require(self.permissions.len() <= limits::PERMISSIONS, OutOfRange)?;
-        Ok(Founding { clock, sent_limit, vocabulary: self.vocabulary()? })
+        Ok(Founding { members, clock, sent_limit, vocabulary: self.vocabulary()? })
     }
 
     fn vocabulary(&self) -> Result<Vocabulary, FoundingRefusal> {

@@ -17,5 +17,4 @@ pub const PERMISSIONS: usize = 16_384;
 pub const CLOCK: u64 = 9_007_199_254_740_991;
 pub const SENT: u32 = 65_536;
 
-/// The members that this program plays. Groups of up to eight are in the rules, and not here yet.
-pub const MEMBERS: u32 = 1;
+pub const MEMBERS: u32 = 8;

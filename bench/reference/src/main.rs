@@ -1,7 +1,7 @@
 //! Plays commands of role-based access control, one JSON object a line, and answers each line.
 //!
 //! An implementation of the monitor's rules in plain Rust, without proofs and without a line of the monitor, to compare with:
-//! what both programs print for one schedule is the same, byte for byte. It plays groups of one member.
+//! what both programs print for one schedule is the same, byte for byte. It plays groups of one to eight members.
 
 mod answer;
 mod command;

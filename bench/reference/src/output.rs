@@ -17,6 +17,10 @@ macro_rules! put {
 pub fn write_outcome(text: &mut Vec<u8>, line: u64, outcome: &Outcome) {
     match outcome {
         Outcome::Submitted(Stamp { clock, member }) => put!(text, "{{\"line\":{line},\"stamp\":[{clock},{member}]}}\n"),
+        Outcome::Received(None) => put!(text, "{{\"acknowledged\":null,\"line\":{line}}}\n"),
+        Outcome::Received(Some(Stamp { clock, member })) => {
+            put!(text, "{{\"acknowledged\":[{clock},{member}],\"line\":{line}}}\n");
+        }
         Outcome::Delivered(None) => put!(text, "{{\"answer\":null,\"line\":{line}}}\n"),
         Outcome::Delivered(Some(Record { stamp: Stamp { clock, member }, caller, serial, answer })) => {
             text.extend_from_slice(b"{\"answer\":");
@@ -29,6 +33,12 @@ pub fn write_outcome(text: &mut Vec<u8>, line: u64, outcome: &Outcome) {
 /// The line for an event that was refused.
 pub fn write_event_refusal(text: &mut Vec<u8>, line: u64, refusal: EventRefusal) {
     match refusal {
+        EventRefusal::Repeat { expected } => {
+            put!(text, "{{\"expected\":{expected},\"line\":{line},\"refused\":\"Repeat\"}}\n")
+        }
+        EventRefusal::Gap { expected } => {
+            put!(text, "{{\"expected\":{expected},\"line\":{line},\"refused\":\"Gap\"}}\n")
+        }
         EventRefusal::BadSerial { next } => {
             put!(text, "{{\"line\":{line},\"next\":{next},\"refused\":\"BadSerial\"}}\n")
         }

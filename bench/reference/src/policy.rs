@@ -15,9 +15,10 @@ use crate::number_set::NumberSet;
 use crate::table::Table;
 use crate::vocabulary::Vocabulary;
 use std::collections::BTreeMap;
+use std::rc::Rc;
 
 pub struct Policy {
-    vocabulary: Vocabulary,
+    vocabulary: Rc<Vocabulary>,
     users: Table<User>,
     roles: Table<Role>,
     sessions: Table<Session>,
@@ -52,7 +53,7 @@ struct SeparationSet {
 type Changed = Result<(), Denial>;
 
 impl Policy {
-    pub fn new(vocabulary: Vocabulary) -> Policy {
+    pub fn new(vocabulary: Rc<Vocabulary>) -> Policy {
         Policy {
             vocabulary,
             users: Table::new(),

@@ -1,15 +1,16 @@
-//! A group of one member: its clock, what it sent and holds, and its policy.
+//! A group of members, who share nothing but the messages that they take from each other.
+
+mod member;
 
 use crate::answer::Answer;
 use crate::command::Command;
 use crate::event::Event;
 use crate::founding::Founding;
-use crate::limits;
-use crate::policy::Policy;
-use std::collections::{HashMap, VecDeque};
+use member::{Limits, Member};
+use std::rc::Rc;
 
-/// A clock and the number of the member that it is of.
-#[derive(Clone, Copy, Debug, PartialEq, Eq)]
+/// A clock and the number of the member that it is of. The smaller clock comes first, and of equal clocks the smaller number.
+#[derive(Clone, Copy, Debug, PartialEq, Eq, PartialOrd, Ord)]
 pub struct Stamp {
     pub clock: u64,
     pub member: u32,
@@ -17,6 +18,8 @@ pub struct Stamp {
 
 pub enum Outcome {
     Submitted(Stamp),
+    /// The stamp of the acknowledgement: an acknowledgement gets none.
+    Received(Option<Stamp>),
     Delivered(Option<Record>),
 }
 
@@ -32,89 +35,67 @@ pub struct Record {
 pub enum EventRefusal {
     UnknownMember,
     FromSelf,
+    NotSent,
+    Repeat { expected: u32 },
+    Gap { expected: u32 },
     ClockFull,
     SentFull,
     BadSerial { next: u32 },
 }
 
-/// The number of the only member.
-const MEMBER: u32 = 1;
-
-pub struct World {
-    policy: Policy,
-    clock: u64,
-    sent: u32,
-    sent_limit: u32,
-    next_serials: HashMap<u32, u32>,
-    /// Commands that are sent and not delivered. They are held in the order of their stamps.
-    held: VecDeque<Held>,
+/// What a member sends to all others. Without a call it is an acknowledgement.
+#[derive(Clone)]
+struct Message {
+    stamp: Stamp,
+    call: Option<Rc<Call>>,
 }
 
-struct Held {
-    stamp: Stamp,
+/// A command as it was submitted.
+struct Call {
     caller: u32,
     serial: u32,
     command: Command,
 }
 
+pub struct World {
+    /// In order of number, from 1 on.
+    members: Vec<Member>,
+}
+
 impl World {
     pub fn new(founding: Founding) -> World {
-        World {
-            policy: Policy::new(founding.vocabulary),
-            clock: founding.clock,
-            sent: 0,
-            sent_limit: founding.sent_limit,
-            next_serials: HashMap::new(),
-            held: VecDeque::new(),
-        }
+        let vocabulary = Rc::new(founding.vocabulary);
+        let limits = Limits { members: founding.members, sent: founding.sent_limit };
+        let member = |number| Member::new(number, founding.clock, limits, Rc::clone(&vocabulary));
+        World { members: (1..=founding.members).map(member).collect() }
     }
 
     pub fn step(&mut self, event: Event) -> Result<Outcome, EventRefusal> {
         match event {
             Event::Submit { at, caller, serial, command } => {
-                require_member(at)?;
-                self.submit(caller, serial, command).map(Outcome::Submitted)
+                let at = self.place(at)?;
+                self.members[at].submit(Call { caller, serial, command }).map(Outcome::Submitted)
             }
-            Event::Receive { at, from } => {
-                require_member(at)?;
-                require_member(from)?;
-                // The only member that there is to receive from is the receiver itself.
-                Err(EventRefusal::FromSelf)
-            }
+            Event::Receive { at, from, number } => self.receive(at, from, number).map(Outcome::Received),
             Event::Deliver { at } => {
-                require_member(at)?;
-                Ok(Outcome::Delivered(self.deliver()))
+                let at = self.place(at)?;
+                Ok(Outcome::Delivered(self.members[at].deliver()))
             }
         }
     }
 
-    fn submit(&mut self, caller: u32, serial: u32, command: Command) -> Result<Stamp, EventRefusal> {
-        if self.clock >= limits::CLOCK {
-            return Err(EventRefusal::ClockFull);
+    fn receive(&mut self, at: u32, from: u32, number: u32) -> Result<Option<Stamp>, EventRefusal> {
+        let (at, sender) = (self.place(at)?, self.place(from)?);
+        if at == sender {
+            return Err(EventRefusal::FromSelf);
         }
-        if self.sent >= self.sent_limit {
-            return Err(EventRefusal::SentFull);
-        }
-        let next = self.next_serials.get(&caller).copied().unwrap_or(0);
-        if serial != next {
-            return Err(EventRefusal::BadSerial { next });
-        }
-        self.clock += 1;
-        self.sent += 1;
-        self.next_serials.insert(caller, next + 1);
-        let stamp = Stamp { clock: self.clock, member: MEMBER };
-        self.held.push_back(Held { stamp, caller, serial, command });
-        Ok(stamp)
+        let message = self.members[sender].sent_message(number).ok_or(EventRefusal::NotSent)?.clone();
+        self.members[at].receive(sender, number, message)
     }
 
-    /// Delivers the least held command. There is nobody else to hear from, so it is always stable.
-    fn deliver(&mut self) -> Option<Record> {
-        let Held { stamp, caller, serial, command } = self.held.pop_front()?;
-        let answer = self.policy.apply(&command);
-        Some(Record { stamp, caller, serial, answer })
+    /// Where the member of this number stands.
+    fn place(&self, number: u32) -> Result<usize, EventRefusal> {
+        let place = (number as usize).checked_sub(1).filter(|place| *place < self.members.len());
+        place.ok_or(EventRefusal::UnknownMember)
     }
-}
-
-fn require_member(number: u32) -> Result<(), EventRefusal> {
-    if number == MEMBER { Ok(()) } else { Err(EventRefusal::UnknownMember) }
 }

@@ -13,6 +13,7 @@ pub struct Work {
 pub struct Sizes {
     pub refused_lines: usize,
     pub days: usize,
+    pub group_days: usize,
     pub users: usize,
     pub grants: usize,
     pub checks: usize,
@@ -22,10 +23,11 @@ pub struct Sizes {
 }
 
 impl Sizes {
-    /// What a world takes: at most 65,536 submits.
+    /// What a world takes: at most 65,536 messages of each member.
     pub const FULL: Sizes = Sizes {
         refused_lines: 500_000,
         days: 2_000,
+        group_days: 500,
         users: 1_000,
         grants: 3_000,
         checks: 50_000,
@@ -37,6 +39,7 @@ impl Sizes {
     pub const SMALL: Sizes = Sizes {
         refused_lines: 5_000,
         days: 20,
+        group_days: 5,
         users: 50,
         grants: 150,
         checks: 500,
@@ -49,7 +52,7 @@ impl Sizes {
 pub fn all(sizes: &Sizes, with_reviews: bool) -> Vec<Work> {
     let mut works = vec![
         Work { name: "lines refused", founding: None, schedule: refused_lines(sizes.refused_lines) },
-        Work { name: "ordinary days", founding: None, schedule: ordinary_days(sizes.days) },
+        Work { name: "ordinary days", founding: None, schedule: ordinary_days(sizes.days, 1) },
         on_large_policy(sizes, "a large policy made", |_| {}),
         on_large_policy(sizes, "a large policy made, and checks", |schedule| checks(schedule, sizes)),
         on_large_policy(sizes, "a large policy made, and changes of its hierarchy", |schedule| {
@@ -70,8 +73,21 @@ pub fn all(sizes: &Sizes, with_reviews: bool) -> Vec<Work> {
             },
         ));
     }
+    works.push(Work {
+        name: "ordinary days at three members",
+        founding: Some(OF_THREE.to_owned()),
+        schedule: ordinary_days(sizes.group_days, 3),
+    });
     works
 }
+
+/// The sample founding with three members.
+const OF_THREE: &str = r#"version = 1
+members = 3
+operations = ["approve", "pay", "read"]
+objects = ["invoice", "ledger"]
+permissions = [["approve", "invoice"], ["pay", "invoice"], ["read", "ledger"]]
+"#;
 
 /// Submits whose command has a name that is none.
 fn refused_lines(count: usize) -> Schedule {
@@ -85,8 +101,8 @@ fn refused_lines(count: usize) -> Schedule {
 }
 
 /// Each day somebody is hired, works in a session, is denied, and leaves: 19 commands.
-fn ordinary_days(count: usize) -> Schedule {
-    let mut schedule = Schedule::default();
+fn ordinary_days(count: usize, members: usize) -> Schedule {
+    let mut schedule = Schedule::at_members(members);
     for role in ["clerk", "payer", "boss"] {
         schedule.command("AddRole", &[("role", role)]);
     }

@@ -1,15 +1,18 @@
-//! A golden: a schedule and the output that it must get, as a text that a person reads and writes.
+//! A golden: a schedule and the output that it must get on a founding, as a text that a person reads and writes.
 //!
 //! A line that begins with `#` is a sentence, and a golden begins with one. A line `> TEXT` is a line of the schedule, a
-//! line `< TEXT` one of the output, and `>` alone the empty line. In a text `(a x 65)` stands for 65 times `a`; a line
-//! has one such repeat at most. Empty lines separate.
+//! line `< TEXT` one of the output, and `>` alone the empty line. A line `= TEXT` is one of the founding file; a golden
+//! without any is played on the sample founding. In a text `(a x 65)` stands for 65 times `a`; a line has one such repeat
+//! at most. Empty lines separate.
 
 use anyhow::{Context, Result, bail, ensure};
 use std::alloc::Global;
 
-/// A schedule, and the output that it must get.
+/// A founding file, a schedule, and the output that it must get.
 #[derive(Drop)]
 pub struct Golden {
+    /// Empty for the sample founding.
+    pub founding: Vec<u8>,
     pub input: Vec<u8>,
     pub output: Vec<u8>,
 }
@@ -19,6 +22,7 @@ impl Golden {
     pub(crate) fn read(alloc: Global, text: &str) -> Result<Golden> {
         ensure!(text.starts_with("# "), "a golden begins with its sentence");
         let mut golden = Golden {
+            founding: Vec::new(alloc),
             input: Vec::new(alloc),
             output: Vec::new(alloc),
         };
@@ -27,6 +31,8 @@ impl Golden {
                 push_line(&mut golden.input, given)?;
             } else if let Some(wanted) = line.strip_prefix("< ") {
                 push_line(&mut golden.output, wanted)?;
+            } else if let Some(key) = line.strip_prefix("= ") {
+                push_line(&mut golden.founding, key)?;
             } else if line == ">" {
                 push_line(&mut golden.input, "")?;
             } else if !line.is_empty() && !line.starts_with("#") {

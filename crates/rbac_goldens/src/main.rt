@@ -6,21 +6,32 @@ mod golden;
 
 use anyhow::{Context, Result, bail, ensure};
 use golden::Golden;
-use rbac_lines::{Founding, run, sample_founding, watch};
+use rbac_lines::{Founding, read_founding, run, sample_founding, watch};
 use rbac_world::World;
 use std::alloc::Global;
 use std::fs;
 use std::path::Path;
 use std::rt::Files;
 
-// The output of a schedule that is played on the sample founding.
-fn output_of(alloc: Global, input: &[u8]) -> Result<Vec<u8>> {
-    let Founding { group, vocabulary } = sample_founding(alloc)?;
+// The founding of a golden: the sample where it has none of its own.
+fn founding_of(alloc: Global, golden: &Golden) -> Result<Founding> {
+    if golden.founding.is_empty() {
+        return Ok(sample_founding(alloc)?);
+    }
+    match read_founding(alloc, &golden.founding) {
+        Ok(founding) => Ok(founding),
+        Err(refusal) => bail!("its founding is refused: {}", refusal.word()),
+    }
+}
+
+// The output of the schedule of a golden.
+fn output_of(alloc: Global, golden: &Golden) -> Result<Vec<u8>> {
+    let Founding { group, vocabulary } = founding_of(alloc, golden)?;
     let mut world = World::found(alloc, group, vocabulary)?;
     let mut output = Vec::new(alloc);
     let ended = run(
         alloc,
-        &mut watch(input),
+        &mut watch(golden.input.as_slice()),
         &mut watch(&mut output),
         &mut world,
     );
@@ -33,7 +44,7 @@ fn play<R: Files + AllocGlobal + Eprint>(rt: &R, path: Path<'_>) -> Result<()> {
     let alloc = rt.alloc();
     let text = fs::read_to_string(rt, path)?;
     let golden = Golden::read(alloc, &text)?;
-    let output = output_of(alloc, &golden.input)?;
+    let output = output_of(alloc, &golden)?;
     if output != golden.output {
         eprintln!(rt; "{}", String::from_utf8_lossy(alloc, &output)?)?;
         bail!("another output");

@@ -45,16 +45,16 @@ const SURVEYED: usize = 60;
 
 /// What a schedule has much of.
 #[derive(Clone, Copy)]
-struct Habits {
+pub struct Habits {
     /// The weight of each group of commands, in the order of `Group`.
     weights: [usize; 5],
     /// Percent of the lines that are bad.
     hostile: usize,
     /// Percent of the lines that are written with blanks, escapes or another order of keys.
-    varied: usize,
+    pub varied: usize,
 }
 
-const HABITS: [Habits; 7] = [
+pub const HABITS: [Habits; 7] = [
     Habits { weights: [10, 4, 10, 10, 8], hostile: 3, varied: 10 },
     Habits { weights: [10, 20, 10, 0, 10], hostile: 1, varied: 5 },
     Habits { weights: [10, 4, 10, 25, 5], hostile: 1, varied: 5 },
@@ -64,8 +64,8 @@ const HABITS: [Habits; 7] = [
     Habits { weights: [10, 5, 10, 10, 8], hostile: 60, varied: 30 },
 ];
 
-struct Day<'a> {
-    random: &'a mut Random,
+pub struct Day<'a> {
+    pub random: &'a mut Random,
     rows: &'a [&'static Row],
     users: Vec<&'static str>,
     roles: Vec<&'static str>,
@@ -88,34 +88,39 @@ pub fn bad_case(random: &mut Random, rows: &[&'static Row], length: usize, numbe
 }
 
 fn case_with(random: &mut Random, rows: &[&'static Row], habits: &Habits, length: usize, name: String) -> Case {
-    let mut names = |most: usize| -> Vec<&'static str> {
-        let mut names = NAMES;
-        random.shuffle(&mut names);
-        names[..random.between(1, most)].to_vec()
-    };
-    let (users, sessions, sets) = (names(5), names(6), names(2));
-    let (roles, operations, objects) = (names(7), names(3), names(3));
-    let founding = random.chance(70).then(|| founding(random, &operations, &objects));
-    let (operations, objects) = match founding {
-        Some(_) => (operations, objects),
-        None => (vec!["approve", "pay", "read"], vec!["invoice", "ledger"]),
-    };
-    let mut day = Day { random, rows, users, roles, sessions, sets, operations, objects };
+    let mut day = Day::new(random, rows);
+    let founding = day.random.chance(70).then(|| day.founding("members = 1"));
+    if founding.is_none() {
+        (day.operations, day.objects) = (vec!["approve", "pay", "read"], vec!["invoice", "ledger"]);
+    }
     let schedule = day.schedule(habits, length);
     Case::new(name, founding.map(String::into_bytes), schedule)
 }
 
-/// A founding with these operations and objects, and about half of their pairs as permissions.
-fn founding(random: &mut Random, operations: &[&str], objects: &[&str]) -> String {
-    let pairs = operations.iter().flat_map(|operation| objects.iter().map(move |object| (operation, object)));
-    let pairs: Vec<_> = pairs.filter(|_| random.chance(60)).collect();
-    let permissions: Vec<[&str; 2]> = pairs.iter().map(|(operation, object)| [**operation, **object]).collect();
-    format!(
-        "version = 1\nmembers = 1\noperations = {operations:?}\nobjects = {objects:?}\npermissions = {permissions:?}\n"
-    )
-}
+impl<'a> Day<'a> {
+    /// A day with few names of each kind.
+    pub fn new(random: &'a mut Random, rows: &'a [&'static Row]) -> Day<'a> {
+        let mut names = |most: usize| -> Vec<&'static str> {
+            let mut names = NAMES;
+            random.shuffle(&mut names);
+            names[..random.between(1, most)].to_vec()
+        };
+        let (users, sessions, sets) = (names(5), names(6), names(2));
+        let (roles, operations, objects) = (names(7), names(3), names(3));
+        Day { random, rows, users, roles, sessions, sets, operations, objects }
+    }
 
-impl Day<'_> {
+    /// A founding with the operations and objects of the day, about half of their pairs as permissions, and these lines on
+    /// its group.
+    pub fn founding(&mut self, group: &str) -> String {
+        let Day { random, operations, objects, .. } = self;
+        let pairs = operations.iter().flat_map(|operation| objects.iter().map(move |object| [*operation, *object]));
+        let permissions: Vec<[&str; 2]> = pairs.filter(|_| random.chance(60)).collect();
+        format!(
+            "version = 1\n{group}\noperations = {operations:?}\nobjects = {objects:?}\npermissions = {permissions:?}\n"
+        )
+    }
+
     fn schedule(&mut self, habits: &Habits, length: usize) -> Vec<u8> {
         let mut builder = Builder::new();
         if self.random.chance(75) {
@@ -190,7 +195,7 @@ impl Day<'_> {
         self.random.pick(&[0, 1, 1, 2, 9, u32::MAX])
     }
 
-    fn command(&mut self, habits: &Habits) -> Tree {
+    pub fn command(&mut self, habits: &Habits) -> Tree {
         let row = self.row(habits);
         let fields: Vec<(&str, Tree)> = row.fields.iter().map(|field| (*field, self.value(row, field))).collect();
         builder::command(row.name, &fields)

@@ -24,6 +24,7 @@ pub fn cases() -> Vec<Case> {
         words: words.iter().map(|word| word.to_string()).collect(),
         founding: None,
         schedule: short_schedule(),
+        is_group: false,
     };
     words.iter().enumerate().map(named).collect()
 }

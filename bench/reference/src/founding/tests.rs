@@ -10,7 +10,7 @@ fn refusal(key: &str, line: &str) -> Option<FoundingRefusal> {
 #[test]
 fn the_sample_is_taken() {
     let founding = read_founding(SAMPLE.as_bytes()).unwrap();
-    assert_eq!((founding.clock, founding.sent_limit), (0, 65_536));
+    assert_eq!((founding.members, founding.clock, founding.sent_limit), (1, 0, 65_536));
     let number = |text| Name::read(text).unwrap();
     let read = founding.vocabulary.operation(&number("read")).unwrap();
     let pay = founding.vocabulary.operation(&number("pay")).unwrap();
@@ -46,7 +46,7 @@ fn each_refusal() {
     for line in ["clock = -1", "clock = 9007199254740992", "sent_limit = 0", "sent_limit = 65537"] {
         assert_eq!(refusal("none", line), Some(OutOfRange), "{line}");
     }
-    for line in ["members = 0", "members = 2", "members = 9", "members = -1"] {
+    for line in ["members = 0", "members = 9", "members = -1", "members = 4294967297"] {
         assert_eq!(refusal("members", line), Some(OutOfRange), "{line}");
     }
     assert_eq!(refusal("objects", "objects = [\"\"]"), Some(BadName));
@@ -58,6 +58,9 @@ fn each_refusal() {
 
 #[test]
 fn numbers_at_their_ends_are_taken() {
+    for line in ["members = 1", "members = 2", "members = 8"] {
+        assert_eq!(refusal("members", line), None, "{line}");
+    }
     for line in [
         "clock = 0",
         "clock = 9007199254740991",

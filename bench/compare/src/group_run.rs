@@ -1,0 +1,327 @@
+//! What became of a group, read off its schedule and what was printed for it: which kinds of events occurred, and whether the
+//! laws of the order hold.
+
+use crate::case::{Case, Played, lines_of};
+use crate::text::{number_after, text_between};
+use std::collections::BTreeMap;
+
+/// A clock and a member's number, in the order of commands.
+type Stamp = (u64, u32);
+
+/// Of which kinds the events of a run were, and the run itself.
+pub struct GroupRun {
+    pub kinds: Vec<&'static str>,
+}
+
+/// What occurs in groups: each of these has to occur.
+pub const KINDS: [&str; 28] = [
+    "submit taken",
+    "submit UnknownMember",
+    "submit ClockFull",
+    "submit SentFull",
+    "submit BadSerial",
+    "receive command",
+    "receive acknowledgement",
+    "receive UnknownMember as receiver",
+    "receive UnknownMember as sender",
+    "receive FromSelf",
+    "receive NotSent",
+    "receive Repeat",
+    "receive Gap",
+    "receive ClockFull for a command",
+    "receive ClockFull for an acknowledgement",
+    "receive SentFull",
+    "deliver own command",
+    "deliver command of another",
+    "deliver nothing, none held",
+    "deliver nothing, none stable",
+    "deliver UnknownMember",
+    "run of one member",
+    "run of two members",
+    "run of three or four members",
+    "run of five to seven members",
+    "run of eight members",
+    "run delivered to its end",
+    "run that ends before",
+];
+
+#[derive(Default)]
+struct Member {
+    /// Whether each message is a command.
+    sent: Vec<bool>,
+    /// How many messages were taken of each sender.
+    taken: BTreeMap<u32, u32>,
+    /// How many commands it knows, delivered ones among them.
+    known: usize,
+    delivered: usize,
+    last_delivered: Option<Stamp>,
+    /// Whether it delivered nothing when it was asked last, and took nothing since.
+    is_drained: bool,
+}
+
+struct Run {
+    members: Vec<Member>,
+    /// The caller and the serial of each submitted command.
+    submitted: BTreeMap<Stamp, (u32, u32)>,
+    /// The longest sequence that a member delivered: each record with all that was printed but its line.
+    order: Vec<(Stamp, String)>,
+    kinds: Vec<&'static str>,
+}
+
+impl GroupRun {
+    /// Reads a run of a group. An error tells which law is broken, and where.
+    pub fn read(case: &Case, played: &Played) -> Result<GroupRun, String> {
+        let founding = String::from_utf8_lossy(case.founding.as_deref().unwrap_or_default()).into_owned();
+        let members = text_between(&founding, "members = ", "\n").and_then(|number| number.parse().ok());
+        let members: usize = members.ok_or("no number of members")?;
+        let mut run = Run {
+            members: (0..members).map(|_| Member::default()).collect(),
+            submitted: BTreeMap::new(),
+            order: Vec::new(),
+            kinds: Vec::new(),
+        };
+        for (place, (line, output)) in case.lines().into_iter().zip(lines_of(&played.output)).enumerate() {
+            let output = String::from_utf8_lossy(output);
+            run.take(line, &output).map_err(|law| format!("{}, line {}: {law}", case.name, place + 1))?;
+        }
+        run.check_end().map_err(|law| format!("{}: {law}", case.name))?;
+        Ok(run.ended())
+    }
+}
+
+impl Run {
+    fn take(&mut self, line: &[u8], output: &str) -> Result<(), String> {
+        let number = |key| number_after(line, key).map(|(_, number)| number);
+        if output.contains("\"refused\":\"") {
+            let word = text_between(output, "\"refused\":\"", "\"").unwrap_or_default();
+            self.take_refusal(word, number("at"), number("from"), number("number"), number("serial").is_some());
+            return Ok(());
+        }
+        let at = number("at").filter(|at| (1..=self.members.len()).contains(&(*at as usize)));
+        let at = at.ok_or("an event at nobody was taken")?;
+        if output.starts_with("{\"answer\":null") {
+            let member = self.member(at);
+            member.is_drained = true;
+            let holds_some = member.known > member.delivered;
+            self.kinds.push(if holds_some { "deliver nothing, none stable" } else { "deliver nothing, none held" });
+        } else if output.starts_with("{\"answer\":") {
+            return self.take_record(at, stamp_behind(output, "\"stamp\":").ok_or("no stamp")?, output);
+        } else if output.starts_with("{\"acknowledged\":") {
+            let from = number("from").ok_or("nobody to receive from")?;
+            self.take_receipt(at, from, stamp_behind(output, "\"acknowledged\":"));
+        } else {
+            let stamp = stamp_behind(output, "\"stamp\":").ok_or("no stamp")?;
+            let (caller, serial) = number("caller").zip(number("serial")).ok_or("no caller")?;
+            self.submitted.insert(stamp, (caller, serial));
+            self.send(at, true);
+            self.member(at).known += 1;
+            self.kinds.push("submit taken");
+        }
+        Ok(())
+    }
+
+    fn member(&mut self, number: u32) -> &mut Member {
+        &mut self.members[number as usize - 1]
+    }
+
+    fn send(&mut self, at: u32, is_command: bool) {
+        let member = self.member(at);
+        member.sent.push(is_command);
+        member.is_drained = false;
+    }
+
+    fn take_receipt(&mut self, at: u32, from: u32, acknowledgement: Option<Stamp>) {
+        let member = self.member(at);
+        *member.taken.entry(from).or_default() += 1;
+        member.is_drained = false;
+        if acknowledgement.is_some() {
+            member.known += 1;
+            self.send(at, false);
+        }
+        self.kinds.push(if acknowledgement.is_some() { "receive command" } else { "receive acknowledgement" });
+    }
+
+    /// Each member's next record is the next one of those who are ahead of it, was submitted, and comes in stamp order.
+    fn take_record(&mut self, at: u32, stamp: Stamp, output: &str) -> Result<(), String> {
+        let line = text_between(output, ",\"line\":", ",").unwrap_or_default();
+        let text = output.replacen(&format!(",\"line\":{line}"), "", 1);
+        let sent_by = text_between(&text, "\"caller\":", ",").zip(text_between(&text, "\"serial\":", ","));
+        let (caller, serial) = *self.submitted.get(&stamp).ok_or("a command that nobody submitted")?;
+        if sent_by != Some((&caller.to_string(), &serial.to_string())) {
+            return Err("a command of another caller, or with another serial".to_owned());
+        }
+        let member = self.member(at);
+        if member.last_delivered.is_some_and(|last| last >= stamp) {
+            return Err("a command that does not come after the one before it".to_owned());
+        }
+        member.last_delivered = Some(stamp);
+        let place = member.delivered;
+        member.delivered += 1;
+        self.kinds.push(if stamp.1 == at { "deliver own command" } else { "deliver command of another" });
+        match self.order.get(place) {
+            None => self.order.push((stamp, text)),
+            Some((_, other)) if *other == text => {}
+            Some((_, other)) => return Err(format!("another member delivered {other} in its place")),
+        }
+        Ok(())
+    }
+
+    fn take_refusal(&mut self, word: &str, at: Option<u32>, from: Option<u32>, number: Option<u32>, is_submit: bool) {
+        let is_command = |from: u32, number: u32| {
+            self.members.get((from as usize).wrapping_sub(1))?.sent.get((number as usize).wrapping_sub(1)).copied()
+        };
+        let is_member = |at: u32| (1..=self.members.len()).contains(&(at as usize));
+        let refused = match (word, from) {
+            ("ClockFull", Some(from)) => match is_command(from, number.unwrap_or_default()) {
+                Some(true) => "receive ClockFull for a command",
+                _ => "receive ClockFull for an acknowledgement",
+            },
+            ("UnknownMember", Some(_)) if at.is_some_and(is_member) => "receive UnknownMember as sender",
+            ("UnknownMember", Some(_)) => "receive UnknownMember as receiver",
+            ("UnknownMember", None) if !is_submit => "deliver UnknownMember",
+            (_, from) => {
+                let event = if from.is_some() { "receive" } else { "submit" };
+                let kind = KINDS.iter().find(|kind| kind.strip_prefix(event).is_some_and(|rest| rest.trim() == word));
+                match kind {
+                    Some(kind) => kind,
+                    // A line that is no event.
+                    None => return,
+                }
+            }
+        };
+        self.kinds.push(refused);
+    }
+
+    /// Whether each member took all messages of each other.
+    fn is_read_to_the_end(&self) -> bool {
+        let taken = |at: &Member, from: u32| at.taken.get(&from).copied().unwrap_or(0) as usize;
+        (0..self.members.len()).all(|at| {
+            (1..)
+                .zip(&self.members)
+                .all(|(from, sender)| from as usize == at + 1 || taken(&self.members[at], from) == sender.sent.len())
+        })
+    }
+
+    /// What a member delivered is all that was submitted up to its last stamp, and all of it where everybody took everything.
+    fn check_end(&self) -> Result<(), String> {
+        let in_order = self.submitted.keys().zip(&self.order).all(|(submitted, (stamp, _))| submitted == stamp);
+        if !in_order || self.order.len() > self.submitted.len() {
+            return Err("what was delivered is not what was submitted first, in stamp order".to_owned());
+        }
+        let is_all = |member: &Member| !member.is_drained || member.delivered == self.submitted.len();
+        if self.is_read_to_the_end() && !self.members.iter().all(is_all) {
+            return Err("everything was read by everybody, and somebody does not deliver everything".to_owned());
+        }
+        Ok(())
+    }
+
+    fn ended(mut self) -> GroupRun {
+        self.kinds.push(match self.members.len() {
+            1 => "run of one member",
+            2 => "run of two members",
+            3 | 4 => "run of three or four members",
+            5..8 => "run of five to seven members",
+            _ => "run of eight members",
+        });
+        let is_all = |member: &Member| member.is_drained && member.delivered == self.submitted.len();
+        let is_at_end = self.is_read_to_the_end() && self.members.iter().all(is_all);
+        self.kinds.push(if is_at_end { "run delivered to its end" } else { "run that ends before" });
+        GroupRun { kinds: self.kinds }
+    }
+}
+
+/// The stamp behind a key, as `[3,1]`.
+fn stamp_behind(text: &str, key: &str) -> Option<Stamp> {
+    let (clock, member) = text_between(text, &format!("{key}["), "]")?.split_once(',')?;
+    Some((clock.parse().ok()?, member.parse().ok()?))
+}
+
+#[cfg(test)]
+mod tests {
+    use super::*;
+
+    const TWO: &str = "version = 1\nmembers = 2\n";
+
+    /// A line and what is printed for it, without the line's number.
+    fn read(rows: &[(&str, &str)]) -> Result<GroupRun, String> {
+        let schedule: String = rows.iter().map(|(line, _)| format!("{{{line}}}\n")).collect();
+        let output: String = rows.iter().map(|(_, output)| format!("{{{output}}}\n")).collect();
+        let case = Case::of_group("a".to_owned(), TWO.as_bytes().to_vec(), schedule.into_bytes());
+        GroupRun::read(&case, &Played::new(0, output.into_bytes(), String::new()))
+    }
+
+    fn record(serial: u32, clock: u64, answer: &str) -> String {
+        format!(r#""answer":"{answer}","caller":0,"line":9,"serial":{serial},"stamp":[{clock},1]"#)
+    }
+
+    const FIRST: (&str, &str) = (r#""at":1,"caller":0,"serial":0"#, r#""line":1,"stamp":[1,1]"#);
+    const SECOND: (&str, &str) = (r#""at":1,"caller":0,"serial":1"#, r#""line":1,"stamp":[2,1]"#);
+    const READ: [(&str, &str); 4] = [
+        (r#""at":2,"from":1,"number":1"#, r#""acknowledged":[3,2],"line":1"#),
+        (r#""at":2,"from":1,"number":2"#, r#""acknowledged":[5,2],"line":1"#),
+        (r#""at":1,"from":2,"number":1"#, r#""acknowledged":null,"line":1"#),
+        (r#""at":1,"from":2,"number":2"#, r#""acknowledged":null,"line":1"#),
+    ];
+    const NOTHING: &str = r#""answer":null,"line":1"#;
+
+    fn at_1(record: &str) -> (&str, &str) {
+        (r#""at":1"#, record)
+    }
+
+    fn at_2(record: &str) -> (&str, &str) {
+        (r#""at":2"#, record)
+    }
+
+    fn law_of(rows: &[(&str, &str)]) -> String {
+        read(rows).err().unwrap_or_default()
+    }
+
+    #[test]
+    fn a_run_that_keeps_the_laws() {
+        let (first, second) = (record(0, 1, "Done"), record(1, 2, "Done"));
+        let begun = [&[FIRST, SECOND], &READ[..], &[at_1(&first), at_1(&second)]].concat();
+        let Ok(run) = read(&begun) else { panic!("it keeps the laws") };
+        assert!(run.kinds.contains(&"run that ends before"));
+        let end = [at_1(NOTHING), at_2(&first), at_2(&second), at_2(NOTHING)];
+        let Ok(run) = read(&[&begun[..], &end].concat()) else { panic!("it keeps the laws") };
+        for kind in [
+            "run delivered to its end",
+            "submit taken",
+            "receive command",
+            "receive acknowledgement",
+            "deliver nothing, none held",
+        ] {
+            assert!(run.kinds.contains(&kind), "{kind}");
+        }
+    }
+
+    #[test]
+    fn each_law_is_seen_to_be_broken() {
+        let (first, second, other) = (record(0, 1, "Done"), record(1, 2, "Done"), record(0, 1, "Granted"));
+        assert!(law_of(&[FIRST, SECOND, at_1(&first), at_2(&other)]).contains("another member delivered"));
+        assert!(law_of(&[FIRST, SECOND, at_1(&second)]).contains("submitted first"));
+        assert!(law_of(&[FIRST, SECOND, at_1(&second), at_1(&first)]).contains("come after"));
+        assert!(law_of(&[FIRST, at_1(&first), at_1(&first)]).contains("come after"));
+        assert!(law_of(&[FIRST, at_1(&second)]).contains("nobody submitted"));
+        assert!(law_of(&[FIRST, at_1(&record(1, 1, "Done"))]).contains("another serial"));
+        let silent = [&[FIRST, SECOND], &READ[..], &[at_1(&first), at_1(NOTHING)]].concat();
+        assert!(law_of(&silent).contains("everybody"));
+        assert!(law_of(&silent[..5]).is_empty());
+    }
+
+    #[test]
+    fn refusals_are_told_apart() {
+        let refused = |line, word: &'static str| {
+            let output = format!(r#""line":1,"refused":"{word}""#);
+            read(&[FIRST, (line, &output)]).map(|run| run.kinds[1]).unwrap_or("?")
+        };
+        assert_eq!(refused(r#""at":2,"from":1,"number":1"#, "ClockFull"), "receive ClockFull for a command");
+        assert_eq!(refused(r#""at":3,"from":1,"number":1"#, "UnknownMember"), "receive UnknownMember as receiver");
+        assert_eq!(refused(r#""at":1,"from":3,"number":1"#, "UnknownMember"), "receive UnknownMember as sender");
+        assert_eq!(refused(r#""at":3"#, "UnknownMember"), "deliver UnknownMember");
+        assert_eq!(refused(r#""at":3,"caller":0,"serial":0"#, "UnknownMember"), "submit UnknownMember");
+        assert_eq!(refused(r#""at":1,"caller":0,"serial":0"#, "SentFull"), "submit SentFull");
+        assert_eq!(refused(r#""at":2,"from":1,"number":1"#, "SentFull"), "receive SentFull");
+        assert_eq!(refused(r#""at":2,"from":1"#, "MissingField"), "run of two members");
+    }
+}

@@ -1,0 +1,134 @@
+//! One member: its clock, what it sent and has taken of the others, the commands that it holds, and its policy.
+
+use super::{Call, EventRefusal, Message, Record, Stamp};
+use crate::limits;
+use crate::policy::Policy;
+use crate::vocabulary::Vocabulary;
+use std::collections::{BTreeMap, HashMap};
+use std::rc::Rc;
+
+pub struct Member {
+    number: u32,
+    clock: u64,
+    sent_limit: u32,
+    /// Message 1 first. Each goes to all others, so a message has one number whoever takes it.
+    sent: Vec<Message>,
+    /// What was taken of each member, in order of number. Nothing is taken of the member itself.
+    links: Vec<Link>,
+    /// Of those who submit here.
+    next_serials: HashMap<u32, u32>,
+    /// Commands that are known and not delivered, its own ones among them.
+    held: BTreeMap<Stamp, Rc<Call>>,
+    policy: Policy,
+}
+
+/// What was taken of one sender.
+#[derive(Clone, Copy, Default)]
+struct Link {
+    taken: u32,
+    latest: Option<Stamp>,
+}
+
+/// What the founding fixes for each member.
+#[derive(Clone, Copy)]
+pub struct Limits {
+    pub members: u32,
+    pub sent: u32,
+}
+
+impl Member {
+    pub fn new(number: u32, clock: u64, limits: Limits, vocabulary: Rc<Vocabulary>) -> Member {
+        Member {
+            number,
+            clock,
+            sent_limit: limits.sent,
+            sent: Vec::new(),
+            links: vec![Link::default(); limits.members as usize],
+            next_serials: HashMap::new(),
+            held: BTreeMap::new(),
+            policy: Policy::new(vocabulary),
+        }
+    }
+
+    pub fn sent_message(&self, number: u32) -> Option<&Message> {
+        self.sent.get((number as usize).checked_sub(1)?)
+    }
+
+    /// Sends a command that is submitted here, and holds it.
+    pub fn submit(&mut self, call: Call) -> Result<Stamp, EventRefusal> {
+        self.require_clock(self.clock + 1)?;
+        self.require_room()?;
+        let next = self.next_serials.entry(call.caller).or_default();
+        if call.serial != *next {
+            return Err(EventRefusal::BadSerial { next: *next });
+        }
+        *next += 1;
+        self.clock += 1;
+        let stamp = self.stamp();
+        let call = Rc::new(call);
+        self.held.insert(stamp, Rc::clone(&call));
+        self.sent.push(Message { stamp, call: Some(call) });
+        Ok(stamp)
+    }
+
+    /// Takes a message, which has to be the sender's next one. A command is held and acknowledged.
+    pub fn receive(&mut self, sender: usize, number: u32, message: Message) -> Result<Option<Stamp>, EventRefusal> {
+        let expected = self.links[sender].taken + 1;
+        if number < expected {
+            return Err(EventRefusal::Repeat { expected });
+        }
+        if number > expected {
+            return Err(EventRefusal::Gap { expected });
+        }
+        let moved = self.clock.max(message.stamp.clock) + 1;
+        let Some(call) = message.call else {
+            self.require_clock(moved)?;
+            self.take(sender, moved, message.stamp);
+            return Ok(None);
+        };
+        // The acknowledgement is one more step of the clock.
+        self.require_clock(moved + 1)?;
+        self.require_room()?;
+        self.take(sender, moved + 1, message.stamp);
+        self.held.insert(message.stamp, call);
+        let stamp = self.stamp();
+        self.sent.push(Message { stamp, call: None });
+        Ok(Some(stamp))
+    }
+
+    fn take(&mut self, sender: usize, clock: u64, stamp: Stamp) {
+        self.clock = clock;
+        let link = &mut self.links[sender];
+        link.taken += 1;
+        link.latest = Some(stamp);
+    }
+
+    /// Delivers the least held command, if nobody can come before it any more.
+    pub fn deliver(&mut self) -> Option<Record> {
+        let least = self.held.first_entry()?;
+        let stamp = *least.key();
+        // The member itself and the command's sender send nothing smaller from now on. Of each other one a greater stamp has
+        // to have come.
+        let is_passed = |(number, link): (u32, &Link)| {
+            number == self.number || number == stamp.member || link.latest.is_some_and(|latest| latest > stamp)
+        };
+        if !(1..).zip(&self.links).all(is_passed) {
+            return None;
+        }
+        let call = least.remove();
+        let answer = self.policy.apply(&call.command);
+        Some(Record { stamp, caller: call.caller, serial: call.serial, answer })
+    }
+
+    fn stamp(&self) -> Stamp {
+        Stamp { clock: self.clock, member: self.number }
+    }
+
+    fn require_clock(&self, clock: u64) -> Result<(), EventRefusal> {
+        if clock <= limits::CLOCK { Ok(()) } else { Err(EventRefusal::ClockFull) }
+    }
+
+    fn require_room(&self) -> Result<(), EventRefusal> {
+        if self.sent.len() < self.sent_limit as usize { Ok(()) } else { Err(EventRefusal::SentFull) }
+    }
+}

@@ -1,0 +1,34 @@
+//! Plays a schedule by the program.
+
+use std::io::Write;
+use std::path::PathBuf;
+use std::process::{Command, Stdio};
+use std::sync::atomic::{AtomicU32, Ordering};
+
+/// What is printed for a schedule that is played on a founding file, or on the sample founding where the text is empty.
+pub fn played(founding: &str, input: String) -> String {
+    let file = (!founding.is_empty()).then(|| founding_file(founding));
+    let word = file.as_ref().map_or("-", |file| file.to_str().expect("a path that is a text"));
+    let mut process = Command::new(env!("CARGO_BIN_EXE_reference"))
+        .args(["play", word, "-"])
+        .stdin(Stdio::piped())
+        .stdout(Stdio::piped())
+        .spawn()
+        .expect("the program starts");
+    let mut writer = process.stdin.take().expect("a piped input");
+    let writing = std::thread::spawn(move || writer.write_all(input.as_bytes()));
+    let output = process.wait_with_output().expect("the program ends");
+    writing.join().expect("the writer ends").expect("the input is taken");
+    assert!(output.status.success());
+    String::from_utf8(output.stdout).expect("a text")
+}
+
+/// A file of its own for each founding, since tests run at once.
+fn founding_file(text: &str) -> PathBuf {
+    static FILES: AtomicU32 = AtomicU32::new(0);
+    let number = FILES.fetch_add(1, Ordering::Relaxed);
+    let name = format!("{}-{number}.toml", env!("CARGO_CRATE_NAME"));
+    let path = PathBuf::from(env!("CARGO_TARGET_TMPDIR")).join(name);
+    std::fs::write(&path, text).expect("the file is written");
+    path
+}
