@@ -1,12 +1,12 @@
 -- What a message that is not refused has passed, and what a group's messages always pass.
-use Rattle.std.proofs.Common.{ℕ, Bool, true, false, not, cond, ◌≡◌, ◌≤◌, ◌<◌, ◌+◌, ◌-◌, ◌==◌, ◌&&◌, nat_lt, nat_le, List, [], ◌∷◌, ◌++◌, length, refl, sym, ap, subst, ◌∙◌, arith, append-nil, Option, Some, None, true≢false}
+use Rattle.std.proofs.Common.{ℕ, true, false, not, ◌≡◌, ◌≤◌, ◌==◌, ◌&&◌, nat_lt, nat_le, ◌++◌, length, refl, sym, ap, subst, ◌∙◌, arith, append-nil, Option, Some, None}
 use Rattle.std.specs.List.{filter}
 use Rattle.std.proofs.lemmas.Bool.Decides.{nat_tests}
 use Rattle.rbac_words.specs.Stamp.{IsAfter, is_after}
-use Rattle.rbac_words.specs.Message.{stamp_of, submissions_of, is_by, next_serial, AreSerialsInOrder, CountsFrom}
+use Rattle.rbac_words.specs.Message.{stamp_of, submissions_of, is_by, next_serial, CountsFrom}
 use Rattle.rbac_words.specs.Front.{is_of}
 use Rattle.rbac_words.specs.Links.{Links, has_link, next_of, is_rising_of, link_refusal}
-use Rattle.rbac_words.specs.World.{read_of, room_refusal}
+use Rattle.rbac_words.specs.World.{room_refusal}
 use Rattle.rbac_words.specs.Member.{Member, node_of, links_of, latest_of, known, or_else, serial_refusal, message_refusal, IsMember, IsNext}
 use Rattle.rbac_words.specs.declared.event.Refusal.{Refusal}
 use Rattle.rbac_words.specs.declared.event.Refusal.TheVariants.{UnknownMember, FromSelf, Repeat, Gap, StampNotRising, BadSerial}

@@ -8,11 +8,11 @@ use Rattle.std.proofs.lemmas.Cmp.{nat_cmp_total, on_total, then_total}
 use Rattle.std.proofs.lemmas.Bool.Decides.{nat_tests}
 use Rattle.std.proofs.lemmas.List.Elements.{filter-append}
 use Rattle.rbac_words.specs.Stamp.{is_before, insert_by_stamp}
-use Rattle.rbac_words.specs.Message.{is_by, submitted_at, submissions_of, next_serial}
+use Rattle.rbac_words.specs.Message.{is_by, submitted_at, next_serial}
 use Rattle.rbac_words.specs.Front.{is_of}
 use Rattle.rbac_words.specs.declared.message.Submission.{Submission}
 use Rattle.rbac_words.proofs.NameLemmas.{ties-pair}
-use Rattle.rbac_member.specs.Serials.{caller_cmp, counted_of, counted, AreCounted}
+use Rattle.rbac_member.specs.Serials.{caller_cmp, counted, AreCounted}
 
 -- ---- How many commands of a caller of a member there are
 

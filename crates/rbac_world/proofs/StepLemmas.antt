@@ -1,18 +1,18 @@
 -- A move of one member of a group is the step of its world.
-use Rattle.std.proofs.Common.{ℕ, zero, suc, Bool, true, false, not, cond, ◌≡◌, ◌≤◌, ◌<◌, ◌+◌, ◌-◌, ◌==◌, ◌||◌, ◌&&◌, ◌⊎◌, inl, inr, nat_lt, nat_le, List, [], ◌∷◌, ◌++◌, length, set, get_or, drop, Option, Some, None, is_some, Result, Ok, Err, refl, sym, ap, subst, ◌∙◌, arith, true≢false}
+use Rattle.std.proofs.Common.{ℕ, zero, suc, Bool, true, false, not, cond, ◌≡◌, ◌≤◌, ◌<◌, ◌+◌, ◌-◌, ◌==◌, ◌||◌, ◌&&◌, ◌⊎◌, inl, inr, nat_lt, nat_le, List, [], ◌∷◌, ◌++◌, length, set, get_or, drop, Option, Some, None, is_some, Result, Ok, Err, refl, sym, ap, subst, ◌∙◌, arith}
 use Rattle.std.specs.List.{filter}
 use Rattle.std.proofs.lemmas.Bool.Decides.{nat_tests}
 use Rattle.std.proofs.lemmas.List.{length-map}
 use Rattle.std.proofs.lemmas.List.Elements.{filter-append}
 use Rattle.rbac_words.specs.Founding.{Group, Vocabulary}
 use Rattle.rbac_words.specs.Stamp.{IsAfter, is_after}
-use Rattle.rbac_words.specs.Message.{stamp_of, submissions_of, is_by, next_serial, CountsFrom}
+use Rattle.rbac_words.specs.Message.{stamp_of, is_by, next_serial, CountsFrom}
 use Rattle.rbac_words.specs.Front.{is_of}
 use Rattle.rbac_words.specs.World.{World, Node, node, is_member, read_of, stamp, message, submit_refusal, receive_refusal, room_refusal, submit_at, receive_at, deliver_at, with_node, refusal, outcome, after, place_of, due, answer_unless, world_unless, must_acknowledge, acknowledgement}
-use Rattle.rbac_words.specs.Links.{Links, has_link, next_of, is_rising_of, link_refusal}
+use Rattle.rbac_words.specs.Links.{has_link, is_rising_of}
 use Rattle.rbac_words.specs.Step.{grows, IsStep}
-use Rattle.rbac_words.specs.Member.{Member, node_of, links_of, latest_of, known, submitted, received, deliver_due, due_at, or_else, serial_refusal, message_refusal, IsMember, IsNext}
-use Rattle.rbac_words.specs.Members.{AreMembers, HasRead, no_member, member_at, world_of}
+use Rattle.rbac_words.specs.Member.{Member, node_of, links_of, latest_of, known, submitted, received, deliver_due, due_at, or_else, serial_refusal, message_refusal, IsNext}
+use Rattle.rbac_words.specs.Members.{AreMembers, no_member, member_at, world_of}
 use Rattle.rbac_words.specs.declared.command.Command.{Command}
 use Rattle.rbac_words.specs.declared.event.Event.{Event}
 use Rattle.rbac_words.specs.declared.event.Event.TheVariants.{Submit, Receive, Deliver}
@@ -28,7 +28,7 @@ use Rattle.rbac_order.proofs.StampLemmas.{true_before}
 use Rattle.rbac_order.proofs.MessageLemmas.{CountsFrom-next}
 use Rattle.rbac_order.proofs.GroupLemmas.{apart, read_by, due_is_due, same_number, other_number}
 use Rattle.rbac_order.proofs.StepLemmas.{world_set, node_is, next_of as next_message, comes_next, members_submitted, members_receive, members_delivered, deliver_is}
-use Rattle.rbac_world.specs.Moves.{Move, IsMoved, IsMovedAt, submit_of, receipt_refusal, receipt_of, delivery_of, IsGroupStep}
+use Rattle.rbac_world.specs.Moves.{Move, IsMovedAt, submit_of, receipt_refusal, receipt_of, delivery_of, IsGroupStep}
 
 -- ---- Any event
 

@@ -1,5 +1,5 @@
 -- The members of a world, when it is founded, after a step, and when all was read.
-use Rattle.std.proofs.Common.{ℕ, zero, suc, Bool, true, false, ◌≡◌, ◌≤◌, ◌<◌, ◌+◌, ◌-◌, ◌==◌, ◌||◌, ◌&&◌, nat_le, List, [], ◌∷◌, ◌++◌, length, map, take, drop, take_at, get_or, Result, refl, sym, ap, subst, ◌∙◌, arith}
+use Rattle.std.proofs.Common.{ℕ, zero, suc, true, ◌≡◌, ◌≤◌, ◌<◌, ◌+◌, ◌==◌, ◌&&◌, nat_le, List, [], ◌∷◌, ◌++◌, length, map, take, drop, take_at, get_or, Result, refl, sym, ap, subst, ◌∙◌, arith}
 use Rattle.std.specs.List.{list_all}
 use Rattle.std.proofs.lemmas.Bool.Decides.{nat_tests}
 use Rattle.std.proofs.lemmas.List.{length-map}
@@ -9,7 +9,7 @@ use Rattle.rbac_words.specs.World.{World, Node, nobody, read_of}
 use Rattle.rbac_words.specs.Right.{founding_world}
 use Rattle.rbac_words.specs.Play.{IsReadToEnd}
 use Rattle.rbac_words.specs.Step.{IsStep}
-use Rattle.rbac_words.specs.Member.{Member, node_of, links_of, founded, numbers, IsMember}
+use Rattle.rbac_words.specs.Member.{Member, node_of, links_of, founded, numbers}
 use Rattle.rbac_words.specs.Members.{no_member, AreMembers, member_at, world_of}
 use Rattle.rbac_words.specs.declared.event.Event.{Event}
 use Rattle.rbac_words.specs.declared.event.Outcome.{Outcome}

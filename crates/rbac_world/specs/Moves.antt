@@ -1,5 +1,5 @@
 -- What one member's move leaves of the members of a group.
-use Rattle.std.specs.Prelude.{ℕ, Bool, true, not, ◌≡◌, ◌≢◌, ◌+◌, ◌==◌, ◌||◌, nat_lt, if◌then◌else◌, List, length, slice_set, Option, Some, None, is_some, Result, Err, IfOk, IfErr, OnOk, OnErr}
+use Rattle.std.specs.Prelude.{ℕ, Bool, true, not, ◌≡◌, ◌≢◌, ◌+◌, ◌==◌, ◌||◌, nat_lt, if◌then◌else◌, List, length, slice_set, Option, Some, None, is_some, Result, IfOk, IfErr, OnOk, OnErr}
 use Rattle.rbac_words.specs.Founding.{Group, Vocabulary}
 use Rattle.rbac_words.specs.World.{stamp, message, acknowledgement, must_acknowledge, place_of, submit_refusal}
 use Rattle.rbac_words.specs.Step.{IsStep}

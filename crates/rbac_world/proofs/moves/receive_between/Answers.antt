@@ -1,4 +1,4 @@
-use Rattle.std.proofs.Common.{arith, ◌≡◌, ◌<◌, length}
+use Rattle.std.proofs.Common.{arith, ◌≡◌}
 use Rattle.rbac_world.proofs.PlaceLemmas.{moved_in_front, moved_in_back}
 use Rattle.rbac_world.proofs.moves.receive_between.Goals as goal
 

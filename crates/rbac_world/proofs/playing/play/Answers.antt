@@ -1,4 +1,4 @@
-use Rattle.std.proofs.Common.{arith, sym, ap, ◌≡◌, ◌≤◌, ◌+◌, ◌∙◌, length, vec_len, vec_capacity}
+use Rattle.std.proofs.Common.{arith, ◌≡◌, ◌≤◌, ◌∙◌, length, vec_len, vec_capacity}
 use Rattle.rbac_world.proofs.PlayLemmas.{one_more}
 use Rattle.rbac_world.proofs.playing.play.Goals as goal
 

@@ -4,7 +4,7 @@ use Rattle.rbac_words.specs.Member.{Member}
 use Rattle.rbac_words.specs.declared.event.Event.TheVariants.{Submit}
 use Rattle.rbac_world.specs.Moves.{submit_of, IsGroupStep}
 use Rattle.rbac_world.proofs.PlaceLemmas.{moved_at}
-use Rattle.rbac_world.proofs.StepLemmas.{submit_step, by_stranger, strange_submit}
+use Rattle.rbac_world.proofs.StepLemmas.{submit_step}
 use Rattle.rbac_world.proofs.step.submit.Goals as goal
 
 pub returns : goal.returns

@@ -1,18 +1,16 @@
-use Rattle.std.proofs.Common.{refl, sym, ◌∙◌, ap, ◌+◌, ◌≡◌, ◌∷◌, ◌++◌, [], subst}
+use Rattle.std.proofs.Common.{refl, sym, ◌∙◌, ap, ◌+◌, ◌++◌, subst}
 use Rattle.std.specs.List.{filter}
 use Rattle.rbac_words.specs.Stamp.{insert_by_stamp}
 use Rattle.rbac_words.specs.Front.{is_of}
 use Rattle.rbac_words.specs.Message.{submitted_at, next_serial, commands_of}
 use Rattle.rbac_words.specs.World.{stamp, submit_refusal}
 use Rattle.rbac_words.specs.Member.{Member, IsMember, known, node_of, submitted}
-use Rattle.rbac_words.specs.declared.message.Message.{Message}
-use Rattle.rbac_words.specs.declared.message.Message.TheVariants.{Call}
 use Rattle.rbac_words.specs.declared.message.Submission.{Submission}
 use Rattle.rbac_words.specs.declared.stamp.Stamp.{Stamp}
 use Rattle.rbac_order.proofs.MemberLemmas.{passed_submit, keeps_submit}
 use Rattle.rbac_member.specs.Inside.{member_of}
 use Rattle.rbac_member.specs.Lists.{CanBeHeld}
-use Rattle.rbac_member.specs.Serials.{counted, AreCounted}
+use Rattle.rbac_member.specs.Serials.{AreCounted}
 use Rattle.rbac_member.proofs.SerialLemmas.{counted-held}
 use Rattle.rbac_member.proofs.HoldLemmas.{submission_fits, submitted_is}
 use Rattle.rbac_member.proofs.member.Member.send_call.Goals as goal

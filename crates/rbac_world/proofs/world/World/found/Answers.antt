@@ -1,5 +1,4 @@
-use Rattle.std.proofs.Common.{sym, subst, ap, ◌∙◌, List}
-use Rattle.rbac_words.specs.Member.{Member}
+use Rattle.std.proofs.Common.{sym, subst, ap, ◌∙◌}
 use Rattle.rbac_world.specs.Inside.{IsGroupOf, shown_by, founded_all}
 use Rattle.rbac_world.proofs.WorldLemmas.{group_of, founded_group, founded_some, founded_world}
 use Rattle.rbac_world.proofs.world.World.found.Goals as goal

@@ -1,4 +1,4 @@
-use Rattle.std.proofs.Common.{true, IsTrue, ◌≡◌, ◌∙◌, sym, subst, ap, List}
+use Rattle.std.proofs.Common.{◌∙◌, sym, subst, ap, List}
 use Rattle.std.specs.List.{list_all}
 use Rattle.rbac_words.specs.Play.{IsReadToEnd}
 use Rattle.rbac_words.specs.Members.{member_at}

@@ -1,7 +1,6 @@
-use Rattle.std.proofs.Common.{arith, ap, subst, sym, ◌≡◌, ◌∙◌, length}
+use Rattle.std.proofs.Common.{arith, subst, sym, ◌≡◌, length}
 use Rattle.rbac_words.specs.World.{World}
 use Rattle.rbac_words.specs.Step.{IsStep}
-use Rattle.rbac_words.specs.Members.{AreMembers}
 use Rattle.rbac_world.specs.Inside.{IsGroupOf, shown_by}
 use Rattle.rbac_world.proofs.WorldLemmas.{step_of, written}
 use Rattle.rbac_world.proofs.world.World.step.Goals as goal
