@@ -1,0 +1,2 @@
+mod ImageLemmas
+mod SightLemmas
