@@ -1,2 +1,3 @@
+pub mod AgreementLemmas
 mod ImageLemmas
 mod SightLemmas

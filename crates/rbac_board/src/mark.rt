@@ -1,5 +1,5 @@
 //! What is known of a row.
-ghost use Rattle.std.specs.Prelude.{◌≡◌, ◌<◌, ◌∷◌, ◌++◌, [], length, map, IfOk, IfErr, OnOk, OnErr, IsTrue, is_some, slice_get, slice_index_or};
+ghost use Rattle.std.specs.Prelude.{◌≡◌, ◌≤◌, ◌<◌, ◌∷◌, ◌++◌, [], length, map, IfOk, IfErr, OnOk, OnErr, IsTrue, is_some, slice_get, slice_index_or, take};
 ghost use Rattle.std.specs.Option.{option_to_list, MatchOption};
 ghost use Rattle.once_cell.specs.Once.{cell_name};
 ghost use Rattle.rbac_board.specs.Known.{Agree, AreOfOneRow};
@@ -103,9 +103,12 @@ impl<T> Mark<T> {
     }
 
     /// Marks of one row know the same values, up to where the shorter one ends. Nothing changes: the contract is the law.
+    /// Where this mark is the shorter one, what it knows is the beginning of what the other knows.
     pub fn agree(&mut self, other: &mut Mark<T>)
         requires { AreOfOneRow self.old other.old }
         ensures agree { Agree self.old.values other.old.values }
+        ensures beginning { length self.old.values ≤ length other.old.values →
+            self.old.values ≡ take (length self.old.values) other.old.values }
         ensures unchanged { self.new ≡ self.old }
         ensures other_unchanged { other.new ≡ other.old }
     {

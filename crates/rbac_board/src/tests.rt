@@ -84,6 +84,7 @@ fn reads_what_was_set(rt: HostRuntime) -> Result<(), Fail> {
     assert!(rt; set.is_ok() && again.len() == 1);
     assert!(rt; row.known(&mut again, 0).code == 7);
     again.agree(&mut mark);
+    assert!(rt; mark.len() == again.len());
     Ok(())
 }
 
