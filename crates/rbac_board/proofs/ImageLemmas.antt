@@ -1,5 +1,5 @@
 -- Two lists of which some image is compared, place by place.
-use Rattle.std.proofs.Common.{◌≡◌, ℕ, zero, suc, ◌<◌, List, [], ◌∷◌, length, take, map, get_or, sym, arith}
+use Rattle.std.proofs.Common.{◌≡◌, ℕ, zero, suc, ◌<◌, List, [], ◌∷◌, length, take, map, get_or, arith}
 use Rattle.rbac_board.specs.Known.{Agree}
 
 -- lists that agree have the same at one place

@@ -2,7 +2,7 @@
 use Rattle.std.proofs.Common.{◌≡◌, ℕ, Option, None, Some, IfSome, IsTrue, is_some, refl, ap}
 use Rattle.once_cell.specs.Once.{Agrees}
 use Rattle.once_cell.specs.declared.race.note.Note.{Note}
-use Rattle.rbac_board.specs.Seen.{Seen, value_in, seen_of}
+use Rattle.rbac_board.specs.Seen.{value_in, seen_of}
 
 pub some_value : {T : Type 0} (known : Option T) (seen : IsTrue (is_some known)) → Some (value_in known seen) ≡ known
 some_value None seen = absurd (cc seen)

@@ -1,6 +1,5 @@
-use Rattle.std.proofs.Common.{◌≡◌, map, arith, add-one, ◌∙◌}
+use Rattle.std.proofs.Common.{arith, add-one, ◌∙◌}
 use Rattle.std.proofs.lemmas.List.{set-get_or}
-use Rattle.rbac_board.specs.Seen.{Seen}
 use Rattle.rbac_board.proofs.ImageLemmas.{same_at, same_more}
 use Rattle.rbac_board.proofs.mark.compare_all.Goals as goal
 
