@@ -1,0 +1,3 @@
+pub mod AgreementLemmas
+mod ImageLemmas
+mod SightLemmas
