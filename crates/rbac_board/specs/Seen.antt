@@ -1,5 +1,6 @@
 -- What is known of one cell.
 use Rattle.std.specs.Prelude.{ℕ, Option, None, Some, IsTrue, is_some}
+use Rattle.std.proofs.Common.{sym, true≢false}
 
 -- a cell's name, and the value that it holds for good
 pub record Seen (T : Type 0) : Type 0 where
@@ -8,7 +9,7 @@ pub record Seen (T : Type 0) : Type 0 where
 
 -- the value of an option that has one
 abbrev pub value_in : {T : Type 0} (known : Option T) → IsTrue (is_some known) → T
-value_in None seen = absurd (cc seen)
+value_in None seen = absurd (true≢false (sym seen))
 value_in (Some x) seen = x
 
 -- a cell whose value is known
