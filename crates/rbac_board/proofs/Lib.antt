@@ -1,3 +1,4 @@
 pub mod AgreementLemmas
 mod ImageLemmas
+mod RowLemmas
 mod SightLemmas

@@ -1,8 +1,8 @@
 //! What is known of a row.
-ghost use Rattle.std.specs.Prelude.{◌≡◌, ◌≤◌, ◌<◌, ◌∷◌, ◌++◌, [], length, map, IfOk, IfErr, OnOk, OnErr, IsTrue, is_some, slice_get, slice_index_or, take};
+ghost use Rattle.std.specs.Prelude.{ℕ, List, ◌≡◌, ◌≤◌, ◌<◌, ◌+◌, ◌-◌, ◌∷◌, ◌++◌, [], length, map, IfOk, IfErr, OnOk, OnErr, IsTrue, is_some, slice_get, slice_index_or, take, drop, vec_len, vec_capacity};
 ghost use Rattle.std.specs.Option.{option_to_list, MatchOption};
 ghost use Rattle.once_cell.specs.Once.{cell_name};
-ghost use Rattle.rbac_board.specs.Known.{Agree, AreOfOneRow};
+ghost use Rattle.rbac_board.specs.Known.{Agree, AreOfOneRow, IsOf};
 
 use crate::refusal::SetRefusal;
 use crate::sight::Sight;
@@ -48,6 +48,19 @@ fn compare_all<T>(mine: &mut [Sight<T>], theirs: &mut [Sight<T>])
 {
     for at in 0..mine.len().min(theirs.len()) {
         mine[at].compare(&mut theirs[at]);
+    }
+}
+
+// Adds the same sights, for which there is room.
+fn add_all<T>(sights: &mut Vec<Sight<T>>, others: &mut [Sight<T>])
+    requires { length others.old + vec_len sights.old ≤ vec_capacity sights.old }
+    ensures added { sights.new.items ≡ sights.old.items ++ others.old }
+    ensures unchanged { others.new ≡ others.old }
+{
+    for sight in others.iter_mut() {
+        let Ok(()) = sights.push(sight.again()) else {
+            unreachable!()
+        };
     }
 }
 
@@ -113,6 +126,29 @@ impl<T> Mark<T> {
         ensures other_unchanged { other.new ≡ other.old }
     {
         compare_all(&mut self.sights, &mut other.sights);
+    }
+
+    /// Knows, besides what it knew, so many of the first values that another mark of the same row knows. That costs what is
+    /// new. Where it knows as many already, nothing changes.
+    ///
+    /// # Errors
+    /// `AllocError` where it can't grow. It is as before.
+    pub fn learn(&mut self, other: &mut Mark<T>, count: usize) -> Result<(), AllocError>
+        requires one_row { AreOfOneRow self.old other.old }
+        requires known { count ≤ length other.old.values }
+        ensures of { (row : List ℕ) → IsOf row self.old → IsOf row other.old → IsOf row self.new }
+        ensures learned { OnOk result (self.new.values ≡ self.old.values ++ drop (length self.old.values) (take count other.old.values)) }
+        ensures agree { Agree self.old.values other.old.values }
+        ensures unchanged { OnErr result (self.new ≡ self.old) }
+        ensures other_unchanged { other.new ≡ other.old }
+    {
+        self.agree(other);
+        let known = self.sights.len();
+        if known < count {
+            self.sights.reserve(count - known)?;
+            add_all(&mut self.sights, &mut other.sights[known..count]);
+        }
+        Ok(())
     }
 }
 

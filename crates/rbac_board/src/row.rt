@@ -82,6 +82,8 @@ impl<T: Drop> Row<T> {
 
     /// The value of the next cell that the mark does not know, where the row has it and it was set. The mark then knows it.
     ///
+    /// The mark is of this row.
+    ///
     /// # Errors
     /// `AllocError` where a value was found and the mark can't grow. The mark is as before.
     pub fn read<'a>(&'a self, mark: &mut Mark<T>) -> Result<Option<&'a T>, AllocError>
@@ -106,7 +108,7 @@ impl<T: Drop> Row<T> {
         }
     }
 
-    /// The value of a cell that the mark knows.
+    /// The value of a cell that the mark knows. The mark is of this row.
     pub fn known<'a>(&'a self, mark: &mut Mark<T>, place: usize) -> &'a T
         requires of { IsOf self.now mark.old }
         requires known { place < length mark.old.values }

@@ -55,6 +55,23 @@ fn beyond(set: Result<(), SetRefusal<Letter>>) -> Option<u8> {
     }
 }
 
+// A mark that knows one of two values learns the other one.
+fn expect_learned(
+    rt: &impl Abort,
+    row: &Row<Letter>,
+    late: &mut Mark<Letter>,
+    mark: &mut Mark<Letter>,
+)
+    requires late { IsOf row.now late.old }
+    requires mark { IsOf row.now mark.old }
+{
+    if mark.len() == 2 {
+        assert!(rt; late.learn(mark, 2).is_ok());
+        expect_read(rt, row, late, None);
+        assert!(rt; late.len() == 2);
+    }
+}
+
 #[test]
 fn sets_each_cell_once(rt: HostRuntime) -> Result<(), Fail> {
     let alloc = rt.alloc();
@@ -98,5 +115,18 @@ fn reads_to_the_end_of_a_row(rt: HostRuntime) -> Result<(), Fail> {
     expect_read(&rt, &row, &mut fresh, Some(3));
     expect_read(&rt, &row, &mut fresh, None);
     assert!(rt; set.is_ok() && fresh.len() == 1);
+    Ok(())
+}
+
+#[test]
+fn learns_what_another_mark_knows(rt: HostRuntime) -> Result<(), Fail> {
+    let alloc = rt.alloc();
+    let row = Row::found(alloc, 3)?;
+    let mut mark = row.mark();
+    assert!(rt; row.set(&mut mark, 0, letter_of(alloc, 7)?).is_ok());
+    assert!(rt; row.set(&mut mark, 1, letter_of(alloc, 8)?).is_ok());
+    let mut late = row.mark();
+    expect_read(&rt, &row, &mut late, Some(7));
+    expect_learned(&rt, &row, &mut late, &mut mark);
     Ok(())
 }

@@ -14,7 +14,7 @@ use Rattle.rbac_words.specs.World.{World, Node, node, is_member, read_of, stamp,
 use Rattle.rbac_words.specs.Right.{founded_nodes, founding_world}
 use Rattle.rbac_words.specs.Play.{world_after}
 use Rattle.rbac_words.specs.Member.{Member, node_of, founded, latest_of, known, submission, submitted, received, due_at, delivery, delivered, deliver_due, IsMember, IsNext}
-use Rattle.rbac_words.specs.Members.{HasTaken, HasRead, no_member, member_at, AreMembers, world_of, HasMembers}
+use Rattle.rbac_words.specs.Members.{HasTaken, HasRead, HasReadOf, no_member, member_at, AreMembers, world_of, HasMembers}
 use Rattle.rbac_words.specs.declared.command.Command.{Command}
 use Rattle.rbac_words.specs.declared.event.Event.{Event}
 use Rattle.rbac_words.specs.declared.event.Event.TheVariants.{Submit, Receive, Deliver}
@@ -44,8 +44,8 @@ sends_more a b b' more same longer r = record {
 }
 
 -- the receiver changes, but nothing of what it has of this sender
-stays_read : (a a' b : Member) → read_of (node_of a') b.number ≡ read_of (node_of a) b.number → latest_of a' b.number ≡ latest_of a b.number → of b.number (known a') ≡ of b.number (known a) → HasRead a b → HasRead a' b
-stays_read a a' b count latest commands r = record {
+pub stays_read : (a a' : Member) (k : ℕ) (messages : List Message) → read_of (node_of a') k ≡ read_of (node_of a) k → latest_of a' k ≡ latest_of a k → of k (known a') ≡ of k (known a) → HasReadOf a k messages → HasReadOf a' k messages
+stays_read a a' k messages count latest commands r = record {
   taken = r.taken;
   unread = r.unread;
   sent = r.sent;
@@ -53,23 +53,23 @@ stays_read a a' b count latest commands r = record {
 }
 
 -- the receiver takes the sender's next message
-takes_next : (a b : Member) (m : Message) (rest : List Message) (r : HasRead a b) → r.unread ≡ m ∷ rest → IsMember a → IsNext a b.number m → HasRead (received a b.number m) b
-takes_next a b m rest r is kept next = record {
+pub takes_next : (a : Member) (k : ℕ) (messages : List Message) (m : Message) (rest : List Message) (r : HasReadOf a k messages) → r.unread ≡ m ∷ rest → IsMember a → IsNext a k m → HasReadOf (received a k m) k messages
+takes_next a k messages m rest r is kept next = record {
   taken = r.taken ++ m ∷ [];
   unread = rest;
   sent = r.sent ∙ ap (λ l. r.taken ++ l) is ∙ sym (append_assoc r.taken (m ∷ []) rest);
   has_taken = record {
-    count = get_or-set_same a.read (b.number - 1) (read_of (node_of a) b.number + 1) 0 (let z : length a.read ≡ a.group.members = kept.reads in omega arith) ∙ ap (λ n. n + 1) r.has_taken.count
+    count = get_or-set_same a.read (k - 1) (read_of (node_of a) k + 1) 0 (let z : length a.read ≡ a.group.members = kept.reads in omega arith) ∙ ap (λ n. n + 1) r.has_taken.count
         ∙ (let z : length (r.taken ++ m ∷ []) ≡ length r.taken + 1 = length-append r.taken (m ∷ []) in omega arith);
-    commands = of-received a b.number m kept next ∙ ap (λ l. l ++ submissions_of m) r.has_taken.commands ∙ ap (λ l. submissions r.taken ++ l) (sym (append-nil (submissions_of m))) ∙ sym (submissions-append r.taken (m ∷ []));
-    latest = get_or-set_same a.latest (b.number - 1) (Some (stamp_of m)) none (let z : length a.latest ≡ a.group.members = kept.latests in omega arith) ∙ sym (last_stamp-push stamp_of r.taken m);
+    commands = of-received a k m kept next ∙ ap (λ l. l ++ submissions_of m) r.has_taken.commands ∙ ap (λ l. submissions r.taken ++ l) (sym (append-nil (submissions_of m))) ∙ sym (submissions-append r.taken (m ∷ []));
+    latest = get_or-set_same a.latest (k - 1) (Some (stamp_of m)) none (let z : length a.latest ≡ a.group.members = kept.latests in omega arith) ∙ sym (last_stamp-push stamp_of r.taken m);
   };
 }
   where
-    low : 1 ≤ b.number
+    low : 1 ≤ k
     low = next.number.low
 
-    high : b.number ≤ a.group.members
+    high : k ≤ a.group.members
     high = next.number.high
 
 pub if_none : {R : Type 0} (b : Bool) (r : R) (o : Option R) → cond b (Some r) o ≡ None → (b ≡ false) × (o ≡ None)
@@ -134,7 +134,7 @@ module _ (group : Group) (vocabulary : Vocabulary) (ms : List Member) (are : Are
   members_submitted i caller serial command h free =
       set_member i (submitted v caller serial command) (Call (stamp (v.clock + 1) v.number) caller serial command ∷ []) h refl refl refl
       (keeps_submit v caller serial command (subst (λ g. submit_refusal g (node_of v) caller serial ≡ None) (sym (are.same_group i h)) free) (are.kept i h)) refl
-      (λ j hj d. stays_read v (submitted v caller serial command) (at j) refl refl
+      (λ j hj d. stays_read v (submitted v caller serial command) (at j).number (at j).sent refl refl
       (ap (of (at j).number) (known_submitted v caller serial command) ∙ filter-append (is_of (at j).number) (known v) (submission v caller serial command ∷ [])
       ∙ ap (λ b. of (at j).number (known v) ++ cond b (submission v caller serial command ∷ []) []) (is_of-no (at j).number (submission v caller serial command) (λ e. apart group vocabulary ms are i j h hj d (sym e)))
       ∙ append-nil (of (at j).number (known v)))
@@ -151,7 +151,7 @@ module _ (group : Group) (vocabulary : Vocabulary) (ms : List Member) (are : Are
       go (Some x) e k =
           let d = due_is (at i) x e in
           set_member i (delivered (at i) x) [] h refl refl refl k (sym (append-nil (at i).sent))
-          (λ j hj n. stays_read (at i) (delivered (at i) x) (at j) refl refl (ap (of (at j).number) (sym (known_delivered (at i) x d.rest d.held))) (read_by group vocabulary ms are i j h hj n))
+          (λ j hj n. stays_read (at i) (delivered (at i) x) (at j).number (at j).sent refl refl (ap (of (at j).number) (sym (known_delivered (at i) x d.rest d.held))) (read_by group vocabulary ms are i j h hj n))
 
   -- the next message of a sender is one that a receipt can rest on
   pub next_of : (i j : ℕ) (m : Message) (rest : List Message) → (hi : i < length ms) → (hj : j < length ms) → (d : j ≡ i → ⊥) → (read_by group vocabulary ms are i j hi hj d).unread ≡ m ∷ rest → IsNext (at i) (at j).number m
@@ -182,8 +182,8 @@ module _ (group : Group) (vocabulary : Vocabulary) (ms : List Member) (are : Are
       set_member i (received (at i) (at j).number m) _ hi refl refl refl (keeps_received (at i) (at j).number m kept next (subst (λ g. room_refusal g (node_of (at i)) m ≡ None) (sym (are.same_group i hi)) free)) refl
       (λ k hk n.
       decide (HasRead (received (at i) (at j).number m) (at k)) k j
-      (λ e. subst (λ l. HasRead (received (at i) (at j).number m) (at l)) (sym e) (takes_next (at i) (at j) m rest (read_by group vocabulary ms are i j hi hj d) is kept next))
-      (λ o. stays_read (at i) (received (at i) (at j).number m) (at k)
+      (λ e. subst (λ l. HasRead (received (at i) (at j).number m) (at l)) (sym e) (takes_next (at i) (at j).number (at j).sent m rest (read_by group vocabulary ms are i j hi hj d) is kept next))
+      (λ o. stays_read (at i) (received (at i) (at j).number m) (at k).number (at k).sent
       (other_place (at i).read (read_of (node_of (at i)) (at j).number + 1) 0 k hk o)
       (other_place (at i).latest (Some (stamp_of m)) none k hk o)
       (of-received_other (at i) (at j).number m kept next (at k).number (apart group vocabulary ms are j k hj hk o))

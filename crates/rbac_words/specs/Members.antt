@@ -17,12 +17,16 @@ pub record HasTaken (v : Member) (k : ℕ) (taken : List Message) : Type 0 where
   pub commands : filter (is_of k) (known v) ≡ submissions taken
   pub latest : latest_of v k ≡ last_stamp stamp_of taken
 
--- what a receiver has taken of a sender is a first part of what the sender sent
-pub record HasRead (receiver sender : Member) : Type 0 where
+-- what a member has taken of member k is a first part of these messages
+pub record HasReadOf (v : Member) (k : ℕ) (messages : List Message) : Type 0 where
   pub taken : List Message
   pub unread : List Message
-  pub sent : sender.sent ≡ taken ++ unread
-  pub has_taken : HasTaken receiver sender.number taken
+  pub sent : messages ≡ taken ++ unread
+  pub has_taken : HasTaken v k taken
+
+-- what a receiver has taken of a sender is a first part of what the sender sent
+abbrev pub HasRead : Member → Member → Type 0
+HasRead receiver sender = HasReadOf receiver sender.number sender.sent
 
 abbrev pub no_group : Group
 no_group = record { members = 0; clock = 0; sent_limit = 0 }

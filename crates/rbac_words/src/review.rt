@@ -8,7 +8,7 @@ use std::alloc::AllocError;
 /// A review function of RBAC (ANSI INCITS 359-2004, 6.1.3, 6.1.4 and those of 6.2 to 6.4), one variant for each: it lists
 /// what a policy says, and changes nothing. Those about sets of separation serve both kinds: SsdRoleSets is `RoleSets` of the
 /// static kind, DsdRoleSets of the dynamic one.
-#[derive(Clone, Drop)]
+#[derive(Clone, PartialEq, Eq, Drop)]
 pub enum Review {
     AssignedUsers { role: Name },
     AssignedRoles { user: Name },

@@ -6,6 +6,7 @@ use Rattle.rbac_words.specs.Member.{Member}
 use Rattle.rbac_words.specs.Members.{no_member, member_at}
 use Rattle.rbac_words.specs.declared.event.Outcome.{Outcome}
 use Rattle.rbac_words.specs.declared.event.Refusal.{Refusal}
+use Rattle.rbac_order.proofs.StepLemmas.{and_both}
 use Rattle.rbac_world.specs.Moves.{Move, IsMoved, IsMovedAt, receipt_of}
 
 -- ---- A list in two parts
@@ -53,17 +54,8 @@ moved_in_back ms front back i j n u v result after e h l k moved = record {
 
 pub each_of_all : {X : Type 0} (p : X → Bool) (xs : List X) (d : X) → list_all p xs ≡ true → (i : ℕ) → i < length xs → p (get_or xs i d) ≡ true
 each_of_all p [] d e i h = absurd (let no : ⊥ = omega arith in no)
-each_of_all p (x ∷ xs) d e zero h = left (p x) (list_all p xs) e
-  where
-    left : (a b : Bool) → (a && b) ≡ true → a ≡ true
-    left true b f = refl
-    left false b f = f
-each_of_all p (x ∷ xs) d e (suc i) h = each_of_all p xs d (right (p x) (list_all p xs) e) i (omega arith)
-  where
-    right : (a b : Bool) → (a && b) ≡ true → b ≡ true
-    right true b f = f
-    right false true f = refl
-    right false false f = f
+each_of_all p (x ∷ xs) d e zero h = (and_both (p x) (list_all p xs) e).0
+each_of_all p (x ∷ xs) d e (suc i) h = each_of_all p xs d (and_both (p x) (list_all p xs) e).1 i (omega arith)
 
 pub all_of_each : {X : Type 0} (p : X → Bool) (xs : List X) (d : X) → ((i : ℕ) → i < length xs → p (get_or xs i d) ≡ true) → list_all p xs ≡ true
 all_of_each p [] d f = refl

@@ -2,7 +2,7 @@
 use Rattle.std.proofs.Common.{ℕ, zero, suc, Bool, true, false, not, cond, ◌≡◌, ◌≤◌, ◌<◌, ◌+◌, ◌-◌, ◌==◌, ◌||◌, ◌&&◌, ◌⊎◌, inl, inr, nat_lt, nat_le, List, [], ◌∷◌, ◌++◌, length, set, get_or, drop, Option, Some, None, is_some, Result, Ok, Err, refl, sym, ap, subst, ◌∙◌, arith}
 use Rattle.std.specs.List.{filter}
 use Rattle.std.proofs.lemmas.Bool.Decides.{nat_tests}
-use Rattle.std.proofs.lemmas.List.{length-map}
+use Rattle.std.proofs.lemmas.List.{length-map, set-get_or}
 use Rattle.std.proofs.lemmas.List.Elements.{filter-append}
 use Rattle.rbac_words.specs.Founding.{Group, Vocabulary}
 use Rattle.rbac_words.specs.Stamp.{IsAfter, is_after}
@@ -65,11 +65,6 @@ starved w e r some none longer = record {
   unchanged = refl;
 }
 
-set_itself : {X : Type 0} (xs : List X) (i : ℕ) (d : X) → set xs i (get_or xs i d) ≡ xs
-set_itself [] i d = refl
-set_itself (x ∷ xs) zero d = refl
-set_itself (x ∷ xs) (suc i) d = ap (λ l. x ∷ l) (set_itself xs i d)
-
 module _ (group : Group) (vocabulary : Vocabulary) (ms : List Member) (are : AreMembers group vocabulary ms) where
   abbrev w : World
   w = world_of group vocabulary ms
@@ -92,7 +87,7 @@ module _ (group : Group) (vocabulary : Vocabulary) (ms : List Member) (are : Are
         members = subst (AreMembers group vocabulary) (sym changed) (is.keeps moved.is_moved.accepted);
       }
   by_move i m e is (Err r) new moved =
-      let unchanged : new ≡ ms = moved.changed ∙ ap (set ms i) moved.is_moved.unchanged ∙ set_itself ms i no_member in record {
+      let unchanged : new ≡ ms = moved.changed ∙ ap (set ms i) moved.is_moved.unchanged ∙ set-get_or ms i no_member in record {
         step = subst (λ l. IsStep w e (Err r) (world_of group vocabulary l)) (sym unchanged)
             (starved w e r (λ other. is.refused ∙ moved.is_moved.first_refusal other) (λ f. is.refused ∙ moved.is_moved.memory_last f) (λ f. is.longer ∙ moved.is_moved.memory_needed f));
         members = subst (AreMembers group vocabulary) (sym unchanged) are;
@@ -154,6 +149,16 @@ module _ (group : Group) (vocabulary : Vocabulary) (ms : List Member) (are : Are
 
   group_of : (i : ℕ) → i < length ms → (at i).group ≡ group
   group_of i h = are.same_group i h
+
+  -- each has a link from each
+  pub linked : (i j : ℕ) → i < length ms → j < length ms → has_link (links_of (at i)) (at j).number ≡ true
+  linked i j hi hj =
+      let a : (at j).number ≡ j + 1 = number j hj in let b : length ms ≡ group.members = are.count in
+      let c : (at i).group.members ≡ group.members = ap (λ (g : Group). g.members) (group_of i hi) in
+      let e : length (at i).read ≡ (at i).group.members = (are.kept i hi).reads in both (at j).number (length (at i).read) (omega arith) (omega arith)
+    where
+      both : (p q : ℕ) → 1 ≤ p → p ≤ q → (nat_le 1 p && nat_le p q) ≡ true
+      both p q l h = grind (arith, nat_tests)
 
   submits : (i caller serial : ℕ) (c : Command) → i < length ms → IsMoveOf i (submit_of (at i) caller serial c) (Submit (i + 1) caller serial c)
   submits i caller serial c h =
@@ -228,15 +233,6 @@ module _ (group : Group) (vocabulary : Vocabulary) (ms : List Member) (are : Are
       expected : ℕ
       expected = read_of (node_of (at i)) k + 1
 
-      linked : has_link (links_of (at i)) k ≡ true
-      linked =
-          let a : (at j).number ≡ j + 1 = number j hj in let b : length ms ≡ group.members = are.count in
-          let c : (at i).group.members ≡ group.members = ap (λ (g : Group). g.members) (group_of i hi) in
-          let e : length (at i).read ≡ (at i).group.members = (are.kept i hi).reads in both k (length (at i).read) (omega arith) (omega arith)
-        where
-          both : (p q : ℕ) → 1 ≤ p → p ≤ q → (nat_le 1 p && nat_le p q) ≡ true
-          both p q l h = grind (arith, nat_tests)
-
       other : (k == (at i).number) ≡ false
       other = other_number k (at i).number (apart group vocabulary ms are i j hi hj d)
 
@@ -247,7 +243,7 @@ module _ (group : Group) (vocabulary : Vocabulary) (ms : List Member) (are : Are
       meets p q e f = grind (arith, nat_tests)
 
       by_link : (o : Option Refusal) → cond (not (has_link (links_of (at i)) k)) (Some refused.UnknownMember) (cond (k == (at i).number) (Some refused.FromSelf) o) ≡ o
-      by_link o = rw (linked, other) refl
+      by_link o = rw (linked i j hi hj, other) refl
 
       room : room_refusal group (node_of (at i)) m ≡ room_refusal (at i).group (node_of (at i)) m
       room = ap (λ (g : Group). room_refusal g (node_of (at i)) m) (sym (group_of i hi))

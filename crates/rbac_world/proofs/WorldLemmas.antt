@@ -1,26 +1,27 @@
 -- The members of a world, when it is founded, after a step, and when all was read.
-use Rattle.std.proofs.Common.{ℕ, zero, suc, true, ◌≡◌, ◌≤◌, ◌<◌, ◌+◌, ◌==◌, ◌&&◌, nat_le, List, [], ◌∷◌, ◌++◌, length, map, take, drop, take_at, get_or, Result, refl, sym, ap, subst, ◌∙◌, arith}
+use Rattle.std.proofs.Common.{ℕ, zero, suc, true, ◌≡◌, ◌≤◌, ◌<◌, ◌+◌, ◌==◌, List, [], ◌∷◌, ◌++◌, length, map, take, drop, take_at, get_or, Result, refl, sym, ap, subst, ◌∙◌, arith}
 use Rattle.std.specs.List.{list_all}
-use Rattle.std.proofs.lemmas.Bool.Decides.{nat_tests}
 use Rattle.std.proofs.lemmas.List.{length-map}
 use Rattle.rbac_words.specs.Founding.{Group, Vocabulary, IsGroup}
-use Rattle.rbac_words.specs.Links.{has_link}
 use Rattle.rbac_words.specs.World.{World, Node, nobody, read_of}
 use Rattle.rbac_words.specs.Right.{founding_world}
 use Rattle.rbac_words.specs.Play.{IsReadToEnd}
 use Rattle.rbac_words.specs.Step.{IsStep}
-use Rattle.rbac_words.specs.Member.{Member, node_of, links_of, founded, numbers}
+use Rattle.rbac_words.specs.Member.{Member, node_of, founded, numbers}
 use Rattle.rbac_words.specs.Members.{no_member, AreMembers, member_at, world_of}
 use Rattle.rbac_words.specs.declared.event.Event.{Event}
 use Rattle.rbac_words.specs.declared.event.Outcome.{Outcome}
 use Rattle.rbac_words.specs.declared.event.Refusal.{Refusal}
+use Rattle.rbac_words.proofs.ListLemmas.{map-push}
 use Rattle.rbac_order.proofs.GroupLemmas.{node-of_member, inside, apart, same_number, other_number}
 use Rattle.rbac_order.proofs.SenderLemmas.{decide}
 use Rattle.rbac_order.proofs.StepLemmas.{founded_members, founding_are, founded-nodes}
 use Rattle.rbac_member.specs.Calls.{taken_of}
+use Rattle.rbac_member.proofs.ReceiveLemmas.{equal}
 use Rattle.rbac_world.specs.Inside.{IsGroupOf, shown_by, founded_all, has_read}
 use Rattle.rbac_world.specs.Moves.{IsGroupStep}
 use Rattle.rbac_world.proofs.PlaceLemmas.{each_of_all, all_of_each}
+use Rattle.rbac_world.proofs.StepLemmas.{linked}
 
 -- members of one group are those of the group of the first of them
 pub group_of : (group : Group) (vocabulary : Vocabulary) (ms : List Member) → 0 < length ms → AreMembers group vocabulary ms → IsGroupOf ms
@@ -43,16 +44,12 @@ numbers-last : (n j : ℕ) → numbers (suc n) j ≡ numbers n j ++ suc (j + n) 
 numbers-last zero j = ap (λ k. suc k ∷ []) (let z : j ≡ j + 0 = omega arith in z)
 numbers-last (suc n) j = ap (λ l. suc j ∷ l) (numbers-last n (suc j) ∙ ap (λ k. numbers n (suc j) ++ suc k ∷ []) (let z : suc j + n ≡ j + suc n = omega arith in z))
 
-map-last : {X Y : Type 0} (f : X → Y) (xs : List X) (x : X) → map f (xs ++ x ∷ []) ≡ map f xs ++ f x ∷ []
-map-last f [] x = refl
-map-last f (y ∷ ys) x = ap (λ l. f y ∷ l) (map-last f ys x)
-
 -- one member more
 pub founded-more : (group : Group) (vocabulary : Vocabulary) (n : ℕ) → founded_all group vocabulary (n + 1) ≡ founded_all group vocabulary n ++ founded group (n + 1) vocabulary ∷ []
 founded-more group vocabulary n =
     ap (founded_all group vocabulary) (let z : n + 1 ≡ suc n = omega arith in z)
     ∙ ap (map (λ k. founded group k vocabulary)) (numbers-last n 0 ∙ ap (λ k. numbers n 0 ++ k ∷ []) (let z : suc (0 + n) ≡ n + 1 = omega arith in z))
-    ∙ map-last (λ k. founded group k vocabulary) (numbers n 0) (n + 1)
+    ∙ map-push (λ k. founded group k vocabulary) (numbers n 0) (n + 1)
 
 pub founded_group : (group : Group) (vocabulary : Vocabulary) → IsGroup group → AreMembers group vocabulary (founded_all group vocabulary group.members)
 founded_group group vocabulary g = subst (AreMembers group vocabulary) (sym (founded_are group vocabulary group.members 0)) (founding_are group vocabulary g)
@@ -91,25 +88,13 @@ module _ (group : Group) (vocabulary : Vocabulary) (ms : List Member) (are : Are
 
   -- what a member says that it took of another one is what it read
   taken_is : (i j : ℕ) → i < length ms → j < length ms → (j ≡ i → ⊥) → taken_of (at i) (at j).number ≡ read_of (node_of (at i)) (at j).number
-  taken_is i j hi hj d = rw (other_number (at j).number (at i).number (apart group vocabulary ms are i j hi hj d)) (rw linked refl)
-    where
-      linked : has_link (links_of (at i)) (at j).number ≡ true
-      linked =
-          let a : (at j).number ≡ j + 1 = are.numbered j hj in let b : length ms ≡ group.members = are.count in
-          let c : (at i).group.members ≡ group.members = ap (λ (g : Group). g.members) (are.same_group i hi) in
-          let e : length (at i).read ≡ (at i).group.members = (are.kept i hi).reads in both (at j).number (length (at i).read) (omega arith) (omega arith)
-        where
-          both : (p q : ℕ) → 1 ≤ p → p ≤ q → (nat_le 1 p && nat_le p q) ≡ true
-          both p q l h = grind (arith, nat_tests)
+  taken_is i j hi hj d = rw (other_number (at j).number (at i).number (apart group vocabulary ms are i j hi hj d)) (rw (linked group vocabulary ms are i j hi hj) refl)
 
   test_is : (i j : ℕ) → i < length ms → j < length ms → (j ≡ i → ⊥) → has_read (at i) (at j) ≡ (read_of (get_or (map node_of ms) i nobody) (j + 1) == length (get_or (map node_of ms) j nobody).sent)
   test_is i j hi hj d =
       rw (other_number (at i).number (at j).number (λ e. apart group vocabulary ms are i j hi hj d (sym e)))
       (ap (λ k. k == length (at j).sent) (taken_is i j hi hj d) ∙ ap (λ k. read_of (node_of (at i)) k == length (at j).sent) (are.numbered j hj)
       ∙ ap (λ (v : Node). read_of v (j + 1) == length (at j).sent) (sym (node-of_member ms i)) ∙ ap (λ (v : Node). read_of (get_or (map node_of ms) i nobody) (j + 1) == length v.sent) (sym (node-of_member ms j)))
-
-  equal : (m n : ℕ) → (m == n) ≡ true → m ≡ n
-  equal m n e = grind (arith, nat_tests)
 
   pub end_if : list_all (λ v. list_all (has_read v) ms) ms ≡ true → IsReadToEnd (world_of group vocabulary ms)
   end_if all i j hi hj d =

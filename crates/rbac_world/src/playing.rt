@@ -1,5 +1,5 @@
 //! A list of events, one after the other.
-ghost use Rattle.std.specs.Prelude.{◌≡◌, ◌≢◌, ◌≤◌, true, false, length, take, Err, IfOk, IfErr, OnOk};
+ghost use Rattle.std.specs.Prelude.{◌≡◌, ◌≢◌, ◌<◌, true, false, length, take, Err, IfOk, IfErr, OnOk};
 ghost use Rattle.rbac_words.specs.Play.{world_after, outcomes as outcomes_of};
 ghost use Rattle.rbac_words.specs.Right.{AreHistoriesRight};
 
@@ -31,7 +31,7 @@ pub fn play(
     ensures outcomes { IfOk result (λ outcomes. outcomes.items ≡ outcomes_of world.old events.now) }
     ensures played { OnOk result (world.new ≡ world_after world.old events.now) }
     ensures done { IfErr result (λ stopped. world.new ≡ world_after world.old (take stopped.done events.now)) }
-    ensures some { IfErr result (λ stopped. stopped.done ≤ length events.now) }
+    ensures some_left { IfErr result (λ stopped. stopped.done < length events.now) }
     ensures right { AreHistoriesRight world.new }
 {
     let mut outcomes = Vec::new(alloc);
