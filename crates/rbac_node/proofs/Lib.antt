@@ -1,0 +1,10 @@
+mod AuditLemmas
+mod DeliveryLemmas
+mod FrontLemmas
+mod KeptLemmas
+mod LearnedLemmas
+mod MarkLemmas
+mod PrefixLemmas
+mod ReadLemmas
+mod SerialLemmas
+mod ShownLemmas

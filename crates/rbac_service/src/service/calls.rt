@@ -1,0 +1,174 @@
+//! What callers do.
+ghost use Rattle.std.specs.Prelude.{◌≡◌, ◌≢◌, ◌↔◌, ◌<◌, ◌+◌, max, true, false, None, [], length, IfOk, IfErr, IfSome, OnOk, OnErr};
+ghost use Rattle.rbac_words.specs.Member.{IsNumber};
+ghost use Rattle.rbac_node.specs.Cells.{history_cells};
+ghost use Rattle.rbac_node.specs.Pass.{Owns, IsAnswered};
+ghost use Rattle.rbac_words.specs.Play.{IsPrefixOf};
+ghost use Rattle.rbac_service.specs.Ticket.{ticket_back, called, IsCallRefused};
+
+use crate::courier::Courier;
+use crate::gate::{Gate, Moment};
+use crate::refusal::{AwaitRefusal, CallRefusal, EnrollRefusal};
+use crate::service::Service;
+use rbac_node::{GroupName, MeetRefusal, Node, Pass, Receipt, ServiceRefusal, Ticket};
+use rbac_words::{Command, Record};
+use std::alloc::{AllocError, Global};
+use std::sync::Wait;
+
+impl<G: GroupName, K: Gate + Drop, C: Courier + Drop> Service<G, K, C> {
+    /// A pass of a new caller of a member, with an empty front. It may wait for the member's lock.
+    ///
+    /// # Errors
+    /// `UnknownMember` exactly where the group has no such member, then `Stopped`, then `CallersFull`.
+    pub fn enroll<R: Wait>(&self, rt: &R, at: u32) -> Result<Pass<G>, EnrollRefusal>
+        ensures known { OnOk result (IsNumber G.group at) }
+        ensures stranger { IfErr result (λ refusal. (refusal ≡ EnrollRefusal.UnknownMember) ↔ (IsNumber G.group at → ⊥)) }
+        ensures first_serial { IfOk result (λ pass. pass.next ≡ 0) }
+        ensures no_ticket { IfOk result (λ pass. pass.is_waiting ≡ false) }
+        ensures empty_front { IfOk result (λ pass. pass.front ≡ []) }
+    {
+        let Some(slot) = self.slot(at) else {
+            return Err(EnrollRefusal::UnknownMember);
+        };
+        let mut node = slot.node.lock(rt);
+        if node.is_stopped() {
+            return Err(EnrollRefusal::Stopped);
+        }
+        let Some(caller) = node.new_caller() else {
+            return Err(EnrollRefusal::CallersFull);
+        };
+        node.invariants();
+        let number = node.member().number();
+        Ok(Pass::found(number, caller, self.rows.history(number)))
+    }
+
+    /// Submits the pass's next command at its member, and publishes it. Where publishing is refused, the ticket is given all the
+    /// same, and a later turn publishes. The pass is of this service. It may wait for the member's lock.
+    ///
+    /// # Errors
+    /// The first that applies, as `ServiceRefusal` says; the command is dropped.
+    pub fn submit<R: Wait>(
+        &self,
+        rt: &R,
+        alloc: Global,
+        pass: &mut Pass<G>,
+        command: Command,
+    ) -> Result<Ticket, ServiceRefusal>
+        ensures member { IfOk result (λ ticket. ticket.call.stamp.member ≡ pass.old.member) }
+        ensures caller { IfOk result (λ ticket. ticket.call.caller ≡ pass.old.caller) }
+        ensures serial { IfOk result (λ ticket. ticket.call.serial ≡ pass.old.next) }
+        ensures command { IfOk result (λ ticket. ticket.call.command ≡ command) }
+        ensures seen { IfOk result (λ ticket. ticket.seen ≡ length pass.old.front) }
+        ensures pass { OnOk result (pass.new ≡ record pass.old { next = pass.old.next + 1; is_waiting = true }) }
+        ensures idle { OnOk result (pass.old.is_waiting ≡ false) }
+        ensures unchanged { OnErr result (pass.new ≡ pass.old) }
+    {
+        let Some(slot) = self.slot(pass.member()) else {
+            return Err(ServiceRefusal::Foreign);
+        };
+        let mut node = slot.node.lock(rt);
+        let ticket = pass.submit(&mut node, command)?;
+        let _published = self.publish(alloc, &mut node);
+        let shown = node.published();
+        drop(node);
+        self.tell(pass.member(), shown);
+        self.gate.at(Moment::Submitted(ticket.stamp()));
+        Ok(ticket)
+    }
+
+    /// Waits until the member has published the answer to the pass's ticket, or was stopped. An answer that is published is given
+    /// also after the stop.
+    ///
+    /// # Errors
+    /// `Stopped` or `NoMemory`, with the ticket, which stays the pass's outstanding one.
+    pub fn await_answer<R: Wait>(
+        &self,
+        rt: &R,
+        pass: &mut Pass<G>,
+        ticket: Ticket,
+    ) -> Result<Receipt, AwaitRefusal>
+        requires { Owns pass.old ticket }
+        ensures answered { IfOk result (λ receipt. IsAnswered pass.old ticket receipt.place receipt.answer pass.new) }
+        ensures stamp { IfOk result (λ receipt. receipt.stamp ≡ ticket.call.stamp) }
+        ensures back { IfErr result (λ refusal. ticket_back refusal ≡ ticket) }
+        ensures unchanged { OnErr result (pass.new ≡ pass.old) }
+    {
+        let Some(slot) = self.slot(pass.member()) else {
+            return Err(AwaitRefusal::Stopped(ticket));
+        };
+        let mut ticket = ticket;
+        let mut node = slot.node.lock(rt);
+        for _turn in rt.forever() {
+            match pass.answered(&mut node, &mut ticket) {
+                Ok(Some(receipt)) => {
+                    drop(node);
+                    self.gate.at(Moment::Answered(receipt.stamp));
+                    return Ok(receipt);
+                }
+                Ok(None) => {}
+                Err(AllocError) => return Err(AwaitRefusal::NoMemory(ticket)),
+            }
+            if node.is_stopped() {
+                return Err(AwaitRefusal::Stopped(ticket));
+            }
+            node = slot.changed.wait(rt, node);
+        }
+        unreachable!()
+    }
+
+    /// Submits the pass's next command, and waits for the answer.
+    ///
+    /// # Errors
+    /// That of `submit` or of `await_answer`.
+    pub fn call<R: Wait>(
+        &self,
+        rt: &R,
+        alloc: Global,
+        pass: &mut Pass<G>,
+        command: Command,
+    ) -> Result<Receipt, CallRefusal>
+        ensures answered { IfOk result (λ receipt. IsAnswered (record pass.old { next = pass.old.next + 1; is_waiting = true }) (called pass.old receipt.stamp command) receipt.place receipt.answer pass.new) }
+        ensures member { IfOk result (λ receipt. receipt.stamp.member ≡ pass.old.member) }
+        ensures refused { IfErr result (λ refusal. IsCallRefused pass.old command refusal pass.new) }
+    {
+        let ticket = match self.submit(rt, alloc, pass, command) {
+            Ok(ticket) => ticket,
+            Err(refusal) => return Err(CallRefusal::Submit(refusal)),
+        };
+        match self.await_answer(rt, pass, ticket) {
+            Ok(receipt) => Ok(receipt),
+            Err(refusal) => Err(CallRefusal::Await(refusal)),
+        }
+    }
+
+    /// Both passes, of one member of this service, have the longer of the two fronts, which begins with what each had seen. It
+    /// does not wait.
+    ///
+    /// # Errors
+    /// `OtherMember` exactly where they are not of one member, then `NoMemory`. Both are as before.
+    pub fn meet(&self, one: &mut Pass<G>, other: &mut Pass<G>) -> Result<(), MeetRefusal>
+        ensures one_member { OnOk result (one.old.member ≡ other.old.member) }
+        ensures one_front { OnOk result (one.new.front ≡ other.new.front) }
+        ensures longer { OnOk result (length one.new.front ≡ max (length one.old.front) (length other.old.front)) }
+        ensures seen { OnOk result (IsPrefixOf one.old.front one.new.front) }
+        ensures other_seen { OnOk result (IsPrefixOf other.old.front other.new.front) }
+        ensures nothing_else { one.new ≡ record one.old { front = one.new.front } }
+        ensures other_nothing_else { other.new ≡ record other.old { front = other.new.front } }
+        ensures other_member { IfErr result (λ refusal. (refusal ≡ MeetRefusal.OtherMember) ↔ (one.old.member ≢ other.old.member)) }
+        ensures unchanged { OnErr result (one.new ≡ one.old) }
+        ensures other_unchanged { OnErr result (other.new ≡ other.old) }
+    {
+        one.meet(other)
+    }
+
+    /// What a member has published at a place of its history. It does not wait.
+    pub fn published(&self, at: u32, place: usize) -> Option<&Record>
+        ensures known { IfSome result (λ _. IsNumber G.group at) }
+        ensures within { IfSome result (λ _. place < length (history_cells G.cells at)) }
+    {
+        if at < 1 || self.rows.members() < at as usize {
+            return None;
+        }
+        self.rows.history(at).get(place)
+    }
+}

@@ -1,0 +1,42 @@
+//! The end of a service.
+ghost use Rattle.std.specs.Prelude.{◌≡◌, ◌≤◌, vec_len, vec_capacity};
+
+use crate::courier::Courier;
+use crate::gate::Gate;
+use crate::service::{Room, Service, Slot};
+use rbac_node::{GroupName, Node};
+use std::sync::Wait;
+
+// The nodes out of their locks, in order of number.
+fn taken<G: GroupName>(mut slots: Vec<Slot<G>>, mut room: Vec<Node<G>>) -> Vec<Node<G>>
+    requires empty { vec_len room ≡ 0 }
+    requires fits { vec_len slots ≤ vec_capacity room }
+    ensures { vec_len result ≡ vec_len slots }
+{
+    while let Some(slot) = slots.pop() {
+        let Ok(()) = room.push(slot.node.into_inner()) else {
+            unreachable!()
+        };
+    }
+    room.reverse();
+    room
+}
+
+impl<G: GroupName, K: Gate + Drop, C: Courier + Drop> Service<G, K, C> {
+    /// Stops all members: nothing more is submitted, and no caller waits any more. It may wait for each member's lock.
+    pub fn stop<R: Wait>(&self, rt: &R) {
+        for slot in &self.slots {
+            slot.node.lock(rt).stop();
+            slot.changed.notify_all();
+        }
+    }
+
+    /// The members' nodes, in order of number. It takes no memory, and does not wait.
+    pub fn take_nodes(self) -> Vec<Node<G>>
+        ensures { vec_len result ≡ G.group.members }
+    {
+        let Service { slots, room, .. } = self;
+        let Room { nodes } = room.into_inner();
+        taken(slots, nodes)
+    }
+}
