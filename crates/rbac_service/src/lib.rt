@@ -15,8 +15,3 @@ pub use rbac_node::{
 };
 pub use refusal::{AwaitRefusal, CallRefusal, EnrollRefusal};
 pub use service::{PumpEnd, Service};
-
-#[cfg(test)]
-mod tests;
-#[cfg(test)]
-mod thread_tests;

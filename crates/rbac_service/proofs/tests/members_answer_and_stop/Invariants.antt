@@ -1,5 +1,0 @@
-use Rattle.rbac_service.proofs.tests.members_answer_and_stop.Given as goal
-
--- the founding that was just made
-abbrev pub ghosts-run_two : goal.ghosts-run_two
-ghosts-run_two g a = record { group = a.group; vocabulary = a.words; cells = a.rows }
