@@ -20,4 +20,6 @@ pub use report::{Audit, AuditRefusal};
 pub use rows::Rows;
 
 #[cfg(test)]
+mod pass_tests;
+#[cfg(test)]
 mod tests;
