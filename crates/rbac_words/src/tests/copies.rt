@@ -1,7 +1,7 @@
 //! Copies of commands, reviews, records and messages: one of each.
 
 use super::name;
-use crate::{Answer, Command, Denial, Message, Record, Review, Stamp};
+use crate::{Answer, Command, Denial, Message, Name, Record, Review, Stamp};
 use std::alloc::Global;
 use std::process::Abort;
 
@@ -18,6 +18,10 @@ fn grant(rt: &impl Abort, alloc: Global) -> Command {
     }
 }
 
+fn is_called(name: &Name, text: &str) -> bool {
+    name.as_bytes() == text.as_bytes()
+}
+
 fn is_grant(command: &Command) -> bool {
     let Command::GrantPermission {
         operation,
@@ -27,8 +31,7 @@ fn is_grant(command: &Command) -> bool {
     else {
         return false;
     };
-    [operation.as_bytes(), object.as_bytes(), role.as_bytes()]
-        == [b"read".as_slice(), b"ledger", b"clerk"]
+    is_called(operation, "read") && is_called(object, "ledger") && is_called(role, "clerk")
 }
 
 fn expect_grant_copied(rt: &impl Abort, command: Command) {
@@ -43,7 +46,7 @@ fn a_command_is_copied(rt: HostRuntime) {
 
 fn is_review_of_clerks(review: &Review) -> bool {
     match review {
-        Review::AssignedUsers { role } => role.as_bytes() == b"clerk".as_slice(),
+        Review::AssignedUsers { role } => is_called(role, "clerk"),
         _ => false,
     }
 }
