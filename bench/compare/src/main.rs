@@ -9,10 +9,12 @@ mod players;
 mod random;
 mod report;
 mod rows;
+mod serving;
 mod shrink;
 mod text;
 mod tree;
 
+use case::{Case, Played};
 use coverage::Coverage;
 use generate::{Choices, Extent, Members};
 use players::{Binary, Player, Tried};
@@ -21,7 +23,7 @@ use std::path::{Path, PathBuf};
 use std::process::ExitCode;
 
 const HELP: &str = "\
-usage: compare --reference PROGRAM --room FOLDER (--program PROGRAM | --try FOLDER) [--lines N] [--seed N] [--without-reviews] [--groups]
+usage: compare --reference PROGRAM --room FOLDER (--program PROGRAM | --try FOLDER) [--lines N] [--seed N] [--without-reviews] [--groups] [--serve]
 
   --reference PROGRAM  the reference
   --program PROGRAM    the monitor, as built
@@ -30,7 +32,8 @@ usage: compare --reference PROGRAM --room FOLDER (--program PROGRAM | --try FOLD
   --lines N            at least so many lines of random schedules (100000; with --try as many as it takes for each answer)
   --seed N             of the random choices (1)
   --without-reviews    no review commands
-  --groups             random schedules of groups alone";
+  --groups             random schedules of groups alone
+  --serve              the submits of the schedules as lines of a client of serve";
 
 struct Words {
     reference: PathBuf,
@@ -38,6 +41,7 @@ struct Words {
     tried: Option<PathBuf>,
     room: PathBuf,
     choices: Choices,
+    serve: bool,
 }
 
 fn main() -> ExitCode {
@@ -45,7 +49,8 @@ fn main() -> ExitCode {
         eprintln!("{HELP}");
         return ExitCode::from(2);
     };
-    match compare(&words) {
+    let compared = if words.serve { compare_serving(&words) } else { compare(&words) };
+    match compared {
         Ok(true) => ExitCode::SUCCESS,
         Ok(false) => ExitCode::FAILURE,
         Err(message) => {
@@ -59,7 +64,7 @@ fn read_words() -> Option<Words> {
     let (mut reference, mut program, mut tried, mut room) = (None, None, None, None);
     let members = Members::OneAndGroups;
     let mut choices = Choices { seed: 1, lines: 100_000, reviews: true, extent: Extent::Whole, members };
-    let mut lines = None;
+    let (mut lines, mut serve) = (None, false);
     let mut words = std::env::args().skip(1);
     while let Some(word) = words.next() {
         match word.as_str() {
@@ -71,6 +76,7 @@ fn read_words() -> Option<Words> {
             "--seed" => choices.seed = words.next()?.parse().ok()?,
             "--without-reviews" => choices.reviews = false,
             "--groups" => choices.members = Members::Groups,
+            "--serve" => serve = true,
             _ => return None,
         }
     }
@@ -81,20 +87,13 @@ fn read_words() -> Option<Words> {
         (choices.extent, choices.lines) = (Extent::Short, 0);
     }
     choices.lines = lines.unwrap_or(choices.lines);
-    Some(Words { reference: reference?, program, tried, room: room?, choices })
+    Some(Words { reference: reference?, program, tried, room: room?, choices, serve })
 }
 
 /// Whether the programs never differed and all that can occur did.
 fn compare(words: &Words) -> Result<bool, String> {
     let reference = binary(&words.reference, &words.room.join("reference"))?;
-    let program: Box<dyn Player> = match (&words.program, &words.tried) {
-        (Some(program), _) => Box::new(binary(program, &words.room.join("program"))?),
-        (None, Some(folder)) => {
-            let room = absolute(&words.room)?.join("tried");
-            Box::new(Tried { crate_folder: folder.clone(), room })
-        }
-        (None, None) => return Err("no program".to_owned()),
-    };
+    let program = monitor(words)?;
     let choices = &words.choices;
     println!("seed {}", choices.seed);
     if choices.extent == Extent::Short && choices.members == Members::OneAndGroups {
@@ -105,15 +104,9 @@ fn compare(words: &Words) -> Result<bool, String> {
     let mut cases = generate::fixed_cases(choices);
     cases.extend(choose::chosen_cases(&reference, choices, &cases)?);
     for some in cases.chunks(program.cases_at_once()) {
-        let played = pair.play(some)?;
-        let differing = (0..some.len()).filter(|number| played[*number].0 != played[*number].1);
-        let differing: Vec<usize> = differing.collect();
-        if let Some(first) = differing.first() {
-            let names: Vec<&str> = differing.iter().map(|number| some[*number].name.as_str()).collect();
-            println!("{} schedules differ: {}", names.len(), names.join(" "));
-            show_shortened(&pair, some[*first].clone())?;
+        let Some(played) = play_alike(&pair, some)? else {
             return Ok(false);
-        }
+        };
         for (case, (wanted, _)) in some.iter().zip(&played) {
             coverage.count(case, wanted);
         }
@@ -128,7 +121,61 @@ fn compare(words: &Words) -> Result<bool, String> {
     Ok(is_complete(&coverage, choices))
 }
 
-fn show_shortened(pair: &Pair, case: case::Case) -> Result<(), String> {
+/// The same of client lines: what one client is answered, line by line.
+fn compare_serving(words: &Words) -> Result<bool, String> {
+    let reference = binary(&words.reference, &words.room.join("reference"))?;
+    let program = monitor(words)?;
+    let pair = Pair { reference: &reference, program: program.as_ref() };
+    let mut cases = generate::fixed_cases(&words.choices);
+    cases.extend(choose::chosen_cases(&reference, &words.choices, &cases)?);
+    let cases = serving::cases_of(&cases);
+    let mut told = serving::Told::default();
+    for some in cases.chunks(program.cases_at_once()) {
+        let Some(played) = play_alike(&pair, some)? else {
+            return Ok(false);
+        };
+        played.iter().for_each(|(wanted, _)| told.count(wanted));
+    }
+    println!(
+        "seed {}: {} conversations, {} lines: the outputs are the same",
+        words.choices.seed,
+        cases.len(),
+        told.lines
+    );
+    told.print();
+    let missing = told.missing();
+    if !missing.is_empty() {
+        println!("can occur and did not: {}", missing.join(", "));
+    }
+    Ok(missing.is_empty())
+}
+
+fn monitor(words: &Words) -> Result<Box<dyn Player>, String> {
+    match (&words.program, &words.tried) {
+        (Some(program), _) => Ok(Box::new(binary(program, &words.room.join("program"))?)),
+        (None, Some(folder)) => {
+            let room = absolute(&words.room)?.join("tried");
+            Ok(Box::new(Tried { crate_folder: folder.clone(), room }))
+        }
+        (None, None) => Err("no program".to_owned()),
+    }
+}
+
+/// What both printed for these cases, or None where it differs, which is then shown.
+fn play_alike(pair: &Pair, some: &[Case]) -> Result<Option<Vec<(Played, Played)>>, String> {
+    let played = pair.play(some)?;
+    let differing = (0..some.len()).filter(|number| played[*number].0 != played[*number].1);
+    let differing: Vec<usize> = differing.collect();
+    if let Some(first) = differing.first() {
+        let names: Vec<&str> = differing.iter().map(|number| some[*number].name.as_str()).collect();
+        println!("{} schedules differ: {}", names.len(), names.join(" "));
+        show_shortened(pair, some[*first].clone())?;
+        return Ok(None);
+    }
+    Ok(Some(played))
+}
+
+fn show_shortened(pair: &Pair, case: Case) -> Result<(), String> {
     let case = shrink::shrink(pair, case)?;
     let played = pair.play(std::slice::from_ref(&case))?;
     for (wanted, got) in &played {

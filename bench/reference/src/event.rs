@@ -26,15 +26,29 @@ pub enum LineRefusal {
     ExtraField,
 }
 
-/// Reads a line without its line feed. The outer object is looked at whole before the command in it.
-pub fn read_line(line: &[u8]) -> Result<Event, LineRefusal> {
+/// The object of a line without its line feed.
+fn read_object(line: &[u8]) -> Result<json::Object<'_>, LineRefusal> {
     if line.len() > limits::LINE_BYTES {
         return Err(LineRefusal::TooLong);
     }
-    let value = json::read(line).map_err(|_| LineRefusal::NotJson)?;
-    let json::Value::Object(object) = value else {
-        return Err(LineRefusal::NotObject);
-    };
+    match json::read(line).map_err(|_| LineRefusal::NotJson)? {
+        json::Value::Object(object) => Ok(object),
+        _ => Err(LineRefusal::NotObject),
+    }
+}
+
+/// Reads a client's line: the member that is asked, and the command.
+pub fn read_client(line: &[u8]) -> Result<(u32, Command), LineRefusal> {
+    let object = read_object(line)?;
+    let mut fields = Fields::new(&object);
+    let (at, command) = (fields.number("at")?, fields.object("command")?);
+    fields.end()?;
+    Ok((at, commands::read_command(command)?))
+}
+
+/// Reads a line of a schedule. The outer object is looked at whole before the command in it.
+pub fn read_line(line: &[u8]) -> Result<Event, LineRefusal> {
+    let object = read_object(line)?;
     let mut fields = Fields::new(&object);
     match fields.text("do")? {
         "submit" => {

@@ -30,6 +30,13 @@ pub fn write_outcome(text: &mut Vec<u8>, line: u64, outcome: &Outcome) {
     }
 }
 
+/// The line for a client's answer.
+pub fn write_reply(text: &mut Vec<u8>, line: u64, answer: &Answer) {
+    text.extend_from_slice(b"{\"answer\":");
+    write_answer(text, answer);
+    put!(text, ",\"line\":{line}}}\n");
+}
+
 /// The line for an event that was refused.
 pub fn write_event_refusal(text: &mut Vec<u8>, line: u64, refusal: EventRefusal) {
     match refusal {

@@ -65,6 +65,8 @@ impl Policy {
     }
 
     /// Answers a command, and makes the change that it asks for where nothing denies it.
+    // Not inlined, so that bench/shares tells it apart.
+    #[inline(never)]
     pub fn apply(&mut self, command: &Command) -> Answer {
         let answer = match command {
             Command::Change(change) => self.change(change).map(|()| Answer::Done),

@@ -6,6 +6,7 @@ use crate::limits;
 use crate::lines::Lines;
 use crate::output;
 use crate::world::World;
+use std::collections::HashMap;
 use std::ffi::OsString;
 use std::fs::File;
 use std::io::{self, BufRead, BufReader, Read, Write};
@@ -15,7 +16,7 @@ use std::process::ExitCode;
 const HELP: &str = "\
 Plays commands of role-based access control, one JSON object a line, and answers each line
 
-Usage: reference [play FOUNDING SCHEDULE]
+Usage: reference [play FOUNDING SCHEDULE | serve FOUNDING]
 
 FOUNDING is the file of the founding, or - for the sample founding.
 SCHEDULE is the file of the lines, or - for standard input.
@@ -30,6 +31,7 @@ const READ_BYTES: usize = 65_536;
 enum Words {
     Help,
     Play { founding: String, schedule: String },
+    Serve { founding: String },
 }
 
 /// What ends the program with status 1. The word in its message is the variant's name.
@@ -55,16 +57,21 @@ pub fn run(words: Vec<OsString>) -> ExitCode {
             print!("{HELP}");
             0
         }
-        Some(Words::Play { founding, schedule }) => match play(&founding, &schedule) {
-            Ok(()) => 0,
-            Err(fault) => {
-                // The monitor's own name, so that what both print can be compared.
-                eprintln!("rbac_monitor: {}", message(&fault));
-                1
-            }
-        },
+        Some(Words::Play { founding, schedule }) => status_of(play(&founding, &schedule)),
+        Some(Words::Serve { founding }) => status_of(serve(&founding)),
     };
     ExitCode::from(status)
+}
+
+fn status_of(ended: Result<(), Fault>) -> u8 {
+    match ended {
+        Ok(()) => 0,
+        Err(fault) => {
+            // The monitor's own name, so that what both print can be compared.
+            eprintln!("rbac_monitor: {}", message(&fault));
+            1
+        }
+    }
 }
 
 fn read_words(words: Vec<OsString>) -> Option<Words> {
@@ -76,6 +83,7 @@ fn read_words(words: Vec<OsString>) -> Option<Words> {
         ["play", founding, schedule] if is_path(founding) && is_path(schedule) => {
             Some(Words::Play { founding: founding.into(), schedule: schedule.into() })
         }
+        ["serve", founding] if is_path(founding) => Some(Words::Serve { founding: founding.into() }),
         _ => None,
     }
 }
@@ -88,13 +96,27 @@ fn message(fault: &Fault) -> String {
     }
 }
 
-fn play(founding: &str, schedule: &str) -> Result<(), Fault> {
-    let bytes = read_founding_file(founding).map_err(|_| Fault::File(founding.into()))?;
+fn found(path: &str) -> Result<World, Fault> {
+    let bytes = read_founding_file(path).map_err(|_| Fault::File(path.into()))?;
     let founding = founding::read_founding(&bytes).map_err(Fault::Founding)?;
-    let mut world = World::new(founding);
-    // Not the buffered standard output: each answer goes out when it is made.
-    let output = io::stdout().as_fd().try_clone_to_owned().map_err(|_| Fault::Run(RunFault::Write))?;
-    let output = File::from(output);
+    Ok(World::new(founding))
+}
+
+/// Not the buffered standard output: each answer goes out when it is made.
+fn unbuffered_output() -> Result<File, Fault> {
+    let output = io::stdout().as_fd().try_clone_to_owned();
+    output.map(File::from).map_err(|_| Fault::Run(RunFault::Write))
+}
+
+fn serve(founding: &str) -> Result<(), Fault> {
+    let mut world = found(founding)?;
+    let input = BufReader::with_capacity(READ_BYTES, io::stdin().lock());
+    serve_lines(input, unbuffered_output()?, &mut world).map_err(Fault::Run)
+}
+
+fn play(founding: &str, schedule: &str) -> Result<(), Fault> {
+    let mut world = found(founding)?;
+    let output = unbuffered_output()?;
     let played = if schedule == "-" {
         play_lines(BufReader::with_capacity(READ_BYTES, io::stdin().lock()), output, &mut world)
     } else {
@@ -127,6 +149,33 @@ fn play_lines(input: impl BufRead, mut output: impl Write, world: &mut World) ->
                 Err(refusal) => output::write_event_refusal(&mut text, number, refusal),
                 Ok(outcome) => output::write_outcome(&mut text, number, &outcome),
             },
+        }
+        output.write_all(&text).map_err(|_| RunFault::Write)?;
+    }
+    Ok(())
+}
+
+/// Each line is answered before the next is read. The caller has a serial of its own at each member.
+fn serve_lines(input: impl BufRead, mut output: impl Write, world: &mut World) -> Result<(), RunFault> {
+    let mut lines = Lines::new(input);
+    let mut number = 0;
+    let mut serials: HashMap<u32, u32> = HashMap::new();
+    let mut text = Vec::new();
+    while let Some(line) = lines.next().map_err(|_| RunFault::Read)? {
+        number += 1;
+        text.clear();
+        match event::read_client(line) {
+            Err(refusal) => output::write_line_refusal(&mut text, number, refusal),
+            Ok((at, command)) => {
+                let serial = serials.entry(at).or_default();
+                match world.answer(at, *serial, command) {
+                    Err(refusal) => output::write_event_refusal(&mut text, number, refusal),
+                    Ok(answer) => {
+                        *serial += 1;
+                        output::write_reply(&mut text, number, &answer);
+                    }
+                }
+            }
         }
         output.write_all(&text).map_err(|_| RunFault::Write)?;
     }

@@ -70,6 +70,8 @@ impl World {
         World { members: (1..=founding.members).map(member).collect() }
     }
 
+    // Not inlined, so that bench/shares tells it apart.
+    #[inline(never)]
     pub fn step(&mut self, event: Event) -> Result<Outcome, EventRefusal> {
         match event {
             Event::Submit { at, caller, serial, command } => {
@@ -82,6 +84,44 @@ impl World {
                 Ok(Outcome::Delivered(self.members[at].deliver()))
             }
         }
+    }
+
+    /// The answer of one member to a caller's next command: it is submitted, and then each member takes all messages and delivers
+    /// all that it can. Each member has to take each message, so no clock is near its end.
+    pub fn answer(&mut self, at: u32, serial: u32, command: Command) -> Result<Answer, EventRefusal> {
+        let place = self.place(at)?;
+        let stamp = self.members[place].submit(Call { caller: 0, serial, command })?;
+        let mut answer = None;
+        let mut moves = true;
+        while moves {
+            moves = false;
+            for taker in 1..=self.members.len() as u32 {
+                moves |= self.take_all(taker)?;
+                while let Some(record) = self.members[taker as usize - 1].deliver() {
+                    moves = true;
+                    if taker == at && record.stamp == stamp {
+                        answer = Some(record.answer);
+                    }
+                }
+            }
+        }
+        answer.ok_or(EventRefusal::NotSent)
+    }
+
+    /// One member takes all that the others have sent. It tells whether there was anything.
+    fn take_all(&mut self, at: u32) -> Result<bool, EventRefusal> {
+        let mut moves = false;
+        for from in (1..=self.members.len() as u32).filter(|from| *from != at) {
+            loop {
+                let number = self.members[at as usize - 1].taken_of(from) + 1;
+                match self.receive(at, from, number) {
+                    Err(EventRefusal::NotSent) => break,
+                    taken => taken?,
+                };
+                moves = true;
+            }
+        }
+        Ok(moves)
     }
 
     fn receive(&mut self, at: u32, from: u32, number: u32) -> Result<Option<Stamp>, EventRefusal> {

@@ -54,6 +54,11 @@ impl Member {
         self.sent.get((number as usize).checked_sub(1)?)
     }
 
+    /// How many messages of another member it has taken.
+    pub fn taken_of(&self, from: u32) -> u32 {
+        self.links[from as usize - 1].taken
+    }
+
     /// Sends a command that is submitted here, and holds it.
     pub fn submit(&mut self, call: Call) -> Result<Stamp, EventRefusal> {
         self.require_clock(self.clock + 1)?;
