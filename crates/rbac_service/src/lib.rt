@@ -15,3 +15,8 @@ pub use rbac_node::{
 };
 pub use refusal::{AwaitRefusal, CallRefusal, EnrollRefusal};
 pub use service::{PumpEnd, Service};
+
+#[cfg(test)]
+mod tests;
+#[cfg(test)]
+mod thread_tests;

@@ -1,0 +1,371 @@
+//! A service whose members take turns in place of threads.
+ghost use Rattle.std.specs.Prelude.{◌≡◌, ◌≤◌, length};
+ghost use Rattle.rbac_node.specs.Pass.{Owns};
+
+use crate::{
+    AuditRefusal, AwaitRefusal, Courier, EnrollRefusal, GroupName, Hint, MeetRefusal, NoGate, Node,
+    Pass, PumpEnd, Rows, Service, ServiceRefusal, Ticket, Wake, audit,
+};
+use rbac_words::{Answer, Command, Group, Name, NameSet, Record, Review, Stamp, Vocabulary};
+use std::alloc::Global;
+use std::marker::Brand;
+use std::process::Abort;
+use std::sync::Wait;
+
+// Loses every hint.
+#[derive(Drop)]
+struct Lost;
+
+impl Courier for Lost {
+    fn tell(&self, _to: u32, _hint: Hint) {}
+
+    fn next(&self, _at: u32) -> Wake {
+        Wake::Sweep
+    }
+}
+
+fn ann(rt: &impl Abort, alloc: Global) -> Name {
+    Name::read(alloc, b"ann").expect(rt, "a name")
+}
+
+// The command that adds ann.
+fn add_ann(rt: &impl Abort, alloc: Global) -> Command {
+    let user = ann(rt, alloc);
+    Command::AddUser { user }
+}
+
+// The command that asks for the roles of ann.
+fn roles_of_ann(rt: &impl Abort, alloc: Global) -> Command {
+    let user = ann(rt, alloc);
+    Command::Review(Review::AssignedRoles { user })
+}
+
+fn group_of(rt: &impl Abort, members: u32) -> Group
+    ensures { result.members ≡ members }
+{
+    Group::build(members, 0, 16).expect(rt, "a group")
+}
+
+fn words_of(rt: &impl Abort, alloc: Global) -> Vocabulary {
+    let words = Vocabulary::build(Vec::new(alloc), Vec::new(alloc), Vec::new(alloc));
+    words.expect(rt, "a vocabulary")
+}
+
+fn rows_of(rt: &impl Abort, alloc: Global, group: Group) -> Rows
+    ensures { length result.sent ≡ group.members }
+{
+    Rows::found(alloc, group).expect(rt, "memory")
+}
+
+// The service of the founding that G names.
+fn founded<G: GroupName>(
+    rt: &impl Abort,
+    alloc: Global,
+    rows: Rows,
+    group: Group,
+    words: Vocabulary,
+) -> Service<G, NoGate, Lost>
+    requires names { (group ≡ G.group) × (words ≡ G.vocabulary) × (rows ≡ G.cells) }
+    requires members { length rows.sent ≡ group.members }
+{
+    let service = Service::found(alloc, rows, group, words, NoGate, Lost);
+    service.expect(rt, "memory")
+}
+
+fn new_pass<G: GroupName, R: Wait + Abort>(
+    rt: &R,
+    service: &Service<G, NoGate, Lost>,
+    at: u32,
+) -> Pass<G> {
+    service.enroll(rt, at).expect(rt, "a pass")
+}
+
+fn expect_no_pass<G: GroupName, R: Wait + Abort>(
+    rt: &R,
+    service: &Service<G, NoGate, Lost>,
+    at: u32,
+    wanted: EnrollRefusal,
+) {
+    let refusal = service.enroll(rt, at).err().expect(rt, "a refusal");
+    assert_eq!(rt; refusal, wanted);
+}
+
+// Each of two members takes turns, until both have received and delivered all that was sent.
+fn turn_all<G: GroupName, R: Wait>(rt: &R, alloc: Global, service: &Service<G, NoGate, Lost>) {
+    for _ in 0..3u32 {
+        let _first = service.turn(rt, alloc, 1, Wake::Sweep);
+        let _second = service.turn(rt, alloc, 2, Wake::Sweep);
+    }
+}
+
+// Submits a command, and the ticket is the pass's own.
+fn submitted<G: GroupName, R: Wait + Abort>(
+    rt: &R,
+    alloc: Global,
+    service: &Service<G, NoGate, Lost>,
+    pass: &mut Pass<G>,
+    command: Command,
+) -> Ticket
+    ensures { Owns pass.new result }
+{
+    let ticket = service
+        .submit(rt, alloc, pass, command)
+        .expect(rt, "a ticket");
+    assert!(rt; pass.owns(&ticket));
+    ticket
+}
+
+// Submits a command in vain.
+fn expect_refusal<G: GroupName, R: Wait + Abort>(
+    rt: &R,
+    alloc: Global,
+    service: &Service<G, NoGate, Lost>,
+    pass: &mut Pass<G>,
+    wanted: ServiceRefusal,
+)
+    ensures { pass.new ≡ pass.old }
+{
+    let answer = service.submit(rt, alloc, pass, add_ann(rt, alloc));
+    let refusal = answer.err().expect(rt, "a refusal");
+    assert_eq!(rt; refusal, wanted);
+}
+
+// Awaits the answer, and compares it and its place.
+fn expect_receipt<G: GroupName, R: Wait + Abort>(
+    rt: &R,
+    service: &Service<G, NoGate, Lost>,
+    pass: &mut Pass<G>,
+    ticket: Ticket,
+    place: usize,
+    answer: Answer,
+)
+    requires { Owns pass.old ticket }
+{
+    let found = service.await_answer(rt, pass, ticket);
+    let receipt = found.ok().expect(rt, "an answer");
+    assert_eq!(rt; receipt.place, place);
+    assert!(rt; receipt.answer.same(&answer));
+}
+
+// A command whose answer does not come before the stop: the ticket comes back.
+fn expect_stopped<G: GroupName, R: Wait + Abort>(
+    rt: &R,
+    service: &Service<G, NoGate, Lost>,
+    pass: &mut Pass<G>,
+    ticket: Ticket,
+)
+    requires { Owns pass.old ticket }
+{
+    let found = service.await_answer(rt, pass, ticket);
+    assert!(rt; matches!(&found, Err(AwaitRefusal::Stopped(_))));
+}
+
+// A command is submitted, and answered once the members took their turns. Until then the pass is busy.
+fn expect_answer<G: GroupName, R: Wait + Abort>(
+    rt: &R,
+    alloc: Global,
+    service: &Service<G, NoGate, Lost>,
+    pass: &mut Pass<G>,
+    command: Command,
+    place: usize,
+    answer: Answer,
+) {
+    let ticket = submitted(rt, alloc, service, pass, command);
+    expect_refusal(rt, alloc, service, pass, ServiceRefusal::Busy);
+    turn_all(rt, alloc, service);
+    expect_receipt(rt, service, pass, ticket, place, answer);
+}
+
+// How much both passes know.
+fn expect_fronts<G: GroupName>(
+    rt: &impl Abort,
+    one: &Pass<G>,
+    other: &Pass<G>,
+    wanted: (usize, usize),
+) {
+    assert_eq!(rt; (one.front_len(), other.front_len()), wanted);
+}
+
+fn expect_meeting<G: GroupName>(
+    rt: &impl Abort,
+    service: &Service<G, NoGate, Lost>,
+    one: &mut Pass<G>,
+    other: &mut Pass<G>,
+    wanted: Result<(), MeetRefusal>,
+) {
+    assert_eq!(rt; service.meet(one, other), wanted);
+}
+
+// A member has published so many records.
+fn expect_published<G: GroupName>(
+    rt: &impl Abort,
+    service: &Service<G, NoGate, Lost>,
+    at: u32,
+    count: usize,
+) {
+    let last = service.published(at, count.saturating_sub(1));
+    assert!(rt; last.is_some());
+    assert!(rt; service.published(at, count).is_none());
+}
+
+// The nodes are a group, whose members have delivered so many commands.
+fn expect_audit<G: GroupName>(
+    rt: &impl Abort,
+    alloc: Global,
+    nodes: &mut [Node<G>],
+    wanted: &[usize],
+) {
+    let audited = audit(alloc, nodes).expect(rt, "a group");
+    assert_eq!(rt; audited.delivered.as_slice(), wanted);
+}
+
+fn is_no_group<G: GroupName>(alloc: Global, nodes: &mut [Node<G>]) -> bool {
+    matches!(audit(alloc, nodes), Err(AuditRefusal::NotAGroup))
+}
+
+// The first node confirms the pass.
+fn expect_confirmed<G: GroupName>(rt: &impl Abort, nodes: &mut [Node<G>], pass: &mut Pass<G>) {
+    let node = nodes.first_mut().expect(rt, "a node");
+    assert!(rt; node.confirms(pass));
+}
+
+// Two callers of one member, by turns.
+fn talk<G: GroupName, R: Wait + Abort>(
+    rt: &R,
+    alloc: Global,
+    service: &Service<G, NoGate, Lost>,
+    one: &mut Pass<G>,
+    other: &mut Pass<G>,
+) {
+    expect_answer(rt, alloc, service, one, add_ann(rt, alloc), 0, Answer::Done);
+    let none = Answer::Names(NameSet::new(alloc));
+    let asked = roles_of_ann(rt, alloc);
+    expect_answer(rt, alloc, service, other, asked, 1, none);
+    expect_fronts(rt, one, other, (1, 2));
+    expect_meeting(rt, service, one, other, Ok(()));
+    expect_fronts(rt, one, other, (2, 2));
+    expect_published(rt, service, 1, 2);
+}
+
+// A member that is alone in its group, and two callers.
+fn run_alone<G: GroupName, R: Wait + Abort>(
+    rt: &R,
+    alloc: Global,
+    rows: Rows,
+    group: Group,
+    words: Vocabulary,
+)
+    requires names { (group ≡ G.group) × (words ≡ G.vocabulary) × (rows ≡ G.cells) }
+    requires members { length rows.sent ≡ group.members }
+{
+    let service: Service<G, NoGate, Lost> = founded(rt, alloc, rows, group, words);
+    let mut one = new_pass(rt, &service, 1);
+    let mut other = new_pass(rt, &service, 1);
+    expect_no_pass(rt, &service, 2, EnrollRefusal::UnknownMember);
+    talk(rt, alloc, &service, &mut one, &mut other);
+    service.stop(rt);
+    expect_refusal(rt, alloc, &service, &mut one, ServiceRefusal::Stopped);
+    expect_no_pass(rt, &service, 1, EnrollRefusal::Stopped);
+    let mut nodes = service.take_nodes();
+    expect_audit(rt, alloc, &mut nodes, &[2]);
+    expect_confirmed(rt, &mut nodes, &mut one);
+    expect_confirmed(rt, &mut nodes, &mut other);
+}
+
+#[test]
+fn two_callers_take_turns(rt: HostRuntime) {
+    let alloc = rt.alloc();
+    let group = group_of(&rt, 1);
+    let rows = rows_of(&rt, alloc, group);
+    run_alone::<Brand, _>(&rt, alloc, rows, group, words_of(&rt, alloc));
+}
+
+// Callers of two members do not meet. What one submitted is answered once the other member has acknowledged it, and what is
+// not answered before the stop is not answered after it.
+fn run_two<G: GroupName, R: Wait + Abort>(
+    rt: &R,
+    alloc: Global,
+    rows: Rows,
+    group: Group,
+    words: Vocabulary,
+)
+    requires names { (group ≡ G.group) × (words ≡ G.vocabulary) × (rows ≡ G.cells) }
+    requires members { length rows.sent ≡ group.members }
+{
+    let service: Service<G, NoGate, Lost> = founded(rt, alloc, rows, group, words);
+    let mut one = new_pass(rt, &service, 1);
+    let mut other = new_pass(rt, &service, 2);
+    let apart = Err(MeetRefusal::OtherMember);
+    expect_meeting(rt, &service, &mut one, &mut other, apart);
+    let added = add_ann(rt, alloc);
+    expect_answer(rt, alloc, &service, &mut one, added, 0, Answer::Done);
+    let ticket = submitted(rt, alloc, &service, &mut other, roles_of_ann(rt, alloc));
+    service.stop(rt);
+    expect_stopped(rt, &service, &mut other, ticket);
+    expect_fronts(rt, &one, &other, (1, 0));
+    let mut nodes = service.take_nodes();
+    expect_audit(rt, alloc, &mut nodes, &[1, 1]);
+    nodes.reverse();
+    assert!(rt; is_no_group(alloc, &mut nodes));
+}
+
+#[test]
+fn two_members_answer_and_stop(rt: HostRuntime) {
+    let alloc = rt.alloc();
+    let group = group_of(&rt, 2);
+    let rows = rows_of(&rt, alloc, group);
+    run_two::<Brand, _>(&rt, alloc, rows, group, words_of(&rt, alloc));
+}
+
+// A record that no member made.
+fn forged(rt: &impl Abort, alloc: Global) -> Record {
+    Record {
+        stamp: Stamp {
+            clock: 1,
+            member: 1,
+        },
+        caller: 0,
+        serial: 0,
+        command: add_ann(rt, alloc),
+        answer: Answer::Done,
+    }
+}
+
+// Sets the first cell of member 1's history row.
+fn spoil(rt: &impl Abort, alloc: Global, rows: &Rows)
+    requires { 1 ≤ length rows.now.sent }
+{
+    let record = Box::new(alloc, forged(rt, alloc)).expect(rt, "memory");
+    let row = rows.history(1);
+    let set = row.set(&mut row.mark(), 0, record);
+    assert!(rt; set.is_ok());
+}
+
+// A member that can't publish what it delivers gives up, and the service is stopped.
+fn run_spoiled<G: GroupName, R: Wait + Abort>(
+    rt: &R,
+    alloc: Global,
+    rows: Rows,
+    group: Group,
+    words: Vocabulary,
+)
+    requires names { (group ≡ G.group) × (words ≡ G.vocabulary) × (rows ≡ G.cells) }
+    requires members { length rows.sent ≡ group.members }
+{
+    let service: Service<G, NoGate, Lost> = founded(rt, alloc, rows, group, words);
+    assert_eq!(rt; service.pump(rt, alloc, 2), PumpEnd::UnknownMember);
+    let mut pass = new_pass(rt, &service, 1);
+    let ticket = submitted(rt, alloc, &service, &mut pass, add_ann(rt, alloc));
+    assert_eq!(rt; service.pump(rt, alloc, 1), PumpEnd::GaveUp);
+    expect_stopped(rt, &service, &mut pass, ticket);
+    expect_refusal(rt, alloc, &service, &mut pass, ServiceRefusal::Stopped);
+}
+
+#[test]
+fn a_member_whose_cell_is_taken_gives_up(rt: HostRuntime) {
+    let alloc = rt.alloc();
+    let group = group_of(&rt, 1);
+    let rows = rows_of(&rt, alloc, group);
+    spoil(&rt, alloc, &rows);
+    run_spoiled::<Brand, _>(&rt, alloc, rows, group, words_of(&rt, alloc));
+}

@@ -1,0 +1,241 @@
+//! A service whose members run in threads, beside callers in threads of their own.
+ghost use Rattle.std.specs.Prelude.{◌≡◌, length};
+
+use crate::{
+    ChannelCourier, Courier, Gate, GroupName, Hint, Moment, NoGate, Pass, PumpEnd, Rows, Service,
+    Wake, audit,
+};
+use rbac_words::{Command, Group, Name, Stamp, Vocabulary};
+use std::alloc::Global;
+use std::marker::Brand;
+use std::process::Abort;
+use std::sync::Wait;
+use std::sync::atomic::{AtomicBool, AtomicU64, Ordering};
+use std::thread;
+use std::thread::Threads;
+use std::time::{Clock, Duration};
+
+fn two_members(rt: &impl Abort) -> Group {
+    Group::build(2, 0, 1024).expect(rt, "a group")
+}
+
+fn words_of(rt: &impl Abort, alloc: Global) -> Vocabulary {
+    let words = Vocabulary::build(Vec::new(alloc), Vec::new(alloc), Vec::new(alloc));
+    words.expect(rt, "a vocabulary")
+}
+
+fn rows_of(rt: &impl Abort, alloc: Global, group: Group) -> Rows
+    ensures { length result.sent ≡ group.members }
+{
+    Rows::found(alloc, group).expect(rt, "memory")
+}
+
+// The command that adds a role.
+fn add_clerk(rt: &impl Abort, alloc: Global) -> Command {
+    let role = Name::read(alloc, b"clerk").expect(rt, "a name");
+    Command::AddRole { role }
+}
+
+// Whether a command is answered.
+fn is_answered<G: GroupName, K: Gate + Drop, C: Courier + Drop, R: Wait + Abort>(
+    rt: &R,
+    alloc: Global,
+    service: &Service<G, K, C>,
+    pass: &mut Pass<G>,
+) -> bool {
+    service.call(rt, alloc, pass, add_clerk(rt, alloc)).is_ok()
+}
+
+// Whether each of so many commands of a new caller of member 1 is answered.
+fn are_answered<G: GroupName, K: Gate + Drop, C: Courier + Drop, R: Wait + Abort>(
+    rt: &R,
+    alloc: Global,
+    service: &Service<G, K, C>,
+    count: u32,
+) -> bool {
+    let Ok(mut pass) = service.enroll(rt, 1) else {
+        return false;
+    };
+    for _ in 0..count {
+        if !is_answered(rt, alloc, service, &mut pass) {
+            return false;
+        }
+    }
+    true
+}
+
+// Whether all commands of two callers of member 1 are answered, so many each, beside the threads of two members, and both threads
+// end at the stop.
+fn run_threads<
+    G: GroupName + Send + Sync,
+    K: Gate + Drop + Send + Sync,
+    C: Courier + Drop + Send + Sync,
+    R: Threads + Wait + Abort + Send + Sync,
+>(rt: &R, alloc: Global, service: &Service<G, K, C>, count: u32) -> bool {
+    thread::scope(thread::scope_env(), rt, move |scope| {
+        let first = scope.spawn(move || service.pump(rt, alloc, 1));
+        let second = scope.spawn(move || service.pump(rt, alloc, 2));
+        let (one, other) = thread::join(
+            rt,
+            move || are_answered(rt, alloc, service, count),
+            move || are_answered(rt, alloc, service, count),
+        );
+        service.stop(rt);
+        let (Ok(first), Ok(second)) = (first, second) else {
+            return false;
+        };
+        let ends = [first.join(rt), second.join(rt)];
+        one && other && ends == [PumpEnd::Stopped, PumpEnd::Stopped]
+    })
+}
+
+// Member 1 has delivered so many commands.
+fn expect_audit<G: GroupName, K: Gate + Drop, C: Courier + Drop>(
+    rt: &impl Abort,
+    alloc: Global,
+    service: Service<G, K, C>,
+    wanted: usize,
+) {
+    let audited = audit(alloc, &mut service.take_nodes()).expect(rt, "a group");
+    assert_eq!(rt; audited.delivered.first().copied(), Some(wanted));
+}
+
+fn run_with_channels<
+    G: GroupName + Send + Sync,
+    R: Threads + Wait + Clock + Abort + Copy + Send + Sync,
+>(rt: &R, alloc: Global, rows: Rows, group: Group, words: Vocabulary)
+    requires names { (group ≡ G.group) × (words ≡ G.vocabulary) × (rows ≡ G.cells) }
+    requires members { length rows.sent ≡ group.members }
+{
+    let courier = ChannelCourier::found(*rt, alloc, 2).expect(rt, "memory");
+    let found = Service::found(alloc, rows, group, words, NoGate, courier);
+    let service: Service<G, NoGate, ChannelCourier<R>> = found.expect(rt, "memory");
+    assert!(rt; run_threads(rt, alloc, &service, 100));
+    expect_audit(rt, alloc, service, 200);
+}
+
+#[test]
+fn two_callers_are_answered(rt: HostRuntime) {
+    let alloc = rt.alloc();
+    let group = two_members(&rt);
+    let rows = rows_of(&rt, alloc, group);
+    run_with_channels::<Brand, _>(&rt, alloc, rows, group, words_of(&rt, alloc));
+}
+
+// Holds the call of the first command until another one is answered, for some seconds at most.
+#[derive(Drop)]
+struct HoldsFirst<R: Clock + Copy + Drop> {
+    rt: R,
+    has_answered: AtomicBool,
+    gave_up: AtomicBool,
+}
+
+fn is_first(stamp: Stamp) -> bool {
+    stamp.clock == 1 && stamp.member == 1
+}
+
+impl<R: Clock + Copy + Drop> HoldsFirst<R> {
+    fn hold(&self) {
+        for _ in 0..100_000u32 {
+            if self.has_answered.load(Ordering::SeqCst) {
+                return;
+            }
+            thread::sleep(&self.rt, Duration::from_micros(50));
+        }
+        self.gave_up.store(true, Ordering::SeqCst);
+    }
+
+    // Whether another command was answered while the first one was held.
+    fn has_held(&self) -> bool {
+        self.has_answered.load(Ordering::SeqCst) && !self.gave_up.load(Ordering::SeqCst)
+    }
+}
+
+impl<R: Clock + Copy + Drop> Gate for HoldsFirst<R> {
+    fn at(&self, moment: Moment) {
+        match moment {
+            Moment::Submitted(stamp) if is_first(stamp) => self.hold(),
+            Moment::Answered(stamp) if !is_first(stamp) => {
+                self.has_answered.store(true, Ordering::SeqCst)
+            }
+            _ => {}
+        }
+    }
+}
+
+fn run_with_gate<
+    G: GroupName + Send + Sync,
+    R: Threads + Wait + Clock + Abort + Copy + Drop + Send + Sync,
+>(rt: &R, alloc: Global, rows: Rows, group: Group, words: Vocabulary)
+    requires names { (group ≡ G.group) × (words ≡ G.vocabulary) × (rows ≡ G.cells) }
+    requires members { length rows.sent ≡ group.members }
+{
+    let gate = HoldsFirst {
+        rt: *rt,
+        has_answered: AtomicBool::new(false),
+        gave_up: AtomicBool::new(false),
+    };
+    let courier = ChannelCourier::found(*rt, alloc, 2).expect(rt, "memory");
+    let found = Service::found(alloc, rows, group, words, gate, courier);
+    let service: Service<G, HoldsFirst<R>, ChannelCourier<R>> = found.expect(rt, "memory");
+    assert!(rt; run_threads(rt, alloc, &service, 1));
+    assert!(rt; service.gate.has_held());
+    expect_audit(rt, alloc, service, 2);
+}
+
+#[test]
+fn a_call_is_held_while_another_is_answered(rt: HostRuntime) {
+    let alloc = rt.alloc();
+    let group = two_members(&rt);
+    let rows = rows_of(&rt, alloc, group);
+    run_with_gate::<Brand, _>(&rt, alloc, rows, group, words_of(&rt, alloc));
+}
+
+// Loses every second hint, and gives every third one of the others twice.
+#[derive(Drop)]
+struct Unreliable<R: Wait + Clock + Drop> {
+    courier: ChannelCourier<R>,
+    hints: AtomicU64,
+}
+
+impl<R: Wait + Clock + Drop> Courier for Unreliable<R> {
+    fn tell(&self, to: u32, hint: Hint) {
+        let count = self.hints.fetch_add(1, Ordering::SeqCst);
+        if count % 2 == 1 {
+            return;
+        }
+        self.courier.tell(to, hint);
+        if count % 3 == 0 {
+            self.courier.tell(to, hint);
+        }
+    }
+
+    fn next(&self, at: u32) -> Wake {
+        self.courier.next(at)
+    }
+}
+
+fn run_with_losses<
+    G: GroupName + Send + Sync,
+    R: Threads + Wait + Clock + Abort + Copy + Send + Sync,
+>(rt: &R, alloc: Global, rows: Rows, group: Group, words: Vocabulary)
+    requires names { (group ≡ G.group) × (words ≡ G.vocabulary) × (rows ≡ G.cells) }
+    requires members { length rows.sent ≡ group.members }
+{
+    let courier = Unreliable {
+        courier: ChannelCourier::found(*rt, alloc, 2).expect(rt, "memory"),
+        hints: AtomicU64::new(0),
+    };
+    let found = Service::found(alloc, rows, group, words, NoGate, courier);
+    let service: Service<G, NoGate, Unreliable<R>> = found.expect(rt, "memory");
+    assert!(rt; run_threads(rt, alloc, &service, 6));
+    expect_audit(rt, alloc, service, 12);
+}
+
+#[test]
+fn lost_and_repeated_hints_lose_no_answer(rt: HostRuntime) {
+    let alloc = rt.alloc();
+    let group = two_members(&rt);
+    let rows = rows_of(&rt, alloc, group);
+    run_with_losses::<Brand, _>(&rt, alloc, rows, group, words_of(&rt, alloc));
+}
