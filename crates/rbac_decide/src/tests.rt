@@ -158,13 +158,13 @@ fn applies_reviews(rt: HostRuntime) {
     expect_review(&rt, rt.alloc(), &mut policy, review, denied);
 }
 
-// What a check answers: whether it grants, or the denial's number.
-fn checked(rt: &impl Abort, alloc: Global, policy: &Policy, words: [&str; 3]) -> Result<bool, u32> {
-    let session = name(rt, alloc, words[0]);
-    let operation = name(rt, alloc, words[1]);
-    let object = name(rt, alloc, words[2]);
-    let answer = policy.check(&session, &operation, &object);
-    answer.map_err(|denial| denial.number())
+// Whether a check is answered so: granted or not, or the denial's number.
+fn is_answered(answer: Result<bool, Denial>, wanted: Result<bool, u32>) -> bool {
+    match (answer, wanted) {
+        (Ok(granted), Ok(is_wanted)) => granted == is_wanted,
+        (Err(denial), Err(number)) => denial.number() == number,
+        _ => false,
+    }
 }
 
 fn expect_check(
@@ -174,7 +174,11 @@ fn expect_check(
     words: [&str; 3],
     wanted: Result<bool, u32>,
 ) {
-    assert!(rt; checked(rt, alloc, policy, words) == wanted);
+    let session = name(rt, alloc, words[0]);
+    let operation = name(rt, alloc, words[1]);
+    let object = name(rt, alloc, words[2]);
+    let answer = policy.check(&session, &operation, &object);
+    assert!(rt; is_answered(answer, wanted));
 }
 
 #[test]
