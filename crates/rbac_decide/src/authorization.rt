@@ -1,5 +1,5 @@
 //! Who is authorized for a role, and which roles have a permission, by the sets of a policy.
-ghost use Rattle.std.specs.Prelude.{◌≡◌, ◌&&◌, ◌||◌, count_by, IfOk};
+ghost use Rattle.std.specs.Prelude.{◌≡◌, ◌&&◌, ◌||◌, IfOk};
 ghost use Rattle.sorted_keys.specs.Keys.{has};
 ghost use Rattle.rbac_words.specs.Name.{Name as NameValue, name_cmp};
 ghost use Rattle.std.specs.List.{list_all, list_any};
@@ -77,21 +77,6 @@ pub fn authorized_with(
 {
     let juniors = hierarchy.juniors(alloc, role)?;
     hierarchy.with_juniors_of_assigned(juniors, sets.assignments_of(user))
-}
-
-/// How many of the roles the user is authorized for.
-pub fn count_authorized(
-    sets: &RoleSets,
-    hierarchy: &Hierarchy,
-    user: &Name,
-    roles: &[Name],
-) -> usize
-    ensures { result ≡ count_by (is_authorized (state_of_roles sets.now.content hierarchy.now.content) user.now) roles.now }
-{
-    roles
-        .iter()
-        .filter(|role| is_authorized(sets, hierarchy, user, role))
-        .count()
 }
 
 /// Whether each of the roles is there, and the owner of a session is authorized for it. Where the owner is, the role is there.

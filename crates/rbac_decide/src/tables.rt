@@ -133,11 +133,11 @@ impl Tables {
             Command::AddAscendant {
                 ascendant,
                 descendant,
-            } => self.add_ascendant(alloc, ascendant, descendant)?,
+            } => self.add_role_with_pair(alloc, ascendant, ascendant, descendant)?,
             Command::AddDescendant {
                 ascendant,
                 descendant,
-            } => self.add_descendant(alloc, ascendant, descendant)?,
+            } => self.add_role_with_pair(alloc, descendant, ascendant, descendant)?,
             Command::CreateSet {
                 kind,
                 set,

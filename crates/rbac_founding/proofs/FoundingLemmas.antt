@@ -1,5 +1,5 @@
 -- Reading a founding file.
-use Rattle.std.proofs.Common.{◌≡◌, ◌≢◌, ◌&&◌, ◌++◌, ◌+◌, ◌<◌, ◌≤◌, ℕ, List, [], ◌∷◌, length, map, take, drop, get_or, Bool, true, false, Option, None, Some, Ok, Err, is_some, option_map, option_and_then, unwrap_or, if◌then◌else◌, String, Global, string_bytes, Bor, IsUtf8, append_assoc, refl, sym, ap, ◌∙◌}
+use Rattle.std.proofs.Common.{◌≡◌, ◌≢◌, ◌&&◌, ◌++◌, ◌+◌, ◌<◌, ◌≤◌, ℕ, List, [], ◌∷◌, length, map, take, drop, get_or, Bool, true, false, Option, None, Some, Result, Ok, Err, is_some, option_map, option_and_then, unwrap_or, if◌then◌else◌, String, Global, string_bytes, Bor, IsUtf8, append_assoc, refl, sym, ap, ◌∙◌}
 use Rattle.std.specs.List.{list_all, list_any}
 use Rattle.std.specs.Map.{keys_of as entry_keys}
 use Rattle.std.specs.Option.{ok_or}
@@ -9,8 +9,9 @@ use Rattle.toml.specs.Data.{Data, Items, Members, as_array, as_str}
 use Rattle.toml.specs.Parse.{parse_document}
 use Rattle.toml.specs.View.{view, items_view, members_view}
 use Rattle.toml.specs.declared.value.Value.{Value}
-use Rattle.rbac_founding.specs.Steps.{◌>>=◌}
+use Rattle.rbac_founding.specs.Steps.{◌>>=◌, seen}
 use Rattle.rbac_founding.specs.FoundingFile.{Reading, document_of, founding_of, longest_file, has_only, each, two, as_permission}
+use Rattle.rbac_founding.specs.declared.refusal.FoundingRefusal.{FoundingRefusal}
 use Rattle.rbac_founding.specs.declared.refusal.FoundingRefusal.TheVariants.{TooLong, NotToml, WrongKind, BadName}
 use Rattle.rbac_founding.proofs.LongLemmas.{is_longer, is_within, front_value}
 use Rattle.rbac_founding.proofs.ReadingLemmas.{list_any-map, of_kind_more}
@@ -59,6 +60,27 @@ pub at_array : {T : Type 0} (kind : Data → Option T) (found : Option Data) (ar
     → ok_or (option_and_then (λ value. option_and_then (each kind) (as_array value)) found) WrongKind ≡ ok_or (each kind array) WrongKind
 at_array kind None array is = cc
 at_array kind (Some value) array is = in_array kind (as_array value) array is
+
+-- what is read there, of an array that is kept if all its values are of the kind
+pub kinds_at : {T : Type 0} (kind : Data → Option T) (instead : T) (found : Option Data) (array : List Value) (are : Bool) (kept : Result (Bor (List Value)) FoundingRefusal)
+    → Ok (items_view array) ≡ ok_or (option_and_then as_array found) WrongKind → are ≡ list_all (λ value. is_some (kind (view value))) array
+    → seen (λ values. values.now) kept ≡ (if are then Ok array else Err WrongKind)
+    → seen (λ values. map (λ value. unwrap_or (kind (view value)) instead) values.now) kept ≡ ok_or (option_and_then (λ value. option_and_then (each kind) (as_array value)) found) WrongKind
+kinds_at {T} kind instead found array are kept is told held =
+    read kept are held
+    ∙ ap (λ all. ok_or (if all then Some (map element array) else None) WrongKind) told
+    ∙ sym (ap (λ elements. ok_or elements WrongKind) (each_of kind instead array))
+    ∙ sym (at_array kind found (items_view array) is)
+  where
+    element : Value → T
+    element value = unwrap_or (kind (view value)) instead
+
+    read : (r : Result (Bor (List Value)) FoundingRefusal) (b : Bool) → seen (λ values. values.now) r ≡ (if b then Ok array else Err WrongKind)
+        → seen (λ values. map element values.now) r ≡ ok_or (if b then Some (map element array) else None) WrongKind
+    read (Ok values) true e = let same : values.now ≡ array = cc in ap (λ a. Ok (map element a)) same
+    read (Ok values) false e = cc
+    read (Err refusal) true e = cc
+    read (Err refusal) false e = let same : refusal ≡ WrongKind = cc in ap Err same
 
 one_text : (first : Option (List ℕ)) → option_and_then two (option_and_then (λ text. option_map (λ texts. text ∷ texts) (Some [])) first) ≡ None
 one_text None = refl

@@ -1,5 +1,5 @@
 //! Reading what stands at the keys of a founding file, each value of its kind.
-ghost use Rattle.std.specs.Prelude.{◌≡◌, is_some, map, option_map};
+ghost use Rattle.std.specs.Prelude.{◌≡◌, if◌then◌else◌, Ok, Err, is_some, map, option_map};
 ghost use Rattle.std.specs.List.{list_all};
 ghost use Rattle.toml.specs.Data.{as_array, as_str};
 ghost use Rattle.toml.specs.View.{view, items_view, table_view};
@@ -65,24 +65,29 @@ fn are_pairs(array: &[Value]) -> bool
     array.iter().all(|value| is_pair(value))
 }
 
+// The array, if its values are of their kind.
+fn all_of_kind(array: &[Value], are: bool) -> Result<&[Value], FoundingRefusal>
+    ensures { seen (λ kept. kept.now) result ≡ (if are then Ok array.now else Err FoundingRefusal.WrongKind) }
+{
+    if are {
+        Ok(array)
+    } else {
+        Err(FoundingRefusal::WrongKind)
+    }
+}
+
 fn texts_at<'d>(document: &'d Table, key: &str) -> Result<&'d [Value], FoundingRefusal>
     ensures { seen (λ array. map text_of array.now) result ≡ array_at as_texts key.now (table_view document.now) }
 {
     let array = array_at(document, key)?;
-    if !are_texts(array) {
-        return Err(FoundingRefusal::WrongKind);
-    }
-    Ok(array)
+    all_of_kind(array, are_texts(array))
 }
 
 fn pairs_at<'d>(document: &'d Table, key: &str) -> Result<&'d [Value], FoundingRefusal>
     ensures { seen (λ array. map pair_of array.now) result ≡ array_at as_permissions key.now (table_view document.now) }
 {
     let array = array_at(document, key)?;
-    if !are_pairs(array) {
-        return Err(FoundingRefusal::WrongKind);
-    }
-    Ok(array)
+    all_of_kind(array, are_pairs(array))
 }
 
 /// Reads what stands at the keys of a document.

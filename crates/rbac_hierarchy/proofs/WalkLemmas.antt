@@ -52,6 +52,10 @@ added x found q m = has-with_key names_total x found q ∙ or_right _ _ m
 pub added_itself : (x : Name) (found : List Name) → has name_cmp x (with_key name_cmp x found) ≡ true
 added_itself x found = has-with_key names_total x found x ∙ or_left _ _ (ties_itself names_total x)
 
+-- of two roles that are added the first stays
+pub added_before : (x y : Name) (found : List Name) → has name_cmp x (with_key name_cmp y (with_key name_cmp x found)) ≡ true
+added_before x y found = added y (with_key name_cmp x found) x (added_itself x found)
+
 added_or_there : (x : Name) (found : List Name) (q : Name) → has name_cmp q (with_key name_cmp x found) ≡ true → (q ≡ x) ⊎ (has name_cmp q found ≡ true)
 added_or_there x found q m = ⊎_elim (λ e. inl (one_key names_exact q x e)) inr (or_cases _ _ (sym (has-with_key names_total x found q) ∙ m))
 

@@ -6,6 +6,7 @@ use Rattle.serde_json.specs.Read.{read}
 use Rattle.line_engine.specs.Lines.{clip, longest_line}
 use Rattle.rbac_founding.proofs.LongLemmas.{is_longer, is_within, front_value}
 use Rattle.rbac_founding.proofs.Utf8Lemmas.{parsed, not_parsed}
+use Rattle.rbac_lines.specs.Client.{client}
 use Rattle.rbac_lines.specs.Event.{event, json_of, value_of}
 use Rattle.rbac_lines.specs.declared.refusal.LineRefusal.TheVariants.{TooLong, NotJson}
 
@@ -30,3 +31,11 @@ event_long line long = rw (value_of_long line long) refl
 -- what is kept of a line stands for the same event
 pub event_clip : (line : List ℕ) → event (clip line) ≡ event line
 event_clip line = front_value event (Err TooLong) longest_line event_long line
+
+client_long : (line : List ℕ) → longest_line < length line → client line ≡ Err TooLong
+unfolding client
+client_long line long = rw (value_of_long line long) refl
+
+-- and asks for the same command
+pub client_clip : (line : List ℕ) → client (clip line) ≡ client line
+client_clip line = front_value client (Err TooLong) longest_line client_long line

@@ -1,4 +1,5 @@
 pub mod ArrayLemmas
+pub mod ConversationLemmas
 pub mod EventLemmas
 pub mod FieldLemmas
 pub mod TextLemmas

@@ -1,4 +1,6 @@
+pub mod Client
 pub mod Command
+pub mod Conversation
 pub mod Event
 pub mod Fields
 pub mod Text

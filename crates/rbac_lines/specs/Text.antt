@@ -1,5 +1,5 @@
 -- What a line is answered with: compact JSON without blanks, its keys in the order of their bytes, and a line feed.
-use Rattle.std.specs.Prelude.{ℕ, List, ◌++◌, codes, decimal, Option, Some, None}
+use Rattle.std.specs.Prelude.{ℕ, List, ◌++◌, codes, decimal, Option, Some, None, Result, Ok, Err}
 use Rattle.std.specs.List.{join_by}
 use Rattle.rbac_words.specs.Name.{Name, Permission}
 use Rattle.rbac_words.specs.Denials.{denial_word, denial_number}
@@ -12,6 +12,8 @@ use Rattle.rbac_words.specs.declared.event.Outcome.{Outcome}
 use Rattle.rbac_words.specs.declared.event.Outcome.TheVariants.{Submitted, Received, Delivered}
 use Rattle.rbac_words.specs.declared.event.Refusal.{Refusal}
 use Rattle.rbac_words.specs.declared.event.Refusal.TheVariants.{UnknownMember, FromSelf, NotSent, Repeat, Gap, StampNotRising, ClockFull, SentFull, BadSerial, NoMemory}
+use Rattle.rbac_lines.specs.declared.refusal.DeskRefusal.{DeskRefusal}
+use Rattle.rbac_lines.specs.declared.refusal.DeskRefusal.TheVariants.{UnknownMember as DeskUnknownMember, Stopped, Busy, ClockFull as DeskClockFull, SentFull as DeskSentFull, NoMemory as DeskNoMemory}
 use Rattle.rbac_lines.specs.declared.refusal.LineRefusal.{LineRefusal}
 use Rattle.rbac_lines.specs.declared.refusal.LineRefusal.TheVariants.{TooLong, NotJson, NotObject, UnknownWord, MissingField, WrongKind, BadName, ExtraField, NoMemory as LineNoMemory}
 
@@ -145,3 +147,27 @@ refusal_text line refusal = refused_text line (refusal_word refusal)
 -- the text of a refusal of this line itself
 abbrev pub line_refusal_text : ℕ → LineRefusal → List ℕ
 line_refusal_text line refusal = refused_text line (line_refusal_word refusal)
+
+-- ---- Replies to client lines
+
+-- the word of a desk's refusal
+abbrev pub desk_refusal_word : DeskRefusal → List ℕ
+desk_refusal_word DeskUnknownMember = codes "UnknownMember"
+desk_refusal_word Stopped = codes "Stopped"
+desk_refusal_word Busy = codes "Busy"
+desk_refusal_word DeskClockFull = codes "ClockFull"
+desk_refusal_word DeskSentFull = codes "SentFull"
+desk_refusal_word DeskNoMemory = codes "NoMemory"
+
+-- {"answer":"Done","line":5}: the command of a client line was answered
+abbrev pub answered_text : ℕ → Answer → List ℕ
+answered_text line answer = codes "{\"answer\":" ++ answer_text answer ++ codes ",\"line\":" ++ decimal line ++ codes "}\n"
+
+-- what a desk replies to a command: the answer, or why there is none
+abbrev pub Reply : Type 0
+Reply = Result Answer DeskRefusal
+
+-- the text of a reply to the command of this line
+abbrev pub reply_text : ℕ → Reply → List ℕ
+reply_text line (Ok answer) = answered_text line answer
+reply_text line (Err refusal) = refused_text line (desk_refusal_word refusal)

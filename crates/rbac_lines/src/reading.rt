@@ -4,12 +4,14 @@ ghost use Rattle.serde_json.specs.View.{view, members_view};
 ghost use Rattle.rbac_lines.specs.Fields.{Reads};
 ghost use Rattle.rbac_lines.specs.Event.{event, event_of, value_of, submit, receive, deliver};
 
+mod client;
 mod commands;
 pub(crate) mod fields;
 
 use crate::reading::commands::command_of;
 use crate::reading::fields::{Object, object_in, only_keys, text_in, whole_in};
 use crate::refusal::LineRefusal;
+pub use client::{kept_line_asks_the_same, read_client};
 use line_engine::LONGEST_LINE;
 use rbac_words::Event;
 use serde_json::Value;

@@ -1,12 +1,12 @@
-//! Why a line is refused.
+//! Why a line is refused, and why the command of a client line is.
 ghost use Rattle.std.specs.Prelude.{◌≡◌};
-ghost use Rattle.rbac_lines.specs.Text.{line_refusal_word};
+ghost use Rattle.rbac_lines.specs.Text.{desk_refusal_word, line_refusal_word};
 
 use std::alloc::AllocError;
 
-/// Why a line is no event: the first reason in the order of the checks, which is that of the definition of events. The line
-/// is checked as a whole, then its object (its word, its fields from left to right, and no other key), and only then its
-/// command, in the same way. Memory may run out at any of the checks.
+/// Why a line is no event, or no command for a member: the first reason in the order of the checks, which is that of the
+/// definitions of both. The line is checked as a whole, then its object (its word, its fields from left to right, and no other
+/// key), and only then its command, in the same way. Memory may run out at any of the checks.
 #[derive(Clone, Copy, Debug, PartialEq, Eq, Drop)]
 pub enum LineRefusal {
     /// It has more than 65,536 bytes.
@@ -55,5 +55,38 @@ impl From<AllocError> for LineRefusal {
 
     fn from(_refused: AllocError) -> LineRefusal {
         LineRefusal::NoMemory
+    }
+}
+
+/// Why a desk did not answer a command, in the order of the checks.
+#[derive(Clone, Copy, Debug, PartialEq, Eq, Drop)]
+pub enum DeskRefusal {
+    /// There is no such member.
+    UnknownMember,
+    /// The member takes no more commands.
+    Stopped,
+    /// An earlier command of this caller has no answer yet.
+    Busy,
+    /// The member's clock is at its limit.
+    ClockFull,
+    /// The member can send no more.
+    SentFull,
+    /// Memory ran out, which ends a conversation.
+    NoMemory,
+}
+
+impl DeskRefusal {
+    /// The word that a text shows.
+    pub fn word(self) -> &'static str
+        ensures { result.now ≡ desk_refusal_word self }
+    {
+        match self {
+            DeskRefusal::UnknownMember => "UnknownMember",
+            DeskRefusal::Stopped => "Stopped",
+            DeskRefusal::Busy => "Busy",
+            DeskRefusal::ClockFull => "ClockFull",
+            DeskRefusal::SentFull => "SentFull",
+            DeskRefusal::NoMemory => "NoMemory",
+        }
     }
 }

@@ -1,11 +1,11 @@
 //! The texts that lines are answered with. Each call puts one text, its line feed included, behind what the buffer has. A
 //! buffer of bytes refuses a write only for want of memory, and then it may have a part of the text.
-ghost use Rattle.std.specs.Prelude.{◌≡◌, ◌++◌, OnOk, IfSome, Some};
-ghost use Rattle.rbac_lines.specs.Text.{answer_text, bad_serial_text, denial_text, out_of_turn_text, submitted_text, received_text, delivered_text, nothing_delivered_text, refusal_word, refused_text, refusal_text, line_refusal_text};
+ghost use Rattle.std.specs.Prelude.{◌≡◌, ◌++◌, codes, OnOk, IfSome, Some};
+ghost use Rattle.rbac_lines.specs.Text.{answer_text, answered_text, bad_serial_text, denial_text, reply_text, out_of_turn_text, submitted_text, received_text, delivered_text, nothing_delivered_text, refusal_word, refused_text, refusal_text, line_refusal_text};
 
 mod lists;
 
-use crate::refusal::LineRefusal;
+use crate::refusal::{DeskRefusal, LineRefusal};
 use lists::{put_names, put_permissions};
 use rbac_words::{Answer, Denial, Record, Refusal, Stamp};
 use std::alloc::AllocError;
@@ -81,6 +81,14 @@ fn put_answer(text: &mut Vec<u8>, answer: &Answer) -> Result<(), AllocError>
     }
 }
 
+/// The first key of a text that has an answer, and the answer.
+fn begin_answer(text: &mut Vec<u8>, answer: &Answer) -> Result<(), AllocError>
+    ensures { OnOk result (text.new.items ≡ text.old.items ++ codes "{\"answer\":" ++ answer_text answer.now) }
+{
+    text.extend_from_slice(b"{\"answer\":")?;
+    put_answer(text, answer)
+}
+
 /// A command was delivered, and this is its record.
 pub(crate) fn put_delivered(
     text: &mut Vec<u8>,
@@ -89,8 +97,7 @@ pub(crate) fn put_delivered(
 ) -> Result<(), AllocError>
     ensures { OnOk result (text.new.items ≡ text.old.items ++ delivered_text line delivered.now) }
 {
-    text.extend_from_slice(b"{\"answer\":")?;
-    put_answer(text, &delivered.answer)?;
+    begin_answer(text, &delivered.answer)?;
     let Stamp { clock, member } = delivered.stamp;
     let (caller, serial) = (delivered.caller, delivered.serial);
     put(
@@ -186,6 +193,28 @@ pub(crate) fn put_line_refused(
     ensures { OnOk result (text.new.items ≡ text.old.items ++ line_refusal_text line refusal) }
 {
     put_refused_line(text, line, refusal.word())
+}
+
+/// The command of a client line was answered.
+fn put_answered(text: &mut Vec<u8>, line: u64, answer: &Answer) -> Result<(), AllocError>
+    ensures { OnOk result (text.new.items ≡ text.old.items ++ answered_text line answer.now) }
+{
+    begin_answer(text, answer)?;
+    put(text, format_args!(",\"line\":{line}}}\n"))
+}
+
+/// What a desk replied to the command of a client line.
+pub(crate) fn put_reply(
+    text: &mut Vec<u8>,
+    line: u64,
+    reply: &Result<Answer, DeskRefusal>,
+) -> Result<(), AllocError>
+    ensures { OnOk result (text.new.items ≡ text.old.items ++ reply_text line reply.now) }
+{
+    match reply {
+        Ok(answer) => put_answered(text, line, answer),
+        Err(refusal) => put_refused_line(text, line, refusal.word()),
+    }
 }
 
 #[cfg(test)]

@@ -1,4 +1,4 @@
-//! Plays a schedule of JSON lines on a founding, and answers each line on standard output.
+//! Plays a schedule of JSON lines on a founding, or serves callers by its members, and answers each line on standard output.
 #![tactic(auto)]
 
 use rbac_program::command::program;

@@ -1,5 +1,5 @@
 -- Why a node does not receive a message.
-use Rattle.std.specs.Prelude.{ℕ, ◌≡◌, ◌≢◌, ⊤, List, Option, Some, None, slice_get}
+use Rattle.std.specs.Prelude.{ℕ, ◌≡◌, ◌≢◌, ⊤, List, Some, None, slice_get}
 use Rattle.rbac_words.specs.World.{read_of}
 use Rattle.rbac_words.specs.Member.{Member, node_of, message_refusal}
 use Rattle.rbac_words.specs.declared.message.Message.{Message}

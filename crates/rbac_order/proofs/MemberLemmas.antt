@@ -13,7 +13,7 @@ use Rattle.rbac_words.specs.Effect.{effect, reply}
 use Rattle.rbac_words.specs.Replay.{state_after, replies}
 use Rattle.rbac_words.specs.Stamp.{IsBefore, is_before, IsAfter, has_passed, insert_all, last_stamp}
 use Rattle.rbac_words.specs.Message.{stamp_of, submitted_at, submissions_of, submissions, submission_of, commands_of, has_later, is_by, next_serial, CountsFrom, IsLawful}
-use Rattle.rbac_words.specs.Front.{command_of, is_of}
+use Rattle.rbac_words.specs.Front.{command_of, is_of, IsLegalFront}
 use Rattle.rbac_words.specs.World.{stamp, read_of, submit_refusal, least, must_acknowledge, acks, room_refusal, is_sent_full}
 use Rattle.rbac_words.specs.Member.{Member, node_of, founded, latest_of, known, submission, submitted, received, numbers, is_passed_by_all, if_passed, due_at, delivery, delivered, deliver_due, IsNumber, IsCovered, IsClockAbove, IsMember, IsNext}
 use Rattle.rbac_words.specs.declared.event.Refusal.{Refusal}
@@ -73,6 +73,17 @@ clock_weaker (Some s) m n l b = omega arith
 later-append : (ms ns : List Message) (s : Stamp) → has_later ms s ≡ true → has_later (ms ++ ns) s ≡ true
 later-append ms ns s e = list_any-append (λ m. is_before s (stamp_of m)) ms ns ∙ or_left _ _ e
 
+-- a message that is sent after the others keeps the sent list lawful
+sent_lawfully : (v : Member) (m : Message) → (stamp_of m).member ≡ v.number → v.clock < (stamp_of m).clock → (stamp_of m).clock ≤ last_clock → length v.sent < v.group.sent_limit
+    → ((caller : ℕ) → CountsFrom 0 (filter (is_by caller) (submissions (v.sent ++ m ∷ [])))) → IsMember v → IsLawful v.number v.group (v.sent ++ m ∷ [])
+sent_lawfully v m own above range room serials k = record {
+  own = Each-append (λ n. (stamp_of n).member ≡ v.number) v.sent (m ∷ []) k.lawful.own (own, tt);
+  rising = Rising-push stamp_of v.sent m k.lawful.rising (Each-weaker (λ n. (stamp_of n).clock ≤ v.clock) (λ n. IsBefore (stamp_of n) (stamp_of m)) v.sent (λ n h. inl (omega arith)) k.clock_of_sent);
+  clocks_in_range = Each-append (λ n. (stamp_of n).clock ≤ last_clock) v.sent (m ∷ []) k.lawful.clocks_in_range (range, tt);
+  within_limit = omega (arith, length-append v.sent (m ∷ []));
+  serials = serials;
+}
+
 module _ (v : Member) (caller serial : ℕ) (command : Command) where
   abbrev x : Submission
   x = submission v caller serial command
@@ -109,13 +120,7 @@ module _ (v : Member) (caller serial : ℕ) (command : Command) where
     high = k.high;
     reads = k.reads;
     latests = k.latests;
-    lawful = record {
-      own = Each-append (λ m. (stamp_of m).member ≡ v.number) v.sent (call ∷ []) k.lawful.own (refl, tt);
-      rising = Rising-push stamp_of v.sent call k.lawful.rising (Each-weaker (λ m. (stamp_of m).clock ≤ v.clock) (λ m. IsBefore (stamp_of m) s) v.sent (λ m h. inl (omega arith)) k.clock_of_sent);
-      clocks_in_range = Each-append (λ m. (stamp_of m).clock ≤ last_clock) v.sent (call ∷ []) k.lawful.clocks_in_range (omega arith, tt);
-      within_limit = omega (arith, length-append v.sent (call ∷ []));
-      serials = subst (λ l. (c : ℕ) → CountsFrom 0 (filter (is_by c) l)) (sym sent_submitted) (serials_go_on (submissions v.sent) x k.lawful.serials next);
-    };
+    lawful = sent_lawfully v call refl (omega arith) (omega arith) room (subst (λ l. (c : ℕ) → CountsFrom 0 (filter (is_by c) l)) (sym sent_submitted) (serials_go_on (submissions v.sent) x k.lawful.serials next)) k;
     front = k.front;
     policy = k.policy;
     own = ap (of v.number) known_submitted ∙ own_submitted k ∙ sym sent_submitted;
@@ -220,6 +225,19 @@ module _ (v : Member) (x : Submission) (rest : List Submission) (is : v.held ≡
       CountsFrom-left 0 (filter (is_by caller) (of member h)) (filter (is_by caller) (of member l))
       (subst (CountsFrom 0) (ap (λ q. filter (is_by caller) (of member q)) known_delivered ∙ ap (filter (is_by caller)) (filter-append (is_of member) h l) ∙ filter-append (is_by caller) (of member h) (of member l)) (k.serials member caller))
 
+  -- the history stays a legal front
+  front_delivered : IsMember v → IsLegalFront (founding_state v.vocabulary) (delivered v x).history
+  front_delivered k = record {
+    rising = Rising-left submitted_at (commands_of (delivered v x).history) (delivered v x).held (subst Rising known_delivered k.rising);
+    answered =
+        map-push (λ (r : Record). r.answer) v.history (delivery v x)
+        ∙ ap (λ l. l ++ reply x.command v.policy ∷ []) k.front.answered
+        ∙ ap (λ (s : State). replies (founding_state v.vocabulary) (map command_of (commands_of v.history)) ++ reply x.command s ∷ []) k.policy
+        ∙ sym (replies-push (founding_state v.vocabulary) (map command_of (commands_of v.history)) x.command)
+        ∙ ap (replies (founding_state v.vocabulary)) (sym commands_delivered);
+    serials = serials_delivered k;
+  }
+
   pub keeps_delivered : is_passed_by_all v x ≡ true → IsMember v → IsMember (delivered v x)
   keeps_delivered all k = record {
     group = k.group;
@@ -228,16 +246,7 @@ module _ (v : Member) (x : Submission) (rest : List Submission) (is : v.held ≡
     reads = k.reads;
     latests = k.latests;
     lawful = k.lawful;
-    front = record {
-      rising = Rising-left submitted_at (commands_of (delivered v x).history) (delivered v x).held (subst Rising known_delivered k.rising);
-      answered =
-          map-push (λ (r : Record). r.answer) v.history (delivery v x)
-          ∙ ap (λ l. l ++ reply x.command v.policy ∷ []) k.front.answered
-          ∙ ap (λ (s : State). replies (founding_state v.vocabulary) (map command_of (commands_of v.history)) ++ reply x.command s ∷ []) k.policy
-          ∙ sym (replies-push (founding_state v.vocabulary) (map command_of (commands_of v.history)) x.command)
-          ∙ ap (replies (founding_state v.vocabulary)) (sym commands_delivered);
-      serials = serials_delivered k;
-    };
+    front = front_delivered k;
     policy = ap (effect x.command) k.policy ∙ sym (state_after-push (founding_state v.vocabulary) (map command_of (commands_of v.history)) x.command) ∙ ap (state_after (founding_state v.vocabulary)) (sym commands_delivered);
     own = ap (of v.number) (sym known_delivered) ∙ k.own;
     others = subst (Each (λ y. IsNumber v.group y.stamp.member)) known_delivered k.others;
@@ -467,13 +476,7 @@ module _ (v : Member) (k : ℕ) (m : Message) (kept : IsMember v) (next : IsNext
 
   suits_acknowledged : moved + 1 ≤ last_clock → length v.sent < v.group.sent_limit → Suits (moved + 1) (v.sent ++ ack ∷ [])
   suits_acknowledged range room = record {
-    lawful = record {
-      own = Each-append (λ z. (stamp_of z).member ≡ v.number) v.sent (ack ∷ []) kept.lawful.own (refl, tt);
-      rising = Rising-push stamp_of v.sent ack kept.lawful.rising (Each-weaker (λ z. (stamp_of z).clock ≤ v.clock) (λ z. IsBefore (stamp_of z) (stamp_of ack)) v.sent (λ z h. inl (omega arith)) kept.clock_of_sent);
-      clocks_in_range = Each-append (λ z. (stamp_of z).clock ≤ last_clock) v.sent (ack ∷ []) kept.lawful.clocks_in_range (range, tt);
-      within_limit = omega (arith, length-append v.sent (ack ∷ []));
-      serials = subst (λ l. (c : ℕ) → CountsFrom 0 (filter (is_by c) l)) (sym same) kept.lawful.serials;
-    };
+    lawful = sent_lawfully v ack refl (omega arith) range room (subst (λ l. (c : ℕ) → CountsFrom 0 (filter (is_by c) l)) (sym same) kept.lawful.serials) kept;
     commands = same;
     clock_of_sent = Each-append (λ z. (stamp_of z).clock ≤ moved + 1) v.sent (ack ∷ []) (Each-weaker (λ z. (stamp_of z).clock ≤ v.clock) (λ z. (stamp_of z).clock ≤ moved + 1) v.sent (λ z h. omega arith) kept.clock_of_sent) (omega arith, tt);
     above = omega arith;

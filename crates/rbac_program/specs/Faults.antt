@@ -4,7 +4,9 @@ use Rattle.line_engine.specs.declared.report.RunFault.{RunFault}
 use Rattle.line_engine.specs.declared.report.RunFault.TheVariants.{Read, Write, TooManyReads, NoMemory}
 use Rattle.rbac_founding.specs.FoundingFile.{founding_refusal_word}
 use Rattle.rbac_program.specs.declared.fault.Fault.{Fault}
-use Rattle.rbac_program.specs.declared.fault.Fault.TheVariants.{File, Founding, Run}
+use Rattle.rbac_node.specs.declared.report.AuditRefusal.{AuditRefusal}
+use Rattle.rbac_node.specs.declared.report.AuditRefusal.TheVariants.{NotAGroup, NoMemory as AuditNoMemory}
+use Rattle.rbac_program.specs.declared.fault.Fault.TheVariants.{File, Founding, Run, NoThread, Audit, NotConfirmed}
 
 -- the word of a run's fault
 abbrev pub run_fault_word : RunFault → List ℕ
@@ -13,8 +15,16 @@ run_fault_word Write = codes "Write"
 run_fault_word TooManyReads = codes "TooManyReads"
 run_fault_word NoMemory = codes "NoMemory"
 
--- the path of a file that cannot be read, the word of a founding's refusal, or that of a run's fault
+-- the word of an audit's refusal
+abbrev pub audit_word : AuditRefusal → List ℕ
+audit_word NotAGroup = codes "NotAGroup"
+audit_word AuditNoMemory = codes "NoMemory"
+
+-- the path of a file that cannot be read, or the word of what is refused or fails: the founding, the run, the audit
 abbrev pub fault_text : Fault → List ℕ
 fault_text (File path) = codes "rbac_monitor: file: " ++ path.now
 fault_text (Founding refusal) = codes "rbac_monitor: founding: " ++ founding_refusal_word refusal
 fault_text (Run fault) = codes "rbac_monitor: run: " ++ run_fault_word fault
+fault_text NoThread = codes "rbac_monitor: run: NoThread"
+fault_text (Audit refusal) = codes "rbac_monitor: audit: " ++ audit_word refusal
+fault_text NotConfirmed = codes "rbac_monitor: audit: NotConfirmed"

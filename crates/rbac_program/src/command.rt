@@ -1,14 +1,15 @@
 //! The whole program but for the standard streams.
-ghost use Rattle.std.specs.Prelude.{◌≡◌, ◌≢◌, ◌≤◌, IfSome, false, length};
+ghost use Rattle.std.specs.Prelude.{◌≡◌, ◌≢◌, ◌≤◌, IfSome, OnOk, false, length};
 ghost use Rattle.std.specs.IoError.{error_kind};
 ghost use Rattle.std.specs.Io.KnownBytes.{Appends};
 ghost use Rattle.line_engine.specs.Watched.{failed_of, inner_of};
 ghost use Rattle.rbac_lines.specs.Output.{output};
-ghost use Rattle.rbac_program.specs.Sample.{sample_world};
+ghost use Rattle.rbac_program.specs.Sample.{sample_world, PlaysSample};
 
 use crate::fault::Fault;
 use crate::play::play;
-use crate::words::read_words;
+use crate::serving::serve;
+use crate::words::{Asked, read_words};
 use clap::Error;
 use rbac_lines::{Watched, watch};
 use std::alloc::AllocError;
@@ -16,12 +17,15 @@ use std::convert::AsStr;
 use std::fmt::Display;
 use std::io::{ErrorKind, Read, Write};
 use std::rt::{Env, Files};
+use std::sync::Wait;
+use std::thread::Threads;
+use std::time::Clock;
 use std::{env, io};
 
 /// The input was read to its end, or help was asked for.
 const DONE: u8 = 0;
 
-/// A fault of a file, of the founding or of the run.
+/// A fault of a file, of the founding, of the run or of the audit.
 const FAULT: u8 = 1;
 
 /// The command line is refused.
@@ -30,13 +34,13 @@ const REFUSED: u8 = 2;
 /// Does what the words say, of which the first is the program's name, and answers the status: 0 where the input was read
 /// to its end or help was asked for, 1 after a fault, 2 where the words are refused. Without other words the sample is
 /// played, as `watched_command` says.
-pub fn command<T: Files + AllocGlobal, S: AsStr, R: Read + Drop, W: Write + Drop, E: Write>(
-    rt: &T,
-    words: &[S],
-    reader: R,
-    writer: W,
-    errors: &mut E,
-) -> u8
+pub fn command<
+    T: Files + AllocGlobal + Threads + Wait + Clock + Copy + Send + Sync,
+    S: AsStr,
+    R: Read + Drop,
+    W: Write + Drop,
+    E: Write,
+>(rt: &T, words: &[S], reader: R, writer: W, errors: &mut E) -> u8
     ensures status { result ≤ 2 }
     ensures not_refused { length words.now ≤ 1 → result ≤ 1 }
 {
@@ -44,13 +48,13 @@ pub fn command<T: Files + AllocGlobal, S: AsStr, R: Read + Drop, W: Write + Drop
 }
 
 // The same over a writer under watch, which tells what was written.
-fn watched_command<T: Files + AllocGlobal, S: AsStr, R: Read + Drop, W: Write, E: Write>(
-    rt: &T,
-    words: &[S],
-    reader: R,
-    writer: &mut Watched<W>,
-    errors: &mut E,
-) -> u8
+fn watched_command<
+    T: Files + AllocGlobal + Threads + Wait + Clock + Copy + Send + Sync,
+    S: AsStr,
+    R: Read + Drop,
+    W: Write,
+    E: Write,
+>(rt: &T, words: &[S], reader: R, writer: &mut Watched<W>, errors: &mut E) -> u8
     requires { failed_of writer.old ≡ false }
     ensures status { result ≤ 2 }
     ensures not_refused { length words.now ≤ 1 → result ≤ 1 }
@@ -58,7 +62,7 @@ fn watched_command<T: Files + AllocGlobal, S: AsStr, R: Read + Drop, W: Write, E
         IfSome (R.remaining reader) (λ input. Appends (W.contents (inner_of writer.old)) (W.contents (inner_of writer.new)) (output input sample_world)) }
 {
     match read_words(rt.alloc(), words) {
-        Ok(asked) => match play(rt, asked, reader, writer) {
+        Ok(asked) => match run_asked(rt, asked, reader, writer, errors) {
             Ok(()) => DONE,
             Err(fault) => tell(errors, fault),
         },
@@ -76,18 +80,42 @@ fn watched_command<T: Files + AllocGlobal, S: AsStr, R: Read + Drop, W: Write, E
     }
 }
 
+// Does what was asked for.
+fn run_asked<
+    'w,
+    T: Files + AllocGlobal + Threads + Wait + Clock + Copy + Send + Sync,
+    R: Read + Drop,
+    W: Write,
+    E: Write,
+>(
+    rt: &T,
+    asked: Asked<'w>,
+    reader: R,
+    writer: &mut Watched<W>,
+    errors: &mut E,
+) -> Result<(), Fault<'w>>
+    requires { failed_of writer.old ≡ false }
+    ensures { PlaysSample asked.entry →
+        OnOk result (IfSome (R.remaining reader) (λ input. Appends (W.contents (inner_of writer.old)) (W.contents (inner_of writer.new)) (output input sample_world))) }
+{
+    match asked {
+        Asked::Play(asked) => play(rt, asked, reader, writer),
+        Asked::Serve(founding) => serve(rt, founding, reader, writer, errors),
+    }
+}
+
 fn words_of<T: Env + AllocGlobal>(rt: &T) -> io::Result<Vec<String>> {
     let words = env::args(rt)?.collect(rt.alloc())?;
     Ok(words)
 }
 
 /// Does what the words of the process say, as `command` does. Words that are not text are refused.
-pub fn program<T: Files + Env + AllocGlobal, R: Read + Drop, W: Write + Drop, E: Write>(
-    rt: &T,
-    reader: R,
-    writer: W,
-    errors: &mut E,
-) -> u8
+pub fn program<
+    T: Files + Env + AllocGlobal + Threads + Wait + Clock + Copy + Send + Sync,
+    R: Read + Drop,
+    W: Write + Drop,
+    E: Write,
+>(rt: &T, reader: R, writer: W, errors: &mut E) -> u8
     ensures { result ≤ 2 }
 {
     match words_of(rt) {

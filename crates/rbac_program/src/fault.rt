@@ -1,9 +1,10 @@
 //! What ends the program with status 1.
 ghost use Rattle.std.specs.Prelude.{◌≡◌};
-ghost use Rattle.rbac_program.specs.Faults.{run_fault_word};
+ghost use Rattle.rbac_program.specs.Faults.{audit_word, run_fault_word};
 
 use rbac_founding::FoundingRefusal;
 use rbac_lines::RunFault;
+use rbac_service::AuditRefusal;
 use std::alloc::AllocError;
 use std::fmt;
 use std::fmt::{Display, Formatter};
@@ -15,8 +16,14 @@ pub(crate) enum Fault<'w> {
     File(&'w str),
     /// The founding's file is refused, or there is no memory for the founding world.
     Founding(FoundingRefusal),
-    /// The run ended early.
+    /// The run or the conversation ended early.
     Run(RunFault),
+    /// A member's thread cannot be started, or no caller enrolled at a member.
+    NoThread,
+    /// The audit is refused.
+    Audit(AuditRefusal),
+    /// A node does not confirm its member's pass.
+    NotConfirmed,
 }
 
 impl From<FoundingRefusal> for Fault<'_> {
@@ -50,6 +57,16 @@ impl From<RunFault> for Fault<'_> {
     }
 }
 
+impl From<AuditRefusal> for Fault<'_> {
+    ghost use Rattle.rbac_program.specs.declared.fault.Fault.TheVariants.{Audit};
+
+    ghost from_gives = { λ refusal fault. fault ≡ Audit refusal };
+
+    fn from(refusal: AuditRefusal) -> Self {
+        Fault::Audit(refusal)
+    }
+}
+
 fn run_fault_word(fault: RunFault) -> &'static str
     ensures { result.now ≡ run_fault_word fault }
 {
@@ -58,6 +75,15 @@ fn run_fault_word(fault: RunFault) -> &'static str
         RunFault::Write => "Write",
         RunFault::TooManyReads => "TooManyReads",
         RunFault::NoMemory => "NoMemory",
+    }
+}
+
+fn audit_word(refusal: AuditRefusal) -> &'static str
+    ensures { result.now ≡ audit_word refusal }
+{
+    match refusal {
+        AuditRefusal::NotAGroup => "NotAGroup",
+        AuditRefusal::NoMemory => "NoMemory",
     }
 }
 
@@ -72,6 +98,9 @@ impl Display for Fault<'_> {
             Fault::File(path) => write!(f, "rbac_monitor: file: {path}"),
             Fault::Founding(refusal) => write!(f, "rbac_monitor: founding: {}", refusal.word()),
             Fault::Run(fault) => write!(f, "rbac_monitor: run: {}", run_fault_word(fault)),
+            Fault::NoThread => write!(f, "rbac_monitor: run: NoThread"),
+            Fault::Audit(refusal) => write!(f, "rbac_monitor: audit: {}", audit_word(refusal)),
+            Fault::NotConfirmed => write!(f, "rbac_monitor: audit: NotConfirmed"),
         }
     }
 }

@@ -7,7 +7,10 @@ use rbac_founding::FoundingRefusal;
 use std::io::{Error, ErrorKind, Read, Write};
 use std::process::Abort;
 use std::rt::Files;
+use std::sync::Wait;
 use std::test::Fail;
+use std::thread::Threads;
+use std::time::Clock;
 use std::{fs, io};
 
 const SCHEDULE: &[u8] =
@@ -21,7 +24,12 @@ const ANSWERS: &[u8] = br#"{"line":1,"stamp":[1,1]}
 
 /// A call with these words after the program's name, whose standard input is the schedule, gets this status and this
 /// output, and writes no error.
-fn expect<T: Files + AllocGlobal + Abort>(rt: &T, words: &[&str], status: u8, answers: &[u8]) {
+fn expect<T: Files + AllocGlobal + Threads + Wait + Clock + Abort + Copy + Send + Sync>(
+    rt: &T,
+    words: &[&str],
+    status: u8,
+    answers: &[u8],
+) {
     let mut output = Vec::new(rt.alloc());
     let mut errors = Vec::new(rt.alloc());
     let answered = command(rt, words, SCHEDULE, &mut output, &mut errors);
@@ -74,6 +82,50 @@ fn plays_a_long_schedule_file(rt: HostRuntime) -> Result<(), Fail> {
     Ok(())
 }
 
+const SERVED: &[u8] = br#"{"at":1,"command":{"name":"AddUser","user":"ann"}}
+{"at":1,"command":{"name":"AddRole","role":"clerk"}}
+{"at":1,"command":{"name":"AssignUser","user":"ann","role":"clerk"}}
+{"at":1,"command":{"name":"GrantPermission","operation":"read","object":"ledger","role":"clerk"}}
+{"at":1,"command":{"name":"CreateSession","user":"ann","session":"s1","roles":["clerk"]}}
+{"at":1,"command":{"name":"CheckAccess","session":"s1","operation":"read","object":"ledger"}}
+{"at":2,"command":{"name":"CheckAccess","session":"s1","operation":"read","object":"ledger"}}
+{"at":3,"command":{"name":"AddUser","user":"bob"}}
+{"at":0,"command":{"name":"AddUser","user":"bob"}}
+"#;
+
+const SERVED_ANSWERS: &[u8] = br#"{"answer":"Done","line":1}
+{"answer":"Done","line":2}
+{"answer":"Done","line":3}
+{"answer":"Done","line":4}
+{"answer":"Done","line":5}
+{"answer":"Granted","line":6}
+{"answer":"Granted","line":7}
+{"line":8,"refused":"UnknownMember"}
+{"line":9,"refused":"UnknownMember"}
+"#;
+
+const TWO_MEMBERS: &[u8] = br#"
+version = 1
+members = 2
+operations = ["read"]
+objects = ["ledger"]
+permissions = [["read", "ledger"]]
+"#;
+
+#[test]
+fn serves_callers_of_two_members(rt: HostRuntime) -> Result<(), Fail> {
+    fs::write(&rt, "two_members.toml", TWO_MEMBERS)?;
+    let mut output = Vec::new(rt.alloc());
+    let mut errors = Vec::new(rt.alloc());
+    let words = ["rbac_monitor", "serve", "two_members.toml"];
+    let status = command(&rt, &words, SERVED, &mut output, &mut errors);
+    assert_eq!(rt; status, 0);
+    assert!(rt; output.as_slice() == SERVED_ANSWERS);
+    assert!(rt; errors.is_empty());
+    fs::remove_file(&rt, "two_members.toml")?;
+    Ok(())
+}
+
 /// Gives so many blanks, and fails after them.
 #[derive(Drop)]
 struct Blanks {
@@ -101,7 +153,7 @@ fn reads_one_byte_more_than_a_founding_file_may_have(rt: HostRuntime) {
 }
 
 /// Playing this founding and this schedule ends with status 1, no output and this line.
-fn expect_fault<T: Files + AllocGlobal + Abort>(
+fn expect_fault<T: Files + AllocGlobal + Threads + Wait + Clock + Abort + Copy + Send + Sync>(
     rt: &T,
     founding: &str,
     schedule: &str,
@@ -157,6 +209,35 @@ impl Write for Broken {
     fn flush(&mut self) -> io::Result<()> {
         Ok(())
     }
+}
+
+/// Serving callers by the members of this founding ends with status 1 and this line.
+fn expect_serving_fault<
+    T: Files + AllocGlobal + Threads + Wait + Clock + Abort + Copy + Send + Sync,
+    R: Read + Drop,
+    W: Write + Drop,
+>(rt: &T, founding: &str, reader: R, writer: W, line: &str) {
+    let mut errors = Vec::new(rt.alloc());
+    let words = ["rbac_monitor", "serve", founding];
+    let status = command(rt, &words, reader, writer, &mut errors);
+    assert_eq!(rt; status, 1);
+    assert!(rt; errors.as_slice() == line.as_bytes());
+}
+
+#[test]
+fn tells_a_fault_of_serving_in_one_line(rt: HostRuntime) {
+    let mut output = Vec::new(rt.alloc());
+    expect_serving_fault(
+        &rt,
+        "no/founding.toml",
+        SERVED,
+        &mut output,
+        "rbac_monitor: file: no/founding.toml\n",
+    );
+    let fails = Blanks { left: 10 };
+    expect_serving_fault(&rt, "-", fails, &mut output, "rbac_monitor: run: Read\n");
+    assert!(rt; output.is_empty());
+    expect_serving_fault(&rt, "-", SERVED, Broken, "rbac_monitor: run: Write\n");
 }
 
 #[test]

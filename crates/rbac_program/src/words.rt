@@ -1,15 +1,24 @@
 //! The command line.
-ghost use Rattle.std.specs.Prelude.{◌≡◌, ◌≤◌, codes, length, IsOkAnd};
+ghost use Rattle.std.specs.Prelude.{◌≤◌, length, IsOkAnd};
+ghost use Rattle.rbac_program.specs.Sample.{PlaysSample};
 
 use clap::{Arg, ArgAction, ArgMatches, Command, Error};
 use std::alloc::{AllocError, Global};
 use std::convert::AsStr;
 
-/// What the words ask for: a schedule that is played on a founding.
+/// A schedule that is played on a founding.
 #[derive(Clone, Copy, Drop)]
 pub(crate) struct Play<'w> {
     pub(crate) founding: &'w str,
     pub(crate) schedule: &'w str,
+}
+
+/// What the words ask for.
+#[derive(Clone, Copy, Drop)]
+pub(crate) enum Asked<'w> {
+    Play(Play<'w>),
+    /// Callers are served by the members of this founding.
+    Serve(&'w str),
 }
 
 /// The sample founding, and standard input.
@@ -19,7 +28,7 @@ const SAMPLE_AND_INPUT: Play<'static> = Play {
 };
 
 const ABOUT: &str =
-    "Plays commands of role-based access control, one JSON object a line, and answers each line";
+    "Takes commands of role-based access control, one JSON object a line, and answers each line";
 
 // The founding format that is read, the date of this version, and the kit that it is proved with.
 const VERSION: &str = "1 (2026-11-23, rattle-kit-13b logic dac8208d650f15bf)";
@@ -39,10 +48,11 @@ A founding file is TOML with the keys
 Examples:
   rbac_monitor < examples/first_day.jsonl
   rbac_monitor play examples/clinic.toml examples/clinic_day.jsonl
+  your_program | rbac_monitor serve examples/clinic.toml | what_reads_the_answers
 
 Status:
   0  the input was read to its end, or this help was asked for
-  1  a fault of a file, of the founding or of the run: one line on the error stream
+  1  a fault of a file, of the founding, of the run or of the audit: one line on the error stream
   2  the command line is refused";
 
 const FOUNDING: &str = "The file of the founding, or - for the sample founding";
@@ -61,31 +71,38 @@ fn command_line<'w>(alloc: Global) -> Result<Command<'w>, AllocError> {
         .about("Plays the lines of SCHEDULE on the world of FOUNDING")
         .arg(path(alloc, "FOUNDING", FOUNDING))?
         .arg(path(alloc, "SCHEDULE", SCHEDULE))?;
+    let serve = Command::new(alloc, "serve")
+        .about(
+            "Serves callers by the members of FOUNDING: standard input has one command of a member a line",
+        )
+        .arg(path(alloc, "FOUNDING", FOUNDING))?;
     Command::new(alloc, "rbac_monitor")
         .bin_name("rbac_monitor")?
         .version(VERSION)
         .about(ABOUT)
         .after_help(AFTER_HELP)
-        .subcommand(play)
+        .subcommand(play)?
+        .subcommand(serve)
 }
 
-fn play_of<'w>(matches: &ArgMatches<'w>) -> Play<'w> {
+fn asked_of<'w>(matches: &ArgMatches<'w>) -> Asked<'w> {
     match matches.subcommand() {
-        Some((_, paths)) => Play {
+        Some(("serve", paths)) => Asked::Serve(paths.get_str("FOUNDING").unwrap_or("-")),
+        Some((_, paths)) => Asked::Play(Play {
             founding: paths.get_str("FOUNDING").unwrap_or("-"),
             schedule: paths.get_str("SCHEDULE").unwrap_or("-"),
-        },
-        None => SAMPLE_AND_INPUT,
+        }),
+        None => Asked::Play(SAMPLE_AND_INPUT),
     }
 }
 
 /// Reads the words, of which the first is the program's name. Without others standard input is played on the sample.
-pub(crate) fn read_words<'w, S: AsStr>(alloc: Global, words: &'w [S]) -> Result<Play<'w>, Error>
-    ensures no_words { length words.now ≤ 1 → IsOkAnd result (λ asked. (asked.founding.now ≡ codes "-") × (asked.schedule.now ≡ codes "-")) }
+pub(crate) fn read_words<'w, S: AsStr>(alloc: Global, words: &'w [S]) -> Result<Asked<'w>, Error>
+    ensures no_words { length words.now ≤ 1 → IsOkAnd result PlaysSample }
 {
     if words.len() <= 1 {
-        return Ok(SAMPLE_AND_INPUT);
+        return Ok(Asked::Play(SAMPLE_AND_INPUT));
     }
     let matches = command_line(alloc)?.try_get_matches_from(words)?;
-    Ok(play_of(&matches))
+    Ok(asked_of(&matches))
 }

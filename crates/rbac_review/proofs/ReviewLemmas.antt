@@ -1,6 +1,6 @@
 -- Who is assigned one of some roles, and what is granted to one of them, where these are the seniors of a role, its juniors, the
 -- roles that a user is authorized for or those that a session inherits.
-use Rattle.std.proofs.Common.{◌≡◌, Bool, true, false, cond, ◌||◌, ◌&&◌, List, [], ◌∷◌, refl, sym, ap, ◌∙◌}
+use Rattle.std.proofs.Common.{◌≡◌, Bool, true, false, cond, ◌||◌, ◌&&◌, List, [], ◌∷◌, Result, Ok, Err, IfOk, refl, sym, ap, ◌∙◌}
 use Rattle.std.specs.List.{list_any, list_all, filter}
 use Rattle.std.specs.List.Sorted.{IsStrictlySortedBy}
 use Rattle.std.specs.Ordering.{eq_by_cmp}
@@ -18,6 +18,11 @@ use Rattle.rbac_rules.proofs.InheritanceLemmas.{inherits_iff, joined, chain_end}
 use Rattle.rbac_rules.proofs.AuthorizationLemmas.{is_authorized_iff}
 use Rattle.rbac_hierarchy.proofs.JuniorLemmas.{has_juniors, between_roles}
 use Rattle.rbac_review.specs.Among.{is_assigned_one, is_granted_to_one}
+
+-- what is made equal to one value is equal to another that this is equal to
+pub if_same : {X E : Type 0} {x y : X} → x ≡ y → (r : Result X E) → IfOk r (λ z. z ≡ x) → IfOk r (λ z. z ≡ y)
+if_same same (Ok z) is = is ∙ same
+if_same same (Err e) is = tt
 
 module _ {X : Type 0} where
   pub any-filter : (p q : X → Bool) (xs : List X) → list_any q (filter p xs) ≡ list_any (λ x. p x && q x) xs

@@ -5,7 +5,7 @@ use rbac_rolesets::RoleSets;
 use rbac_separation::SetTable;
 use rbac_sessions::Sessions;
 use rbac_words::{Name, NameSet, PermissionSet, Separation, Vocabulary};
-use std::alloc::{AllocError, Global};
+use std::alloc::Global;
 use std::process::Abort;
 use std::test::Fail;
 
@@ -85,18 +85,6 @@ fn office_vocabulary(rt: &impl Abort, alloc: Global) -> Vocabulary {
     .expect(rt, "a vocabulary")
 }
 
-// Declares the pair between new roles.
-fn add_pair(
-    alloc: Global,
-    hierarchy: &mut Hierarchy,
-    ascendant: &Name,
-    descendant: &Name,
-) -> Result<(), AllocError> {
-    hierarchy.add_role(alloc, ascendant)?;
-    hierarchy.add_role(alloc, descendant)?;
-    hierarchy.declare(alloc, ascendant, descendant)
-}
-
 // boss is above payer and clerk, and Auditor stands alone.
 fn office_hierarchy(rt: &impl Abort, alloc: Global) -> Hierarchy {
     let mut hierarchy = Hierarchy::empty(alloc);
@@ -105,7 +93,11 @@ fn office_hierarchy(rt: &impl Abort, alloc: Global) -> Hierarchy {
     let boss = name(rt, alloc, "boss");
     for junior in ["payer", "clerk"] {
         let junior = name(rt, alloc, junior);
-        add_pair(alloc, &mut hierarchy, &boss, &junior).expect(rt, "memory");
+        hierarchy.add_role(alloc, &boss).expect(rt, "memory");
+        hierarchy.add_role(alloc, &junior).expect(rt, "memory");
+        hierarchy
+            .declare(alloc, &boss, &junior)
+            .expect(rt, "memory");
     }
     hierarchy
 }

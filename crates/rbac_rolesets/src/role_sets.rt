@@ -13,6 +13,14 @@ use sorted_keys::{KeyTest, PairProbe, SortedSet};
 use std::alloc::{AllocError, Global};
 use std::marker::Model;
 
+// The pair of these halves, each lent.
+fn pair<'a, P, Q>(first: &'a P, second: &'a Q) -> PairProbe<'a, P, Q>
+    ensures first { result.first.now ≡ first.now }
+    ensures second { result.second.now ≡ second.now }
+{
+    PairProbe { first, second }
+}
+
 /// Users, roles, the pairs of both (UA) and the granted permissions (PA).
 #[derive(Drop)]
 pub struct RoleSets {
@@ -82,24 +90,14 @@ impl RoleSets {
     pub fn assigned(&self, user: &Name, role: &Name) -> bool
         ensures { result ≡ has pair_cmp (user.now, role.now) self.now.content.assigned }
     {
-        self.assigned.contains(&PairProbe {
-            first: user,
-            second: role,
-        })
+        self.assigned.contains(&pair(user, role))
     }
 
     /// Whether the operation on the object is granted to the role.
     pub fn granted(&self, operation: &Name, object: &Name, role: &Name) -> bool
         ensures { result ≡ has grant_cmp ((operation.now, object.now), role.now) self.now.content.granted }
     {
-        let permission = PairProbe {
-            first: operation,
-            second: object,
-        };
-        self.granted.contains(&PairProbe {
-            first: &permission,
-            second: role,
-        })
+        self.granted.contains(&pair(&pair(operation, object), role))
     }
 
     /// The pairs of UA that are the user's.
@@ -113,10 +111,7 @@ impl RoleSets {
     pub fn grants_of(&self, operation: &Name, object: &Name) -> &[((Name, Name), Name)]
         ensures { result.now ≡ filter (λ grant. eq_by_cmp pair_cmp (operation.now, object.now) grant.0) self.now.content.granted }
     {
-        self.granted.beginning_with(&PairProbe {
-            first: operation,
-            second: object,
-        })
+        self.granted.beginning_with(&pair(operation, object))
     }
 
     /// The users that pass a test.
@@ -190,10 +185,7 @@ impl RoleSets {
     pub fn deassign(&mut self, user: &Name, role: &Name)
         ensures { let s = self.old.content in self.new.content ≡ record s { assigned = without pair_cmp (user.now, role.now) s.assigned } }
     {
-        self.assigned.remove(&PairProbe {
-            first: user,
-            second: role,
-        });
+        self.assigned.remove(&pair(user, role));
     }
 
     /// Grants an operation on an object to a role. Where it is granted, nothing changes.
@@ -208,14 +200,7 @@ impl RoleSets {
     pub fn revoke(&mut self, operation: &Name, object: &Name, role: &Name)
         ensures { let s = self.old.content in self.new.content ≡ record s { granted = without grant_cmp ((operation.now, object.now), role.now) s.granted } }
     {
-        let permission = PairProbe {
-            first: operation,
-            second: object,
-        };
-        self.granted.remove(&PairProbe {
-            first: &permission,
-            second: role,
-        });
+        self.granted.remove(&pair(&pair(operation, object), role));
     }
 
     /// Users, roles, UA and PA are sets: each list is in order and without repeats.

@@ -2,7 +2,7 @@
 use Rattle.std.proofs.Common.{List, length, Bool, not, ◌&&◌, ◌≡◌, ◌≤◌, IsTrue, Option, Some, None, refl, sym, ap, ◌∙◌, subst, ⊎_elim, arith, false, []}
 use Rattle.std.proofs.lemmas.Bool.{or_cases, false≢true, leb-false, not-false}
 use Rattle.std.proofs.lemmas.List.Kept.{IsStrictlySortedBy-filter}
-use Rattle.std.specs.List.{list_any, AllByRecursion as Each}
+use Rattle.std.specs.List.{list_any}
 use Rattle.std.specs.List.Sorted.{IsStrictlySortedBy}
 use Rattle.std.specs.Ordering.{eq_by_cmp}
 use Rattle.std.specs.FinMap.Entries.{find, put}
@@ -15,20 +15,19 @@ use Rattle.rbac_words.specs.Name.{Name, name_cmp, pair_cmp, grant_cmp}
 use Rattle.rbac_words.specs.Limits.{most_users, most_sessions}
 use Rattle.rbac_words.specs.Founding.{Vocabulary, IsVocabulary}
 use Rattle.rbac_words.specs.State.{State, Session, founding_state}
-use Rattle.rbac_words.specs.Relations.{begins_with, without_user}
+use Rattle.rbac_words.specs.Relations.{begins_with}
 use Rattle.rbac_words.specs.Authorization.{IsAuthorized, is_authorized, purge, is_entitled}
 use Rattle.rbac_words.specs.Rows.{preconditions, first_denial, found_and}
 use Rattle.rbac_words.specs.Constraints.{breaks_dynamic}
-use Rattle.rbac_words.specs.Change.{change, end_sessions, ended_where, with_active, without_active}
+use Rattle.rbac_words.specs.Change.{change, end_sessions, with_active, without_active}
 use Rattle.rbac_words.specs.Effect.{effect, effect_unless}
 use Rattle.rbac_words.specs.Sound.{IsSessionSound, AreRoleSets, IsSound, BringsASet}
 use Rattle.rbac_words.specs.declared.command.Command.{Command}
 use Rattle.rbac_words.specs.declared.command.Command.TheVariants.{AddUser, DeleteUser, AddRole, DeleteRole, AssignUser, DeassignUser, GrantPermission, RevokePermission, AddInheritance, DeleteInheritance, AddAscendant, AddDescendant, CreateSet, DeleteSet, AddRoleMember, DeleteRoleMember, SetCardinality, CreateSession, DeleteSession, AddActiveRole, DropActiveRole, CheckAccess, Review as ReviewCommand}
 use Rattle.rbac_words.specs.declared.answer.Denial.{Denial}
 use Rattle.rbac_words.proofs.NameLemmas.{names_total, names_exact, pairs_total, pairs_exact, grants_total, grants_exact, one_key, all_member}
-use Rattle.rbac_words.proofs.ListLemmas.{Each-weaker}
 use Rattle.rbac_rules.proofs.AuthorizationLemmas.{is_authorized_iff}
-use Rattle.rbac_rules.proofs.SoundParts.{none_fails, length-with_key-new, length-put-new, fewer, still, was_kept, is_kept, each_put, each_updated, length-updated, each_kept, within, session_stays, purged, owners}
+use Rattle.rbac_rules.proofs.SoundParts.{none_fails, length-with_key-new, length-put-new, fewer, still, was_kept, is_kept, each_put, each_updated, length-updated, each_kept, session_stays, sessions_stay, purged, owners, with_users, with_granted, with_sessions}
 use Rattle.rbac_rules.proofs.SoundSeparation.{is_false, fewer_active, static_less, dynamic_kept, dynamic_updated}
 use Rattle.rbac_rules.proofs.SoundSets.{sound_create_set, sound_delete_set, sound_add_role_member, sound_delete_role_member, sound_set_cardinality}
 use Rattle.rbac_rules.proofs.SoundRoles.{static_stays, sound_add_role, sound_delete_role, sound_add_inheritance, sound_delete_inheritance, sound_add_ascendant, sound_add_descendant}
@@ -38,73 +37,50 @@ use Rattle.rbac_rules.proofs.SoundRoles.{static_stays, sound_add_role, sound_del
 sound_add_user : (user : Name) (s : State) → first_denial (AddUser user) s ≡ None → IsSound s → IsSound (change (AddUser user) s)
 sound_add_user user s none h =
     let holds = none_fails (preconditions (AddUser user) s) none in
-    record {
-      vocabulary = h.vocabulary;
-      in_order = record {
-        users = sorted_with_key names_total user s.users h.in_order.users;
-        roles = h.in_order.roles;
-        assigned = h.in_order.assigned;
-        granted = h.in_order.granted;
-        declared = h.in_order.declared;
-        sessions = h.in_order.sessions;
-      };
-      references = record {
-        assigned = λ u r m. (still names_total user s.users u (h.references.assigned u r m).0, (h.references.assigned u r m).1);
-        granted = h.references.granted;
-        declared = h.references.declared;
-      };
-      limits = within h.limits (with_key name_cmp user s.users) s.roles s.assigned s.granted s.declared s.sessions
-          (let more = length-with_key-new name_cmp user s.users holds.0 in omega (arith, leb-false 4096 (length s.users) holds.1.0)) h.limits.roles h.limits.sessions;
-      no_cycle = h.no_cycle;
-      separation = record {
-        static_sets = h.separation.static_sets;
-        dynamic_sets = h.separation.dynamic_sets;
-        static = static_less s.roles s.static_sets (is_authorized s) (is_authorized s) s.users (with_key name_cmp user s.users) h.separation.static_sets.each
-            (λ u r m is e. let a = (is_authorized_iff s u r).0 e in ((h.references.assigned u a.0 a.1).0, e)) h.separation.static;
-        dynamic = h.separation.dynamic;
-      };
-      sessions = Each-weaker (λ e. IsSessionSound s e.1) (λ e. IsSessionSound (change (AddUser user) s) e.1) s.sessions
-          (λ e. session_stays s (change (AddUser user) s) e.1 (still names_total user s.users e.1.owner) (λ r a. a)) h.sessions;
-    }
+    with_users s (with_key name_cmp user s.users) s.assigned s.granted s.sessions
+    (record {
+      users = sorted_with_key names_total user s.users h.in_order.users;
+      few_users = let more = length-with_key-new name_cmp user s.users holds.0 in omega (arith, leb-false 4096 (length s.users) holds.1.0);
+      assigned = h.in_order.assigned;
+      assigned_exist = λ u r m. (still names_total user s.users u (h.references.assigned u r m).0, (h.references.assigned u r m).1);
+      granted = h.in_order.granted;
+      granted_exist = h.references.granted;
+      sessions = h.in_order.sessions;
+      few_sessions = h.limits.sessions;
+      each_session = sessions_stay s (change (AddUser user) s) (still names_total user s.users) (λ u r a. a) s.sessions h.sessions;
+      static = static_less s.roles s.static_sets (is_authorized s) (is_authorized s) s.users (with_key name_cmp user s.users) h.separation.static_sets.each
+          (λ u r m is e. let a = (is_authorized_iff s u r).0 e in ((h.references.assigned u a.0 a.1).0, e)) h.separation.static;
+      dynamic = h.separation.dynamic;
+    })
+    h
 
 -- a user that is not the one that goes
 sound_delete_user : (user : Name) (s : State) → IsSound s → IsSound (change (DeleteUser user) s)
 sound_delete_user user s h =
     let t : State = change (DeleteUser user) s in
-    record {
-      vocabulary = h.vocabulary;
-      in_order = record {
-        users = IsStrictlySortedBy-filter _ _ _ h.in_order.users;
-        roles = h.in_order.roles;
-        assigned = IsStrictlySortedBy-filter _ _ _ h.in_order.assigned;
-        granted = h.in_order.granted;
-        declared = h.in_order.declared;
-        sessions = IsStrictlySortedBy-filter _ _ _ h.in_order.sessions;
-      };
-      references = record {
-        assigned = λ u r m.
-            let kept = was_kept pairs_total pairs_exact (λ (p : Name × Name). not (begins_with user p)) s.assigned (u, r) m in
-            let were = h.references.assigned u r kept.1 in
-            (is_kept names_total names_exact (λ x. not (eq_by_cmp name_cmp user x)) s.users u kept.0 were.0, were.1);
-        granted = h.references.granted;
-        declared = h.references.declared;
-      };
-      limits = within h.limits (without name_cmp user s.users) s.roles (without_user user s.assigned) s.granted s.declared (ended_where (λ x. eq_by_cmp name_cmp user x.owner) s.sessions)
-          (fewer _ s.users most_users h.limits.users) h.limits.roles (fewer _ s.sessions most_sessions h.limits.sessions);
-      no_cycle = h.no_cycle;
-      separation = record {
-        static_sets = h.separation.static_sets;
-        dynamic_sets = h.separation.dynamic_sets;
-        static = static_stays s t h (λ u m. (was_kept names_total names_exact (λ x. not (eq_by_cmp name_cmp user x)) s.users u m).1)
-            (λ u r is a. (a.0, (was_kept pairs_total pairs_exact (λ (p : Name × Name). not (begins_with user p)) s.assigned (u, a.0) a.1).1, a.2));
-        dynamic = dynamic_kept (breaks_dynamic s) (λ (e : Name × Session). not (eq_by_cmp name_cmp user e.1.owner)) s.sessions h.separation.dynamic;
-      };
-      sessions = each_kept (λ (e : Name × Session). not (eq_by_cmp name_cmp user e.1.owner)) (λ e. IsSessionSound s e.1) (λ e. IsSessionSound t e.1)
+    with_users s t.users t.assigned s.granted t.sessions
+    (record {
+      users = IsStrictlySortedBy-filter _ _ _ h.in_order.users;
+      few_users = fewer _ s.users most_users h.limits.users;
+      assigned = IsStrictlySortedBy-filter _ _ _ h.in_order.assigned;
+      assigned_exist = λ u r m.
+          let kept = was_kept pairs_total pairs_exact (λ (p : Name × Name). not (begins_with user p)) s.assigned (u, r) m in
+          let were = h.references.assigned u r kept.1 in
+          (is_kept names_total names_exact (λ x. not (eq_by_cmp name_cmp user x)) s.users u kept.0 were.0, were.1);
+      granted = h.in_order.granted;
+      granted_exist = h.references.granted;
+      sessions = IsStrictlySortedBy-filter _ _ _ h.in_order.sessions;
+      few_sessions = fewer _ s.sessions most_sessions h.limits.sessions;
+      each_session = each_kept (λ (e : Name × Session). not (eq_by_cmp name_cmp user e.1.owner)) (λ e. IsSessionSound s e.1) (λ e. IsSessionSound t e.1)
           (λ e sound other. session_stays s t e.1
           (is_kept names_total names_exact (λ x. not (eq_by_cmp name_cmp user x)) s.users e.1.owner other)
           (λ r a. (a.0, is_kept pairs_total pairs_exact (λ (p : Name × Name). not (begins_with user p)) s.assigned (e.1.owner, a.0) other a.1, a.2)) sound)
           s.sessions h.sessions;
-    }
+      static = static_stays s t h (λ u m. (was_kept names_total names_exact (λ x. not (eq_by_cmp name_cmp user x)) s.users u m).1)
+          (λ u r is a. (a.0, (was_kept pairs_total pairs_exact (λ (p : Name × Name). not (begins_with user p)) s.assigned (u, a.0) a.1).1, a.2));
+      dynamic = dynamic_kept (breaks_dynamic s) (λ (e : Name × Session). not (eq_by_cmp name_cmp user e.1.owner)) s.sessions h.separation.dynamic;
+    })
+    h
 
 -- ---- Assignments and grants
 
@@ -112,140 +88,68 @@ sound_assign_user : (user role : Name) (s : State) → first_denial (AssignUser 
 sound_assign_user user role s none h =
     let holds = none_fails (preconditions (AssignUser user role) s) none in
     let t : State = change (AssignUser user role) s in
-    record {
-      vocabulary = h.vocabulary;
-      in_order = record {
-        users = h.in_order.users;
-        roles = h.in_order.roles;
-        assigned = sorted_with_key pairs_total (user, role) s.assigned h.in_order.assigned;
-        granted = h.in_order.granted;
-        declared = h.in_order.declared;
-        sessions = h.in_order.sessions;
-      };
-      references = record {
-        assigned = λ u r m. ⊎_elim
-            (λ e. let same = one_key pairs_exact (u, r) (user, role) e in
-            (subst (λ x. IsTrue (has name_cmp x s.users)) (sym (ap (λ p. p.0) same)) (not-false _ holds.0), subst (λ x. IsTrue (has name_cmp x s.roles)) (sym (ap (λ p. p.1) same)) (not-false _ holds.1.0)))
-            (h.references.assigned u r)
-            (or_cases _ _ (sym (has-with_key pairs_total (user, role) s.assigned (u, r)) ∙ m));
-        granted = h.references.granted;
-        declared = h.references.declared;
-      };
-      limits = within h.limits s.users s.roles t.assigned s.granted s.declared s.sessions h.limits.users h.limits.roles h.limits.sessions;
-      no_cycle = h.no_cycle;
-      separation = record { static_sets = h.separation.static_sets; dynamic_sets = h.separation.dynamic_sets; static = holds.1.1.1.0; dynamic = h.separation.dynamic };
-      sessions = Each-weaker (λ e. IsSessionSound s e.1) (λ e. IsSessionSound t e.1) s.sessions
-          (λ e. session_stays s t e.1 (λ m. m) (λ r a. (a.0, still pairs_total (user, role) s.assigned (e.1.owner, a.0) a.1, a.2))) h.sessions;
-    }
+    with_users s s.users t.assigned s.granted s.sessions
+    (record {
+      users = h.in_order.users;
+      few_users = h.limits.users;
+      assigned = sorted_with_key pairs_total (user, role) s.assigned h.in_order.assigned;
+      assigned_exist = λ u r m. ⊎_elim
+          (λ e. let same = one_key pairs_exact (u, r) (user, role) e in
+          (subst (λ x. IsTrue (has name_cmp x s.users)) (sym (ap (λ p. p.0) same)) (not-false _ holds.0), subst (λ x. IsTrue (has name_cmp x s.roles)) (sym (ap (λ p. p.1) same)) (not-false _ holds.1.0)))
+          (h.references.assigned u r)
+          (or_cases _ _ (sym (has-with_key pairs_total (user, role) s.assigned (u, r)) ∙ m));
+      granted = h.in_order.granted;
+      granted_exist = h.references.granted;
+      sessions = h.in_order.sessions;
+      few_sessions = h.limits.sessions;
+      each_session = sessions_stay s t (λ u m. m) (λ u r a. (a.0, still pairs_total (user, role) s.assigned (u, a.0) a.1, a.2)) s.sessions h.sessions;
+      static = holds.1.1.1.0;
+      dynamic = h.separation.dynamic;
+    })
+    h
 
 sound_deassign_user : (user role : Name) (s : State) → IsSound s → IsSound (change (DeassignUser user role) s)
 sound_deassign_user user role s h =
     let ends : Session → Bool = λ x. eq_by_cmp name_cmp user x.owner && has name_cmp role x.active in
     let t : State = end_sessions ends (record s { assigned = without pair_cmp (user, role) s.assigned }) in
-    record {
-      vocabulary = h.vocabulary;
-      in_order = record {
-        users = h.in_order.users;
-        roles = h.in_order.roles;
-        assigned = IsStrictlySortedBy-filter _ _ _ h.in_order.assigned;
-        granted = h.in_order.granted;
-        declared = h.in_order.declared;
-        sessions = IsStrictlySortedBy-filter _ _ _ (IsStrictlySortedBy-filter _ _ _ h.in_order.sessions);
-      };
-      references = record {
-        assigned = λ u r m. h.references.assigned u r (was_kept pairs_total pairs_exact (λ p. not (eq_by_cmp pair_cmp (user, role) p)) s.assigned (u, r) m).1;
-        granted = h.references.granted;
-        declared = h.references.declared;
-      };
-      limits = within h.limits s.users s.roles t.assigned s.granted s.declared (purge t).sessions
-          h.limits.users h.limits.roles (fewer _ t.sessions most_sessions (fewer _ s.sessions most_sessions h.limits.sessions));
-      no_cycle = h.no_cycle;
-      separation = record {
-        static_sets = h.separation.static_sets;
-        dynamic_sets = h.separation.dynamic_sets;
-        static = static_stays s t h (λ u m. m) (λ u r is a. (a.0, (was_kept pairs_total pairs_exact (λ p. not (eq_by_cmp pair_cmp (user, role) p)) s.assigned (u, a.0) a.1).1, a.2));
-        dynamic = dynamic_kept (breaks_dynamic s) (λ (e : Name × Session). is_entitled t e.1) t.sessions
-            (dynamic_kept (breaks_dynamic s) (λ (e : Name × Session). not (ends e.1)) s.sessions h.separation.dynamic);
-      };
-      sessions = purged t (owners ends s h.sessions);
-    }
+    let was : (p : Name × Name) → IsTrue (has pair_cmp p t.assigned) → IsTrue (has pair_cmp p s.assigned) = λ p m. (was_kept pairs_total pairs_exact (λ q. not (eq_by_cmp pair_cmp (user, role) q)) s.assigned p m).1 in
+    with_users s s.users t.assigned s.granted (purge t).sessions
+    (record {
+      users = h.in_order.users;
+      few_users = h.limits.users;
+      assigned = IsStrictlySortedBy-filter _ _ _ h.in_order.assigned;
+      assigned_exist = λ u r m. h.references.assigned u r (was (u, r) m);
+      granted = h.in_order.granted;
+      granted_exist = h.references.granted;
+      sessions = IsStrictlySortedBy-filter _ _ _ (IsStrictlySortedBy-filter _ _ _ h.in_order.sessions);
+      few_sessions = fewer _ t.sessions most_sessions (fewer _ s.sessions most_sessions h.limits.sessions);
+      each_session = purged t (owners ends s h.sessions);
+      static = static_stays s t h (λ u m. m) (λ u r is a. (a.0, was (u, a.0) a.1, a.2));
+      dynamic = dynamic_kept (breaks_dynamic s) (λ (e : Name × Session). is_entitled t e.1) t.sessions
+          (dynamic_kept (breaks_dynamic s) (λ (e : Name × Session). not (ends e.1)) s.sessions h.separation.dynamic);
+    })
+    h
 
 sound_grant_permission : (operation object role : Name) (s : State) → first_denial (GrantPermission operation object role) s ≡ None → IsSound s → IsSound (change (GrantPermission operation object role) s)
 sound_grant_permission operation object role s none h =
     let holds = none_fails (preconditions (GrantPermission operation object role) s) none in
-    let t : State = change (GrantPermission operation object role) s in
-    record {
-      vocabulary = h.vocabulary;
-      in_order = record {
-        users = h.in_order.users;
-        roles = h.in_order.roles;
-        assigned = h.in_order.assigned;
-        granted = sorted_with_key grants_total ((operation, object), role) s.granted h.in_order.granted;
-        declared = h.in_order.declared;
-        sessions = h.in_order.sessions;
-      };
-      references = record {
-        assigned = h.references.assigned;
-        granted = λ p r m. ⊎_elim
-            (λ e. let same = one_key grants_exact (p, r) ((operation, object), role) e in
-            (subst (λ x. IsTrue (has pair_cmp x s.permissions)) (sym (ap (λ g. g.0) same)) (not-false _ holds.0), subst (λ x. IsTrue (has name_cmp x s.roles)) (sym (ap (λ g. g.1) same)) (not-false _ holds.1.0)))
-            (h.references.granted p r)
-            (or_cases _ _ (sym (has-with_key grants_total ((operation, object), role) s.granted (p, r)) ∙ m));
-        declared = h.references.declared;
-      };
-      limits = within h.limits s.users s.roles s.assigned t.granted s.declared s.sessions h.limits.users h.limits.roles h.limits.sessions;
-      no_cycle = h.no_cycle;
-      separation = record { static_sets = h.separation.static_sets; dynamic_sets = h.separation.dynamic_sets; static = h.separation.static; dynamic = h.separation.dynamic };
-      sessions = Each-weaker (λ e. IsSessionSound s e.1) (λ e. IsSessionSound t e.1) s.sessions (λ e. session_stays s t e.1 (λ m. m) (λ r a. a)) h.sessions;
-    }
+    with_granted s (with_key grant_cmp ((operation, object), role) s.granted)
+    (sorted_with_key grants_total ((operation, object), role) s.granted h.in_order.granted)
+    (λ p r m. ⊎_elim
+    (λ e. let same = one_key grants_exact (p, r) ((operation, object), role) e in
+    (subst (λ x. IsTrue (has pair_cmp x s.permissions)) (sym (ap (λ g. g.0) same)) (not-false _ holds.0), subst (λ x. IsTrue (has name_cmp x s.roles)) (sym (ap (λ g. g.1) same)) (not-false _ holds.1.0)))
+    (h.references.granted p r)
+    (or_cases _ _ (sym (has-with_key grants_total ((operation, object), role) s.granted (p, r)) ∙ m)))
+    h
 
 sound_revoke_permission : (operation object role : Name) (s : State) → IsSound s → IsSound (change (RevokePermission operation object role) s)
 sound_revoke_permission operation object role s h =
-    let t : State = change (RevokePermission operation object role) s in
-    record {
-      vocabulary = h.vocabulary;
-      in_order = record {
-        users = h.in_order.users;
-        roles = h.in_order.roles;
-        assigned = h.in_order.assigned;
-        granted = IsStrictlySortedBy-filter _ _ _ h.in_order.granted;
-        declared = h.in_order.declared;
-        sessions = h.in_order.sessions;
-      };
-      references = record {
-        assigned = h.references.assigned;
-        granted = λ p r m. h.references.granted p r (was_kept grants_total grants_exact (λ g. not (eq_by_cmp grant_cmp ((operation, object), role) g)) s.granted (p, r) m).1;
-        declared = h.references.declared;
-      };
-      limits = within h.limits s.users s.roles s.assigned t.granted s.declared s.sessions h.limits.users h.limits.roles h.limits.sessions;
-      no_cycle = h.no_cycle;
-      separation = record { static_sets = h.separation.static_sets; dynamic_sets = h.separation.dynamic_sets; static = h.separation.static; dynamic = h.separation.dynamic };
-      sessions = Each-weaker (λ e. IsSessionSound s e.1) (λ e. IsSessionSound t e.1) s.sessions (λ e. session_stays s t e.1 (λ m. m) (λ r a. a)) h.sessions;
-    }
+    with_granted s (without grant_cmp ((operation, object), role) s.granted)
+    (IsStrictlySortedBy-filter _ _ _ h.in_order.granted)
+    (λ p r m. h.references.granted p r (was_kept grants_total grants_exact (λ g. not (eq_by_cmp grant_cmp ((operation, object), role) g)) s.granted (p, r) m).1)
+    h
 
 -- ---- Sessions
-
--- a state with other sessions, each of which is sound in the old state
-with_sessions : (s : State) (sessions : List (Name × Session)) → IsSound s → IsStrictlySortedBy (by_key name_cmp) sessions → length sessions ≤ most_sessions
-    → Each (λ e. IsSessionSound s e.1) sessions → list_any (λ e. breaks_dynamic s e.1) sessions ≡ false → IsSound (record s { sessions = sessions })
-with_sessions s sessions h sorted few all separated =
-    let t : State = record s { sessions = sessions } in
-    record {
-      vocabulary = h.vocabulary;
-      in_order = record {
-        users = h.in_order.users;
-        roles = h.in_order.roles;
-        assigned = h.in_order.assigned;
-        granted = h.in_order.granted;
-        declared = h.in_order.declared;
-        sessions = sorted;
-      };
-      references = record { assigned = h.references.assigned; granted = h.references.granted; declared = h.references.declared };
-      limits = within h.limits s.users s.roles s.assigned s.granted s.declared sessions h.limits.users h.limits.roles few;
-      no_cycle = h.no_cycle;
-      separation = record { static_sets = h.separation.static_sets; dynamic_sets = h.separation.dynamic_sets; static = h.separation.static; dynamic = separated };
-      sessions = Each-weaker (λ e. IsSessionSound s e.1) (λ e. IsSessionSound t e.1) sessions (λ e. session_stays s t e.1 (λ m. m) (λ r a. a)) all;
-    }
 
 sound_create_session : (user name : Name) (roles : List Name) (s : State) → IsStrictlySortedBy name_cmp roles → first_denial (CreateSession user name roles) s ≡ None → IsSound s → IsSound (change (CreateSession user name roles) s)
 sound_create_session user name roles s sorted none h =

@@ -1,6 +1,7 @@
 -- Each command that adds or takes out roles or declared pairs keeps a policy sound.
 use Rattle.std.proofs.Common.{List, [], ◌∷◌, length, Bool, true, false, not, ◌||◌, ◌≡◌, ◌<◌, IsTrue, None, refl, sym, ap, ◌∙◌, subst, ⊎_elim, arith}
-use Rattle.std.specs.List.{list_any}
+use Rattle.std.specs.List.{list_any, AllByRecursion as Each}
+use Rattle.std.specs.List.Sorted.{IsStrictlySortedBy}
 use Rattle.std.proofs.lemmas.Bool.{or_cases, or_left, or_parts, and_parts, false≢true, leb-false, not-false}
 use Rattle.std.proofs.lemmas.List.Kept.{IsStrictlySortedBy-filter}
 use Rattle.std.specs.Ordering.{eq_by_cmp}
@@ -18,14 +19,14 @@ use Rattle.rbac_words.specs.Rows.{preconditions, first_denial}
 use Rattle.rbac_words.specs.Constraints.{is_violated, breaks_dynamic}
 use Rattle.rbac_words.specs.declared.separation.Separation.TheVariants.{Static}
 use Rattle.rbac_words.specs.Change.{change, end_sessions}
-use Rattle.rbac_words.specs.Sound.{IsSessionSound, IsSound}
+use Rattle.rbac_words.specs.Sound.{HasNoCycle, IsSessionSound, IsSound}
 use Rattle.rbac_words.specs.declared.command.Command.TheVariants.{AddRole, DeleteRole, AddInheritance, DeleteInheritance, AddAscendant, AddDescendant}
 use Rattle.rbac_words.proofs.NameLemmas.{names_total, names_exact, pairs_total, pairs_exact, grants_total, grants_exact, one_key, ties_itself}
 use Rattle.rbac_words.proofs.ListLemmas.{Each-weaker}
 use Rattle.rbac_rules.proofs.InheritanceLemmas.{chain_end, joined, inherits_iff, inherits_still, inherits_without, inherits_over}
 use Rattle.rbac_rules.proofs.AuthorizationLemmas.{is_authorized_iff}
 use Rattle.rbac_rules.proofs.SoundSeparation.{static_less, sets_wider, sets_without, dynamic_kept}
-use Rattle.rbac_rules.proofs.SoundParts.{none_fails, length-with_key-new, fewer, still, was_kept, is_kept, within, session_stays, IsOwned, purged, owners}
+use Rattle.rbac_rules.proofs.SoundParts.{none_fails, length-with_key-new, fewer, still, was_kept, is_kept, each_kept, within, sessions_stay, IsOwned, purged, owners, with_sessions}
 
 -- ---- One more role
 
@@ -71,8 +72,7 @@ sound_with_role role s new few h =
         static = static_stays s t h (λ u m. m) (λ u r is a. (a.0, a.1, inherits_without role s.roles s.declared h.references.declared a.0 r (h.references.assigned u a.0 a.1).1 a.2));
         dynamic = h.separation.dynamic;
       };
-      sessions = Each-weaker (λ e. IsSessionSound s e.1) (λ e. IsSessionSound t e.1) s.sessions
-          (λ e. session_stays s t e.1 (λ m. m) (authorized_still s t.roles s.declared stays (λ p m. m) e.1.owner)) h.sessions;
+      sessions = sessions_stay s t (λ user m. m) (authorized_still s t.roles s.declared stays (λ p m. m)) s.sessions h.sessions;
     }
 
 pub sound_add_role : (role : Name) (s : State) → first_denial (AddRole role) s ≡ None → IsSound s → IsSound (change (AddRole role) s)
@@ -82,6 +82,28 @@ sound_add_role role s none h =
 
 -- ---- One more pair
 
+-- a policy stays sound with other declared pairs: between roles, without a cycle, no user authorized that breaks a static set, and each session sound
+with_declared : (s : State) (declared : List (Name × Name)) → IsStrictlySortedBy pair_cmp declared
+    → ((a d : Name) → IsTrue (has pair_cmp (a, d) declared) → IsTrue (has name_cmp a s.roles) × IsTrue (has name_cmp d s.roles))
+    → HasNoCycle (record s { declared = declared }) → is_violated Static (record s { declared = declared }) ≡ false → Each (λ e. IsSessionSound (record s { declared = declared }) e.1) s.sessions
+    → IsSound s → IsSound (record s { declared = declared })
+with_declared s declared sorted exist acyclic separated all h = record {
+  vocabulary = h.vocabulary;
+  in_order = record {
+    users = h.in_order.users;
+    roles = h.in_order.roles;
+    assigned = h.in_order.assigned;
+    granted = h.in_order.granted;
+    declared = sorted;
+    sessions = h.in_order.sessions;
+  };
+  references = record { assigned = h.references.assigned; granted = h.references.granted; declared = exist };
+  limits = within h.limits s.users s.roles s.assigned s.granted declared s.sessions h.limits.users h.limits.roles h.limits.sessions;
+  no_cycle = acyclic;
+  separation = record { static_sets = h.separation.static_sets; dynamic_sets = h.separation.dynamic_sets; static = separated; dynamic = h.separation.dynamic };
+  sessions = all;
+}
+
 sound_with_pair : (a d : Name) (s : State) → has name_cmp a s.roles ≡ true → has name_cmp d s.roles ≡ true → ¬ (InheritsIn s d a)
     → is_violated Static (record s { declared = with_key pair_cmp (a, d) s.declared }) ≡ false → IsSound s
     → IsSound (record s { declared = with_key pair_cmp (a, d) s.declared })
@@ -89,35 +111,21 @@ sound_with_pair a d s is_a is_d acyclic separated h =
     let t : State = record s { declared = with_key pair_cmp (a, d) s.declared } in
     let stays : (p : Name × Name) → has pair_cmp p s.declared ≡ true → has pair_cmp p t.declared ≡ true = still pairs_total (a, d) s.declared in
     let either : (x y : Name) → has pair_cmp (x, y) t.declared ≡ true → (eq_by_cmp pair_cmp (x, y) (a, d) || has pair_cmp (x, y) s.declared) ≡ true = λ x y m. sym (has-with_key pairs_total (a, d) s.declared (x, y)) ∙ m in
-    record {
-      vocabulary = h.vocabulary;
-      in_order = record {
-        users = h.in_order.users;
-        roles = h.in_order.roles;
-        assigned = h.in_order.assigned;
-        granted = h.in_order.granted;
-        declared = sorted_with_key pairs_total (a, d) s.declared h.in_order.declared;
-        sessions = h.in_order.sessions;
-      };
-      references = record {
-        assigned = h.references.assigned;
-        granted = h.references.granted;
-        declared = λ x y m. ⊎_elim
-            (λ e. let same = one_key pairs_exact (x, y) (a, d) e in
-            (subst (λ z. IsTrue (has name_cmp z s.roles)) (sym (ap (λ p. p.0) same)) is_a, subst (λ z. IsTrue (has name_cmp z s.roles)) (sym (ap (λ p. p.1) same)) is_d))
-            (h.references.declared x y)
-            (or_cases _ _ (either x y m));
-      };
-      limits = within h.limits s.users s.roles s.assigned s.granted t.declared s.sessions h.limits.users h.limits.roles h.limits.sessions;
-      no_cycle = λ x y m back. ⊎_elim
-          (λ e. let same = one_key pairs_exact (x, y) (a, d) e in
-          new_pair (subst (λ p. Inherits s.roles t.declared p.1 p.0) same back))
-          (λ old. old_pair x y old back)
-          (or_cases _ _ (either x y m));
-      separation = record { static_sets = h.separation.static_sets; dynamic_sets = h.separation.dynamic_sets; static = separated; dynamic = h.separation.dynamic };
-      sessions = Each-weaker (λ e. IsSessionSound s e.1) (λ e. IsSessionSound t e.1) s.sessions
-          (λ e. session_stays s t e.1 (λ m. m) (authorized_still s s.roles t.declared (λ x m. m) stays e.1.owner)) h.sessions;
-    }
+    with_declared s more
+    (sorted_with_key pairs_total (a, d) s.declared h.in_order.declared)
+    (λ x y m. ⊎_elim
+    (λ e. let same = one_key pairs_exact (x, y) (a, d) e in
+    (subst (λ z. IsTrue (has name_cmp z s.roles)) (sym (ap (λ p. p.0) same)) is_a, subst (λ z. IsTrue (has name_cmp z s.roles)) (sym (ap (λ p. p.1) same)) is_d))
+    (h.references.declared x y)
+    (or_cases _ _ (either x y m)))
+    (λ x y m back. ⊎_elim
+    (λ e. let same = one_key pairs_exact (x, y) (a, d) e in
+    new_pair (subst (λ p. Inherits s.roles t.declared p.1 p.0) same back))
+    (λ old. old_pair x y old back)
+    (or_cases _ _ (either x y m)))
+    separated
+    (sessions_stay s t (λ user m. m) (authorized_still s s.roles t.declared (λ x m. m) stays) s.sessions h.sessions)
+    h
   where
     more : List (Name × Name)
     more = with_key pair_cmp (a, d) s.declared
@@ -191,31 +199,17 @@ pub sound_delete_inheritance : (a d : Name) (s : State) → IsSound s → IsSoun
 sound_delete_inheritance a d s h =
     let t : State = record s { declared = without pair_cmp (a, d) s.declared } in
     let was : (p : Name × Name) → has pair_cmp p t.declared ≡ true → has pair_cmp p s.declared ≡ true = λ p m. (was_kept pairs_total pairs_exact (λ x. not (eq_by_cmp pair_cmp (a, d) x)) s.declared p m).1 in
-    record {
-      vocabulary = h.vocabulary;
-      in_order = record {
-        users = h.in_order.users;
-        roles = h.in_order.roles;
-        assigned = h.in_order.assigned;
-        granted = h.in_order.granted;
-        declared = IsStrictlySortedBy-filter _ _ _ h.in_order.declared;
-        sessions = IsStrictlySortedBy-filter _ _ _ h.in_order.sessions;
-      };
-      references = record {
-        assigned = h.references.assigned;
-        granted = h.references.granted;
-        declared = λ x y m. h.references.declared x y (was (x, y) m);
-      };
-      limits = within h.limits s.users s.roles s.assigned s.granted t.declared (purge t).sessions h.limits.users h.limits.roles (fewer _ s.sessions most_sessions h.limits.sessions);
-      no_cycle = λ x y m back. h.no_cycle x y (was (x, y) m) (inherits_still s.roles s.roles t.declared s.declared (λ z k. k) was y x back);
-      separation = record {
-        static_sets = h.separation.static_sets;
-        dynamic_sets = h.separation.dynamic_sets;
-        static = static_stays s t h (λ u m. m) (λ u r is x. (x.0, x.1, inherits_still s.roles s.roles t.declared s.declared (λ z k. k) was x.0 r x.2));
-        dynamic = dynamic_kept (breaks_dynamic s) (λ (e : Name × Session). is_entitled t e.1) s.sessions h.separation.dynamic;
-      };
-      sessions = purged t (Each-weaker (λ e. IsSessionSound s e.1) (λ (e : Name × Session). IsOwned s e.1) s.sessions (λ e sound. (sound.owned, sound.active)) h.sessions);
-    }
+    with_declared (record s { sessions = (purge t).sessions }) t.declared
+    (IsStrictlySortedBy-filter _ _ _ h.in_order.declared)
+    (λ x y m. h.references.declared x y (was (x, y) m))
+    (λ x y m back. h.no_cycle x y (was (x, y) m) (inherits_still s.roles s.roles t.declared s.declared (λ z k. k) was y x back))
+    (static_stays s t h (λ u m. m) (λ u r is x. (x.0, x.1, inherits_still s.roles s.roles t.declared s.declared (λ z k. k) was x.0 r x.2)))
+    (purged t (Each-weaker (λ e. IsSessionSound s e.1) (λ (e : Name × Session). IsOwned s e.1) s.sessions (λ e sound. (sound.owned, sound.active)) h.sessions))
+    (with_sessions s (purge t).sessions h
+    (IsStrictlySortedBy-filter _ _ _ h.in_order.sessions)
+    (fewer _ s.sessions most_sessions h.limits.sessions)
+    (each_kept (λ (e : Name × Session). is_entitled t e.1) (λ e. IsSessionSound s e.1) (λ e. IsSessionSound s e.1) (λ e sound _. sound) s.sessions h.sessions)
+    (dynamic_kept (breaks_dynamic s) (λ (e : Name × Session). is_entitled t e.1) s.sessions h.separation.dynamic))
 
 neither : (a b : Bool) → not (a || b) ≡ true → (not a ≡ true) × (not b ≡ true)
 neither true b e = absurd (false≢true e)

@@ -22,13 +22,12 @@ use Rattle.rbac_words.specs.Authorization.{is_authorized}
 use Rattle.rbac_words.specs.Constraints.{sets_of, with_sets, is_violated, is_badly_sized}
 use Rattle.rbac_words.specs.Change.{change, with_member, without_member, with_cardinality}
 use Rattle.rbac_words.specs.Rows.{preconditions, first_denial, found_and}
-use Rattle.rbac_words.specs.Sound.{IsSessionSound, IsRoleSet, AreRoleSets, IsSeparated, IsSound}
+use Rattle.rbac_words.specs.Sound.{IsRoleSet, AreRoleSets, IsSeparated, IsSound}
 use Rattle.rbac_words.specs.declared.separation.Separation.{Separation}
 use Rattle.rbac_words.specs.declared.separation.Separation.TheVariants.{Static, Dynamic}
 use Rattle.rbac_words.specs.declared.command.Command.TheVariants.{CreateSet, DeleteSet, AddRoleMember, DeleteRoleMember, SetCardinality}
 use Rattle.rbac_words.proofs.NameLemmas.{names_total, names_exact, one_key, all_member}
-use Rattle.rbac_words.proofs.ListLemmas.{Each-weaker}
-use Rattle.rbac_rules.proofs.SoundParts.{none_fails, length-with_key-new, length-put-new, fewer, was_kept, each_put, each_updated, each_kept, length-updated, session_stays}
+use Rattle.rbac_rules.proofs.SoundParts.{none_fails, length-with_key-new, length-put-new, fewer, was_kept, each_put, each_updated, each_kept, length-updated, sessions_stay}
 use Rattle.rbac_rules.proofs.SoundSeparation.{is_false, sets_less}
 
 -- ---- The sets of a kind
@@ -47,30 +46,27 @@ violated_less : (kind : Separation) (sets : List (Name × RoleSet)) (s : State)
 violated_less Static sets s less h = sets_less (is_authorized s) s.static_sets sets less s.users h.static
 violated_less Dynamic sets s less h = sets_less (λ (x : Name × Session) r. has name_cmp r x.1.active) s.dynamic_sets sets less s.sessions h.dynamic
 
--- a policy stays sound with other sets of roles that hold
+-- a policy stays sound with other sets of separation, static and dynamic, that hold
+with_all_sets : (s : State) (static dynamic : List (Name × RoleSet)) → IsSeparated (record s { static_sets = static; dynamic_sets = dynamic }) → IsSound s
+    → IsSound (record s { static_sets = static; dynamic_sets = dynamic })
+with_all_sets s static dynamic separated h =
+    let t : State = record s { static_sets = static; dynamic_sets = dynamic } in
+    record {
+      vocabulary = h.vocabulary;
+      in_order = record { users = h.in_order.users; roles = h.in_order.roles; assigned = h.in_order.assigned; granted = h.in_order.granted; declared = h.in_order.declared; sessions = h.in_order.sessions };
+      references = record { assigned = h.references.assigned; granted = h.references.granted; declared = h.references.declared };
+      limits = record { users = h.limits.users; roles = h.limits.roles; sessions = h.limits.sessions; operations = h.limits.operations; objects = h.limits.objects; permissions = h.limits.permissions };
+      no_cycle = h.no_cycle;
+      separation = separated;
+      sessions = sessions_stay s t (λ user m. m) (λ user role a. a) s.sessions h.sessions;
+    }
+
+-- with other sets of a kind
 sound_with_sets : (kind : Separation) (sets : List (Name × RoleSet)) (s : State) → AreRoleSets s.roles sets → is_violated kind (with_sets kind sets s) ≡ false → IsSound s → IsSound (with_sets kind sets s)
 sound_with_sets Static sets s are separated h =
-    let t : State = record s { static_sets = sets } in
-    record {
-      vocabulary = h.vocabulary;
-      in_order = record { users = h.in_order.users; roles = h.in_order.roles; assigned = h.in_order.assigned; granted = h.in_order.granted; declared = h.in_order.declared; sessions = h.in_order.sessions };
-      references = record { assigned = h.references.assigned; granted = h.references.granted; declared = h.references.declared };
-      limits = record { users = h.limits.users; roles = h.limits.roles; sessions = h.limits.sessions; operations = h.limits.operations; objects = h.limits.objects; permissions = h.limits.permissions };
-      no_cycle = h.no_cycle;
-      separation = record { static_sets = are; dynamic_sets = h.separation.dynamic_sets; static = separated; dynamic = h.separation.dynamic };
-      sessions = Each-weaker (λ e. IsSessionSound s e.1) (λ e. IsSessionSound t e.1) s.sessions (λ e. session_stays s t e.1 (λ m. m) (λ r a. a)) h.sessions;
-    }
+    with_all_sets s sets s.dynamic_sets (record { static_sets = are; dynamic_sets = h.separation.dynamic_sets; static = separated; dynamic = h.separation.dynamic }) h
 sound_with_sets Dynamic sets s are separated h =
-    let t : State = record s { dynamic_sets = sets } in
-    record {
-      vocabulary = h.vocabulary;
-      in_order = record { users = h.in_order.users; roles = h.in_order.roles; assigned = h.in_order.assigned; granted = h.in_order.granted; declared = h.in_order.declared; sessions = h.in_order.sessions };
-      references = record { assigned = h.references.assigned; granted = h.references.granted; declared = h.references.declared };
-      limits = record { users = h.limits.users; roles = h.limits.roles; sessions = h.limits.sessions; operations = h.limits.operations; objects = h.limits.objects; permissions = h.limits.permissions };
-      no_cycle = h.no_cycle;
-      separation = record { static_sets = h.separation.static_sets; dynamic_sets = are; static = h.separation.static; dynamic = separated };
-      sessions = Each-weaker (λ e. IsSessionSound s e.1) (λ e. IsSessionSound t e.1) s.sessions (λ e. session_stays s t e.1 (λ m. m) (λ r a. a)) h.sessions;
-    }
+    with_all_sets s s.static_sets sets (record { static_sets = h.separation.static_sets; dynamic_sets = are; static = h.separation.static; dynamic = separated }) h
 
 -- ---- Sizes
 

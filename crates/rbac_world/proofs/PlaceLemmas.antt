@@ -1,5 +1,5 @@
 -- The member at a place of a list, and of a list in two parts.
-use Rattle.std.proofs.Common.{ℕ, zero, suc, Bool, true, false, ◌≡◌, ◌<◌, ◌-◌, ◌&&◌, List, [], ◌∷◌, ◌++◌, length, get_or, set, Result, refl, sym, ap, subst, ◌∙◌, arith}
+use Rattle.std.proofs.Common.{ℕ, zero, suc, Bool, true, ◌≡◌, ◌<◌, ◌-◌, List, [], ◌∷◌, ◌++◌, length, get_or, set, Result, refl, sym, ap, subst, ◌∙◌, arith}
 use Rattle.std.specs.List.{list_all}
 use Rattle.std.proofs.lemmas.List.{get_or_default, set-append_left, set-append_right, get_or_append_left, get_or-append_right}
 use Rattle.rbac_words.specs.Member.{Member}

@@ -1,5 +1,5 @@
 -- A move of one member of a group is the step of its world.
-use Rattle.std.proofs.Common.{ℕ, zero, suc, Bool, true, false, not, cond, ◌≡◌, ◌≤◌, ◌<◌, ◌+◌, ◌-◌, ◌==◌, ◌||◌, ◌&&◌, ◌⊎◌, inl, inr, nat_lt, nat_le, List, [], ◌∷◌, ◌++◌, length, set, get_or, drop, Option, Some, None, is_some, Result, Ok, Err, refl, sym, ap, subst, ◌∙◌, arith}
+use Rattle.std.proofs.Common.{ℕ, Bool, true, false, not, cond, ◌≡◌, ◌≤◌, ◌<◌, ◌+◌, ◌-◌, ◌==◌, ◌||◌, ◌&&◌, ◌⊎◌, inl, inr, nat_lt, nat_le, List, [], ◌∷◌, ◌++◌, length, set, get_or, drop, Option, Some, None, is_some, Result, Ok, Err, refl, sym, ap, subst, ◌∙◌, arith}
 use Rattle.std.specs.List.{filter}
 use Rattle.std.proofs.lemmas.Bool.Decides.{nat_tests}
 use Rattle.std.proofs.lemmas.List.{length-map, set-get_or}
@@ -28,7 +28,8 @@ use Rattle.rbac_order.proofs.StampLemmas.{true_before}
 use Rattle.rbac_order.proofs.MessageLemmas.{CountsFrom-next}
 use Rattle.rbac_order.proofs.GroupLemmas.{apart, read_by, due_is_due, same_number, other_number}
 use Rattle.rbac_order.proofs.StepLemmas.{world_set, node_is, next_of as next_message, comes_next, members_submitted, members_receive, members_delivered, deliver_is}
-use Rattle.rbac_world.specs.Moves.{Move, IsMovedAt, submit_of, receipt_refusal, receipt_of, delivery_of, IsGroupStep}
+use Rattle.rbac_world.specs.Moves.{Move, IsMoved, IsMovedAt, submit_of, receipt_refusal, receipt_of, delivery_of, IsGroupStep}
+use Rattle.rbac_world.proofs.PlaceLemmas.{moved_at}
 
 -- ---- Any event
 
@@ -92,6 +93,14 @@ module _ (group : Group) (vocabulary : Vocabulary) (ms : List Member) (are : Are
             (starved w e r (λ other. is.refused ∙ moved.is_moved.first_refusal other) (λ f. is.refused ∙ moved.is_moved.memory_last f) (λ f. is.longer ∙ moved.is_moved.memory_needed f));
         members = subst (AreMembers group vocabulary) (sym unchanged) are;
       }
+
+  -- a move of the member of a number, which is at this place, that the event of the number is
+  at_place : (e : ℕ → Event) (m : Member → Move) → ((i : ℕ) → i < length ms → IsMoveOf i (m (at i)) (e (i + 1)))
+      → (k i : ℕ) (u : Member) (result : Result Outcome Refusal) (after : Member) → (k ≡ i + 1) × (i < length ms)
+      → IsMoved (m (get_or ms i u)) (get_or ms i u) result after → IsGroupStep group vocabulary ms (e k) result (set ms i after)
+  at_place e m is k i u result after (number, here) moved =
+      subst (λ n. IsGroupStep group vocabulary ms (e n) result (set ms i after)) (sym number)
+      (by_move i (m (at i)) (e (i + 1)) (is i here) result (set ms i after) (moved_at m ms i u result after here moved))
 
   -- ---- Members and strangers
 
@@ -170,8 +179,9 @@ module _ (group : Group) (vocabulary : Vocabulary) (ms : List Member) (are : Are
         keeps = λ free. members_submitted group vocabulary ms are i caller serial c h (sym same ∙ free);
       }
 
-  pub submit_step : (i caller serial : ℕ) (c : Command) (result : Result Outcome Refusal) (new : List Member) → i < length ms → IsMovedAt i (submit_of (at i) caller serial c) ms result new → IsGroupStep group vocabulary ms (Submit (i + 1) caller serial c) result new
-  submit_step i caller serial c result new h = by_move i (submit_of (at i) caller serial c) (Submit (i + 1) caller serial c) (submits i caller serial c h) result new
+  pub submit_step : (k i caller serial : ℕ) (c : Command) (u : Member) (result : Result Outcome Refusal) (after : Member) → (k ≡ i + 1) × (i < length ms)
+      → IsMoved (submit_of (get_or ms i u) caller serial c) (get_or ms i u) result after → IsGroupStep group vocabulary ms (Submit k caller serial c) result (set ms i after)
+  submit_step k i caller serial c = at_place (λ n. Submit n caller serial c) (λ v. submit_of v caller serial c) (λ j. submits j caller serial c) k i
 
   delivers : (i : ℕ) → i < length ms → IsMoveOf i (delivery_of (at i)) (Deliver (i + 1))
   delivers i h = record {
@@ -186,8 +196,9 @@ module _ (group : Group) (vocabulary : Vocabulary) (ms : List Member) (are : Are
       is_due : due w (node_of (at i)) ≡ due_at (at i)
       is_due = due_is_due group vocabulary ms are i h
 
-  pub deliver_step : (i : ℕ) (result : Result Outcome Refusal) (new : List Member) → i < length ms → IsMovedAt i (delivery_of (at i)) ms result new → IsGroupStep group vocabulary ms (Deliver (i + 1)) result new
-  deliver_step i result new h = by_move i (delivery_of (at i)) (Deliver (i + 1)) (delivers i h) result new
+  pub deliver_step : (k i : ℕ) (u : Member) (result : Result Outcome Refusal) (after : Member) → (k ≡ i + 1) × (i < length ms)
+      → IsMoved (delivery_of (get_or ms i u)) (get_or ms i u) result after → IsGroupStep group vocabulary ms (Deliver k) result (set ms i after)
+  deliver_step = at_place Deliver delivery_of delivers
 
   -- ---- A message that a sender of the group sent is refused by what the world refuses
 

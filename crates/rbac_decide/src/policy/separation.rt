@@ -1,5 +1,5 @@
 //! What separation of duty asks: the sets of a kind, and who would break one.
-ghost use Rattle.std.specs.Prelude.{◌≡◌, ◌||◌, ◌&&◌, nat_le, length, is_some, IfOk};
+ghost use Rattle.std.specs.Prelude.{◌≡◌, ◌||◌, ◌&&◌, nat_le, length, count_by, is_some, IfOk};
 ghost use Rattle.sorted_keys.specs.Keys.{without};
 ghost use Rattle.std.specs.List.{list_any};
 ghost use Rattle.std.specs.Option.{option_copied};
@@ -13,7 +13,7 @@ ghost use Rattle.rbac_words.specs.Rows.{found_and, is_set, is_member};
 ghost use Rattle.rbac_words.specs.declared.separation.Separation.TheVariants.{Static, Dynamic};
 ghost use Rattle.rbac_decide.specs.Breaking.{breaks_with, breaks_below, breaks_set};
 
-use crate::authorization::{authorized_with, count_authorized};
+use crate::authorization::authorized_with;
 use crate::breaking::Breaking;
 use crate::policy::Policy;
 use rbac_separation::{RoleSet, SetTable};
@@ -143,16 +143,21 @@ impl Policy {
         is_over(&self.tables.dynamic_sets, active)
     }
 
+    // How many of the roles the user is authorized for.
+    fn count_authorized(&self, user: &Name, roles: &[Name]) -> usize
+        ensures { result ≡ count_by (is_authorized_in self.now user.now) roles.now }
+    {
+        roles
+            .iter()
+            .filter(|role| self.is_authorized(user, role))
+            .count()
+    }
+
     // Whether the user is authorized for as many of the roles as the number.
     fn user_breaks(&self, user: &Name, roles: &NameSet, n: u32) -> bool
         ensures { result ≡ is_broken_by (is_authorized_in self.now user.now) (record { roles = roles.now; cardinality = n }) }
     {
-        count_authorized(
-            &self.tables.sets,
-            &self.tables.hierarchy,
-            user,
-            roles.names(),
-        ) >= n as usize
+        self.count_authorized(user, roles.names()) >= n as usize
     }
 
     // Whether some user would break the static set.

@@ -1,10 +1,10 @@
 //! Changes of the roles and of the declared pairs, in the role sets and in the hierarchy alike.
 ghost use Rattle.std.specs.Prelude.{◌≡◌, IsTrue, OnOk};
-ghost use Rattle.sorted_keys.specs.Keys.{has};
+ghost use Rattle.sorted_keys.specs.Keys.{has, with_key};
 ghost use Rattle.rbac_words.specs.Name.{name_cmp};
 ghost use Rattle.rbac_words.specs.Change.{change};
 ghost use Rattle.rbac_words.specs.Founding.{Vocabulary as VocabularyValue};
-ghost use Rattle.rbac_words.specs.declared.command.Command.TheVariants.{AddRole, DeleteRole, DeleteInheritance, AddAscendant, AddDescendant};
+ghost use Rattle.rbac_words.specs.declared.command.Command.TheVariants.{AddRole, DeleteRole, AddInheritance, DeleteInheritance};
 
 use crate::ending::WithActive;
 use crate::tables::Tables;
@@ -47,32 +47,20 @@ impl Tables {
         Ok(())
     }
 
-    pub fn add_ascendant(
+    /// Adds a role, and declares a pair of roles of which it is one.
+    pub fn add_role_with_pair(
         &mut self,
         alloc: Global,
+        role: &Name,
         ascendant: &Name,
         descendant: &Name,
     ) -> Result<(), AllocError>
-        requires descendant { IsTrue (has name_cmp descendant.now self.old.hierarchy.content.roles) }
-        ensures state { OnOk result ((v : VocabularyValue) → state_of self.new v ≡ change (AddAscendant ascendant.now descendant.now) (state_of self.old v)) }
+        requires ascendant { IsTrue (has name_cmp ascendant.now (with_key name_cmp role.now self.old.hierarchy.content.roles)) }
+        requires descendant { IsTrue (has name_cmp descendant.now (with_key name_cmp role.now self.old.hierarchy.content.roles)) }
+        ensures state { OnOk result ((v : VocabularyValue) → state_of self.new v ≡ change (AddInheritance ascendant.now descendant.now) (change (AddRole role.now) (state_of self.old v))) }
         ensures same_roles { HasSameRoles self.old → OnOk result (HasSameRoles self.new) }
     {
-        self.add_role(alloc, ascendant)?;
-        self.hierarchy.declare(alloc, ascendant, descendant)?;
-        Ok(())
-    }
-
-    pub fn add_descendant(
-        &mut self,
-        alloc: Global,
-        ascendant: &Name,
-        descendant: &Name,
-    ) -> Result<(), AllocError>
-        requires ascendant { IsTrue (has name_cmp ascendant.now self.old.hierarchy.content.roles) }
-        ensures state { OnOk result ((v : VocabularyValue) → state_of self.new v ≡ change (AddDescendant ascendant.now descendant.now) (state_of self.old v)) }
-        ensures same_roles { HasSameRoles self.old → OnOk result (HasSameRoles self.new) }
-    {
-        self.add_role(alloc, descendant)?;
+        self.add_role(alloc, role)?;
         self.hierarchy.declare(alloc, ascendant, descendant)?;
         Ok(())
     }

@@ -88,10 +88,7 @@ impl Member {
         ensures first_refusal { IfErr result (λ refusal. submit_refusal self.old.group (node_of self.old) caller serial ≡ rule_of (submit_refused refusal)) }
         ensures unchanged { OnErr result (self.new ≡ self.old) }
     {
-        let next = match self.next_stamp(caller, serial) {
-            Ok(next) => next,
-            Err(refusal) => return Err(refusal),
-        };
+        let next = self.next_stamp(caller, serial)?;
         let copy = match command.copy() {
             Ok(copy) => copy,
             Err(AllocError) => return Err(SubmitRefusal::NoMemory),

@@ -1,27 +1,11 @@
-use Rattle.std.proofs.Common.{◌∙◌, sym, ap, [], Some, None, map, if◌then◌else◌}
-use Rattle.std.specs.Option.{ok_or}
+use Rattle.std.proofs.Common.{[]}
 use Rattle.toml.specs.Data.{get_member}
-use Rattle.toml.specs.View.{items_view, table_view}
+use Rattle.toml.specs.View.{table_view}
 use Rattle.rbac_founding.specs.FoundingFile.{as_permission}
-use Rattle.rbac_founding.specs.FoundingEntries.{pair_of}
-use Rattle.rbac_founding.specs.declared.refusal.FoundingRefusal.TheVariants.{WrongKind}
-use Rattle.rbac_founding.proofs.FoundingLemmas.{at_array, each_of}
+use Rattle.rbac_founding.proofs.FoundingLemmas.{kinds_at}
 use Rattle.rbac_founding.proofs.entries.pairs_at.Goals as goal
-
-pub returns-then-not-are_pairs : goal.returns-then-not-are_pairs
-returns-then-not-are_pairs c =
-    let values = c.in_ok-array.array.now in
-    sym (
-    at_array as_permission (get_member c.args.key.now (table_view c.args.document.now)) (items_view values) c.in_ok-array.ensures
-    ∙ ap (λ found. ok_or found WrongKind) (each_of as_permission ([], []) values)
-    ∙ ap (λ all. ok_or (if all then Some (map pair_of values) else None) WrongKind) (sym c.if-not-are_pairs.ensures)
-    )
 
 pub returns : goal.returns
 returns c =
-    let values = c.in_ok-array.array.now in
-    sym (
-    at_array as_permission (get_member c.args.key.now (table_view c.args.document.now)) (items_view values) c.in_ok-array.ensures
-    ∙ ap (λ found. ok_or found WrongKind) (each_of as_permission ([], []) values)
-    ∙ ap (λ all. ok_or (if all then Some (map pair_of values) else None) WrongKind) (sym c.if-not-are_pairs.ensures)
-    )
+    kinds_at as_permission ([], []) (get_member c.args.key.now (table_view c.args.document.now)) c.in_ok-array.array.now c.are_pairs.result c.all_of_kind.result c.in_ok-array.ensures
+    c.are_pairs.ensures c.all_of_kind.ensures

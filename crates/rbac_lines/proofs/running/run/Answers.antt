@@ -11,14 +11,14 @@ returns-clause-read_to_end g c = where_ended c.run_lines-ended.result _ _ c.run_
 pub returns-clause-written : goal.returns-clause-written
 returns-clause-written g c =
     let o = returns-clause-outcome g c in
-    whole_run _ _ _ _ _ _ _ c.run_lines-ended.result o.0 _ o.1 c.run_lines-ended.ensures.at_end c.run_lines-ended.ensures.ended o.2 (λ summary whole w. w.written)
+    whole_run _ _ _ _ _ _ _ c.run_lines-ended.result o.0 _ o.1 c.run_lines-ended.ensures.at_end c.run_lines-ended.ensures.ended o.2 (λ summary all o. o.0.written)
 
 pub returns-clause-played : goal.returns-clause-played
 returns-clause-played g c =
     let o = returns-clause-outcome g c in
-    whole_run _ _ _ _ _ _ _ c.run_lines-ended.result o.0 _ o.1 c.run_lines-ended.ensures.at_end c.run_lines-ended.ensures.ended o.2 (λ summary whole w. w.played)
+    whole_run _ _ _ _ _ _ _ c.run_lines-ended.result o.0 _ o.1 c.run_lines-ended.ensures.at_end c.run_lines-ended.ensures.ended o.2 (λ summary all o. o.0.state)
 
 pub returns-clause-counted : goal.returns-clause-counted
 returns-clause-counted g c =
     let o = returns-clause-outcome g c in
-    whole_run _ _ _ _ _ _ _ c.run_lines-ended.result o.0 _ o.1 c.run_lines-ended.ensures.at_end c.run_lines-ended.ensures.ended o.2 (λ summary whole w. w.counted)
+    whole_run _ _ _ _ _ _ _ c.run_lines-ended.result o.0 _ o.1 c.run_lines-ended.ensures.at_end c.run_lines-ended.ensures.ended o.2 (λ summary all o. (o.1, o.2))

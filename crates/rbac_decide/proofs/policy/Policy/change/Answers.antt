@@ -1,4 +1,4 @@
-use Rattle.std.proofs.Common.{◌≡◌, subst, sym, ap, ◌∙◌}
+use Rattle.std.proofs.Common.{◌≡◌, subst, sym, ap}
 use Rattle.rbac_words.specs.Sound.{IsSound}
 use Rattle.rbac_words.specs.Effect.{effect}
 use Rattle.rbac_rules.proofs.SoundLemmas.{sound_effect}

@@ -1,24 +1,15 @@
-use Rattle.std.proofs.Common.{◌≡◌, ◌∙◌, ap, List}
+use Rattle.std.proofs.Common.{◌∙◌, ap}
 use Rattle.std.specs.List.{filter}
-use Rattle.rbac_words.specs.Name.{Name}
 use Rattle.rbac_words.specs.Inheritance.{seniors}
 use Rattle.rbac_words.specs.Authorization.{is_authorized}
-use Rattle.rbac_words.specs.Reviews.{authorized_users}
-use Rattle.rbac_hierarchy.proofs.LoopLemmas.{if_each}
 use Rattle.rbac_review.specs.Among.{is_assigned_one}
 use Rattle.rbac_review.specs.Parts.{state_of}
-use Rattle.rbac_review.proofs.ReviewLemmas.{filter-same, assigned_a_senior}
+use Rattle.rbac_review.proofs.ReviewLemmas.{if_same, filter-same, assigned_a_senior}
 use Rattle.rbac_review.proofs.parts.Parts.authorized_users.Goals as goal
 
 pub returns : goal.returns
 returns c =
     let s = state_of c.args.self.now in
     let role = c.args.role.now in
-    if_each c.users_assigned_one.result
-    (λ (users : List Name). users ≡ filter (is_assigned_one c.in_ok-seniors.seniors s.assigned) s.users)
-    (λ (users : List Name). users ≡ authorized_users s role)
-    (λ users is.
-    is
-    ∙ ap (λ names. filter (is_assigned_one names s.assigned) s.users) c.in_ok-seniors.ensures
-    ∙ filter-same (is_assigned_one (seniors s.roles s.declared role) s.assigned) (λ user. is_authorized s user role) (assigned_a_senior s role) s.users)
-    c.users_assigned_one.ensures
+    let told = filter-same (is_assigned_one (seniors s.roles s.declared role) s.assigned) (λ user. is_authorized s user role) (assigned_a_senior s role) s.users in
+    if_same (ap (λ names. filter (is_assigned_one names s.assigned) s.users) c.in_ok-seniors.ensures ∙ told) c.users_assigned_one.result c.users_assigned_one.ensures

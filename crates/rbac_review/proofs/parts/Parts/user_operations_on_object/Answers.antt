@@ -1,18 +1,11 @@
-use Rattle.std.proofs.Common.{◌≡◌, ◌∙◌, ap, List}
-use Rattle.std.specs.List.{filter}
-use Rattle.rbac_words.specs.Name.{Name}
-use Rattle.rbac_words.specs.Reviews.{operations_on, user_operations}
-use Rattle.rbac_hierarchy.proofs.LoopLemmas.{if_each}
-use Rattle.rbac_review.specs.Among.{is_granted_to_one}
+use Rattle.std.proofs.Common.{ap}
+use Rattle.rbac_words.specs.Reviews.{operations_on}
 use Rattle.rbac_review.specs.Parts.{state_of}
-use Rattle.rbac_review.proofs.ReviewLemmas.{user_listed}
+use Rattle.rbac_review.proofs.ReviewLemmas.{if_same, user_listed}
 use Rattle.rbac_review.proofs.parts.Parts.user_operations_on_object.Goals as goal
 
 pub returns : goal.returns
 returns c =
     let s = state_of c.args.self.now in
-    if_each c.operations_of.result
-    (λ (operations : List Name). operations ≡ operations_on c.args.object.now (filter (is_granted_to_one c.in_ok-roles.roles s.granted) s.permissions) s.operations)
-    (λ (operations : List Name). operations ≡ user_operations s c.args.user.now c.args.object.now)
-    (λ operations is. is ∙ ap (λ permissions. operations_on c.args.object.now permissions s.operations) (user_listed s c.args.user.now c.in_ok-roles.roles c.in_ok-roles.ensures))
-    c.operations_of.ensures
+    let listed = user_listed s c.args.user.now c.in_ok-roles.roles c.in_ok-roles.ensures in
+    if_same (ap (λ permissions. operations_on c.args.object.now permissions s.operations) listed) c.operations_of.result c.operations_of.ensures
