@@ -1,10 +1,12 @@
 #!/usr/bin/env python3
-"""A client of the monitor. It keeps its caller's serials, submits commands, delivers them, and prints what each was answered.
+"""A client of the monitor: it sends commands and prints what each was answered.
 
-    examples/client.py [--journal FILE] PROGRAM [WORD..] < COMMANDS
+    examples/client.py [--journal FILE] PROGRAM serve FOUNDING < COMMANDS
+    examples/client.py [--journal FILE] PROGRAM play FOUNDING - < COMMANDS
 
-COMMANDS has one command a line, as {"name":"AddUser","user":"ann"}. PROGRAM is the monitor, and the words are its own. It keeps nothing
-on disk: a journal gets each line that was accepted, and is played again at the start, so that the next day goes on from there."""
+COMMANDS has one command a line, as {"name":"AddUser","user":"ann"}; with "at":2 in it, it is asked of member 2. PROGRAM is the monitor. By serve
+each command is one line and gets one answer. By play it is submitted and delivered at member 1, and the client keeps the serials. The monitor
+keeps nothing on disk: a journal gets each line that was accepted, and is sent again at the start, so that the next day goes on from there."""
 import json
 import os
 import subprocess
@@ -15,27 +17,29 @@ class Refused(Exception):
     """The monitor's answer to a line that it refused. Such a line has changed nothing."""
 
 
-class Client:
-    """Caller 0 at member 1, whose serials are 0, 1, 2 and so on. Each command is delivered right after it was submitted."""
+class Monitor:
+    """The program, which answers each line by one line, and a journal of the lines that it accepted."""
 
     def __init__(self, words, journal=None):
-        self.serial = 0
         self.journal = None
         self.process = subprocess.Popen(words, stdin=subprocess.PIPE, stdout=subprocess.PIPE, text=True, bufsize=1)
         if journal:
-            self.play_again(journal)
+            self.send_again(journal)
             self.journal = open(journal, "a", encoding="utf-8")
 
-    def play_again(self, journal):
+    def send_again(self, journal):
         if os.path.exists(journal):
             with open(journal, encoding="utf-8") as lines:
-                for event in map(json.loads, lines):
-                    self.send(event)
-                    self.serial += event["do"] == "submit"
+                for line in map(json.loads, lines):
+                    self.send(line)
+                    self.was_sent_before(line)
 
-    def send(self, event):
+    def was_sent_before(self, line):
+        """What a client keeps of a line of the journal."""
+
+    def send(self, value):
         """Sends one line, and gives its answer."""
-        line = json.dumps(event, separators=(",", ":")) + "\n"
+        line = json.dumps(value, separators=(",", ":")) + "\n"
         self.process.stdin.write(line)
         self.process.stdin.flush()
         text = self.process.stdout.readline()
@@ -49,8 +53,31 @@ class Client:
             self.journal.flush()
         return answer
 
+    def stop(self):
+        self.process.stdin.close()
+        return self.process.wait()
+
+
+class Caller(Monitor):
+    """Asks members that run in threads, by serve."""
+
+    def ask(self, name, at=1, **fields):
+        """Gives a member's answer to a command: a text, or an object of a list, a number or a denial."""
+        return self.send({"at": at, "command": {"name": name, **fields}})["answer"]
+
+
+class Client(Monitor):
+    """Caller 0 at member 1 of a schedule, whose serials are 0, 1, 2 and so on. Each command is delivered right after it was submitted."""
+
+    def __init__(self, words, journal=None):
+        self.serial = 0
+        super().__init__(words, journal)
+
+    def was_sent_before(self, line):
+        self.serial += line["do"] == "submit"
+
     def ask(self, name, **fields):
-        """Submits a command and delivers it, and gives its answer: a text, or an object of a list, a number or a denial."""
+        """Submits a command and delivers it, and gives its answer."""
         command = {"name": name, **fields}
         stamp = self.send({"do": "submit", "at": 1, "caller": 0, "serial": self.serial, "command": command})["stamp"]
         self.serial += 1
@@ -59,14 +86,11 @@ class Client:
             if delivered["answer"] is None or delivered["stamp"] == stamp:
                 return delivered["answer"]
 
-    def stop(self):
-        self.process.stdin.close()
-        return self.process.wait()
-
 
 def main(words):
     journal = words[1] if words[:1] == ["--journal"] else None
-    client = Client(words[2:] if journal else words, journal)
+    words = words[2:] if journal else words
+    client = (Client if words[1:2] == ["play"] else Caller)(words, journal)
     for line in sys.stdin:
         command = json.loads(line)
         print(line.strip(), "->", json.dumps(client.ask(**command), separators=(",", ":")), flush=True)
