@@ -26,6 +26,7 @@ Answers asks old number (Err refusal) text is_refused new = (new ≡ old) × (te
 abbrev pub AnswersLine : {D : Type 0} → Asks D → D → ℕ → List ℕ → List ℕ → Bool → D → Type 0
 AnswersLine asks old number line text is_refused new = Answers asks old number (client line) text is_refused new
 
--- a conversation over these lines: each with its answer, in order, in this text, of which so many lines are refusals
+-- a conversation over these lines: each with its answer, in order, in this text, of which so many lines are refusals. What is
+-- kept of a line that is too long asks for the same as the line
 abbrev pub Conversation : {D : Type 0} → Asks D → D → List (List ℕ) → List ℕ → ℕ → D → Type 0
 Conversation asks old these text refused new = TakesAll (AnswersLine asks) 1 old these text refused new

@@ -71,7 +71,7 @@ fn ask<D: Desk>(
 {
     let reply = desk.call(alloc, at, command);
     if is_lost(&reply) {
-        return Ok(true);
+        return Err(AllocError);
     }
     put_reply(text, number, &reply)?;
     Ok(reply.is_err())
@@ -80,7 +80,8 @@ fn ask<D: Desk>(
 /// Asks the desk for the command of each line of the reader, once and in order, and writes each line's text right after its
 /// reply; a line that asks for no command is refused. Where memory runs out, the desk's included, the conversation ends. On Ok the
 /// input was read to its end, and each line has its answer. A fault says why the conversation ended early; the clause
-/// `outcome` says which lines were answered by then.
+/// `outcome` says which lines were answered by then. Of a line that is too long only the front is kept, which asks for the same
+/// (`kept_line_asks_the_same`).
 pub fn converse<R: Read, W: Write, D: Desk>(
     alloc: Global,
     reader: &mut Watched<R>,

@@ -1,4 +1,4 @@
-use Rattle.std.proofs.Common.{Ok, Err, inr, ◌≡◌}
+use Rattle.std.proofs.Common.{Ok, inr}
 use Rattle.rbac_words.specs.declared.answer.Answer.TheVariants.{Done}
 use Rattle.rbac_lines.proofs.conversing.tests.ListingDesk.call.Goals as goal
 
