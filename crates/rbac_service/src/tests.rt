@@ -6,7 +6,9 @@ use crate::{
     AuditRefusal, AwaitRefusal, Courier, EnrollRefusal, GroupName, Hint, MeetRefusal, NoGate, Node,
     Pass, PumpEnd, Rows, Service, ServiceRefusal, Ticket, Wake, audit,
 };
-use rbac_words::{Answer, Command, Group, Name, NameSet, Record, Review, Stamp, Vocabulary};
+use rbac_words::{
+    Answer, Command, Denial, Group, Name, NameSet, Record, Review, Stamp, Vocabulary,
+};
 use std::alloc::Global;
 use std::marker::Brand;
 use std::process::Abort;
@@ -24,19 +26,19 @@ impl Courier for Lost {
     }
 }
 
-fn ann(rt: &impl Abort, alloc: Global) -> Name {
-    Name::read(alloc, b"ann").expect(rt, "a name")
+fn name(rt: &impl Abort, alloc: Global, text: &str) -> Name {
+    Name::read(alloc, text.as_bytes()).expect(rt, "a name")
 }
 
 // The command that adds ann.
 fn add_ann(rt: &impl Abort, alloc: Global) -> Command {
-    let user = ann(rt, alloc);
+    let user = name(rt, alloc, "ann");
     Command::AddUser { user }
 }
 
 // The command that asks for the roles of ann.
 fn roles_of_ann(rt: &impl Abort, alloc: Global) -> Command {
-    let user = ann(rt, alloc);
+    let user = name(rt, alloc, "ann");
     Command::Review(Review::AssignedRoles { user })
 }
 
@@ -49,6 +51,15 @@ fn group_of(rt: &impl Abort, members: u32) -> Group
 fn words_of(rt: &impl Abort, alloc: Global) -> Vocabulary {
     let words = Vocabulary::build(Vec::new(alloc), Vec::new(alloc), Vec::new(alloc));
     words.expect(rt, "a vocabulary")
+}
+
+// The command that asks whether a session that is not there may read the ledger.
+fn check(rt: &impl Abort, alloc: Global) -> Command {
+    Command::CheckAccess {
+        session: name(rt, alloc, "s1"),
+        operation: name(rt, alloc, "read"),
+        object: name(rt, alloc, "ledger"),
+    }
 }
 
 fn rows_of(rt: &impl Abort, alloc: Global, group: Group) -> Rows
@@ -130,20 +141,24 @@ fn expect_refusal<G: GroupName, R: Wait + Abort>(
     assert_eq!(rt; refusal, wanted);
 }
 
-// Awaits the answer, and compares it and its place.
+// Awaits the answer, and compares it and its place. All commands are member 1's here, so the clock of each is one more.
 fn expect_receipt<G: GroupName, R: Wait + Abort>(
     rt: &R,
     service: &Service<G, NoGate, Lost>,
     pass: &mut Pass<G>,
     ticket: Ticket,
-    place: usize,
+    place: u32,
     answer: Answer,
 )
     requires { Owns pass.old ticket }
 {
     let found = service.await_answer(rt, pass, ticket);
     let receipt = found.ok().expect(rt, "an answer");
-    assert_eq!(rt; receipt.place, place);
+    assert_eq!(rt; receipt.place, place as usize);
+    assert_eq!(rt;
+        (receipt.stamp.clock, receipt.stamp.member),
+        (u64::from(place) + 1, 1)
+    );
     assert!(rt; receipt.answer.same(&answer));
 }
 
@@ -167,7 +182,7 @@ fn expect_answer<G: GroupName, R: Wait + Abort>(
     service: &Service<G, NoGate, Lost>,
     pass: &mut Pass<G>,
     command: Command,
-    place: usize,
+    place: u32,
     answer: Answer,
 ) {
     let ticket = submitted(rt, alloc, service, pass, command);
@@ -244,7 +259,9 @@ fn talk<G: GroupName, R: Wait + Abort>(
     expect_fronts(rt, one, other, (1, 2));
     expect_meeting(rt, service, one, other, Ok(()));
     expect_fronts(rt, one, other, (2, 2));
-    expect_published(rt, service, 1, 2);
+    let denied = Answer::Denied(Denial::NoSession);
+    expect_answer(rt, alloc, service, one, check(rt, alloc), 2, denied);
+    expect_published(rt, service, 1, 3);
 }
 
 // A member that is alone in its group, and two callers.
@@ -267,7 +284,7 @@ fn run_alone<G: GroupName, R: Wait + Abort>(
     expect_refusal(rt, alloc, &service, &mut one, ServiceRefusal::Stopped);
     expect_no_pass(rt, &service, 1, EnrollRefusal::Stopped);
     let mut nodes = service.take_nodes();
-    expect_audit(rt, alloc, &mut nodes, &[2]);
+    expect_audit(rt, alloc, &mut nodes, &[3]);
     expect_confirmed(rt, &mut nodes, &mut one);
     expect_confirmed(rt, &mut nodes, &mut other);
 }
