@@ -7,7 +7,7 @@ ghost use Rattle.rbac_words.specs.Inheritance.{inherits};
 ghost use Rattle.rbac_words.specs.Authorization.{inherits_in, is_authorized, is_entitled};
 ghost use Rattle.rbac_decide.specs.Tables.{state_of_roles};
 
-use rbac_hierarchy::Hierarchy;
+use rbac_hierarchy::{Hierarchy, RoleOrder};
 use rbac_rolesets::RoleSets;
 use rbac_words::{Name, NameSet};
 use std::alloc::{AllocError, Global};

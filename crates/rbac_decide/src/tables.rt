@@ -8,7 +8,7 @@ ghost use Rattle.rbac_words.specs.Founding.{Vocabulary as VocabularyValue};
 ghost use Rattle.rbac_words.specs.State.{founding_state};
 
 use crate::ending::{OwnedBy, OwnedWithActive, Unentitled, WithActive};
-use rbac_hierarchy::Hierarchy;
+use rbac_hierarchy::{Hierarchy, RoleOrder};
 use rbac_rolesets::RoleSets;
 use rbac_separation::SetTable;
 use rbac_sessions::Sessions;

@@ -5,3 +5,6 @@ pub mod EntryLemmas
 pub mod RangeLemmas
 pub mod RowLemmas
 pub mod WalkLemmas
+pub mod NumberLemmas
+pub mod ExactLemmas
+pub mod GatherLemmas

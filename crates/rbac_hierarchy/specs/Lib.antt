@@ -1,3 +1,5 @@
+pub mod Numbers
 pub mod Order
+pub mod Renewal
 pub mod Rows
 pub mod Walk

@@ -1,14 +1,18 @@
-//! The role hierarchy: the roles, the declared pairs of roles (RH), and for each role the roles that it inherits.
+//! The role hierarchy: the roles, the declared pairs of roles (RH), and what roles inherit.
 #![tactic(auto)]
 
-mod below;
-mod hierarchy;
+mod list_order;
+mod order;
 mod removal;
 mod rows;
 mod seniors;
 mod walk;
 
-pub use hierarchy::Hierarchy;
+pub use list_order::ListOrder;
+pub use order::RoleOrder;
+
+/// The hierarchy that a policy keeps.
+pub type Hierarchy = ListOrder;
 
 #[cfg(test)]
 mod tests;

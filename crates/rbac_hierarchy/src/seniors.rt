@@ -2,21 +2,21 @@
 ghost use Rattle.std.specs.Prelude.{◌≡◌};
 ghost use Rattle.rbac_words.specs.Inheritance.{inherits};
 
-use crate::hierarchy::Hierarchy;
+use crate::order::RoleOrder;
 use rbac_words::Name;
 use sorted_keys::KeyTest;
 
 /// The roles that inherit a role.
 #[derive(Drop)]
-pub struct SeniorsOf<'a> {
-    pub hierarchy: &'a Hierarchy,
+pub struct SeniorsOf<'a, O: RoleOrder> {
+    pub order: &'a O,
     pub role: &'a Name,
 }
 
-impl KeyTest<Name> for SeniorsOf<'_> {
-    ghost passes = { λ seniors senior. inherits seniors.hierarchy.now.content.roles seniors.hierarchy.now.content.declared senior seniors.role.now };
+impl<O: RoleOrder> KeyTest<Name> for SeniorsOf<'_, O> {
+    ghost passes = { λ seniors senior. let h = O.content seniors.order.now in inherits h.roles h.declared senior seniors.role.now };
 
     fn test(&self, senior: &Name) -> bool {
-        self.hierarchy.inherits(senior, self.role)
+        self.order.inherits(senior, self.role)
     }
 }

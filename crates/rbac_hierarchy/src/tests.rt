@@ -1,6 +1,6 @@
 //! Each public call with ample memory. What is expected was written by hand.
-use crate::Hierarchy;
 use crate::seniors::SeniorsOf;
+use crate::{Hierarchy, RoleOrder};
 use rbac_words::{Name, NameSet};
 use std::alloc::{AllocError, Global};
 use std::process::Abort;
@@ -211,7 +211,13 @@ fn juniors_of_several_roles_are_gathered(rt: HostRuntime) -> Result<(), Fail> {
 
 // The roles that inherit a role, by their test.
 fn roles_above(alloc: Global, hierarchy: &Hierarchy, role: &Name) -> Result<NameSet, AllocError> {
-    hierarchy.roles_where(alloc, &SeniorsOf { hierarchy, role })
+    hierarchy.roles_where(
+        alloc,
+        &SeniorsOf {
+            order: hierarchy,
+            role,
+        },
+    )
 }
 
 #[test]

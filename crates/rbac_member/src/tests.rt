@@ -1,3 +1,6 @@
+//! Members and messages end in `drop`, since the proof of a value that goes out of scope writes its drop out in place, a case for each
+//! variant.
+
 use crate::{FoundRefusal, Member, ReceiveRefusal, SubmitRefusal};
 use rbac_words::{Answer, Command, Denial, Group, Message, Name, Stamp, Vocabulary};
 use std::alloc::Global;
@@ -53,6 +56,7 @@ fn expect_receipt(
 ) {
     let answer = member.receive(from, number, &message);
     assert_eq!(rt; answer, wanted);
+    drop(message);
 }
 
 // Receives an acknowledgement, and compares the answer.
@@ -78,6 +82,7 @@ fn expect_record(rt: &impl Abort, member: &Member, place: usize, wanted: Stamp, 
     let record = member.history().get(place).expect(rt, "a record");
     assert_eq!(rt; record.stamp, wanted);
     assert!(rt; record.answer.same(&answer));
+    drop(answer);
 }
 
 #[test]
@@ -89,6 +94,7 @@ fn founds_a_member_with_no_past(rt: HostRuntime) {
     );
     assert!(rt; member.sent().is_empty() && member.history().is_empty());
     member.invariants();
+    drop(member);
 }
 
 #[test]
@@ -111,6 +117,7 @@ fn submits_in_turn(rt: HostRuntime) {
     expect_submit(&rt, alloc, &mut member, 9, Err(SubmitRefusal::SentFull));
     let last = member.sent().last().expect(&rt, "a message");
     assert_eq!(rt; last.stamp(), stamp(2, 1));
+    drop(member);
 }
 
 #[test]
@@ -119,9 +126,11 @@ fn submits_a_copy(rt: HostRuntime) {
     let mut member = first_of(&rt, alloc, 1, 0, 5);
     let command = add_user(&rt, alloc);
     let copied = member.submit_copy(7, 0, &command);
+    drop(command);
     assert_eq!(rt; copied, Ok(stamp(1, 1)));
     expect_delivery(&rt, alloc, &mut member, Some(0));
     expect_record(&rt, &member, 0, stamp(1, 1), Answer::Done);
+    drop(member);
 }
 
 #[test]
@@ -133,6 +142,7 @@ fn names_a_full_clock_first(rt: HostRuntime) {
     expect_submit(&rt, alloc, &mut late, 9, Err(SubmitRefusal::ClockFull));
     let wanted = Err(ReceiveRefusal::ClockFull);
     expect_ack(&rt, &mut late, 1, stamp(1, 2), wanted);
+    drop(late);
 }
 
 #[test]
@@ -144,6 +154,7 @@ fn receives_acknowledgements_that_rise(rt: HostRuntime) {
     expect_ack(&rt, &mut member, 2, stamp(6, 3), falls);
     expect_ack(&rt, &mut member, 2, stamp(7, 2), Ok(None));
     assert_eq!(rt; (member.clock(), member.read(2), member.read(1)), (8, 2, 0));
+    drop(member);
 }
 
 #[test]
@@ -161,6 +172,7 @@ fn receives_the_next_number_of_another_member(rt: HostRuntime) {
         let message = Message::Ack { stamp: stamp(9, 2) };
         expect_receipt(&rt, &mut member, from, 2, message, Err(wanted));
     }
+    drop(member);
 }
 
 #[test]
@@ -177,6 +189,7 @@ fn acknowledges_a_command_and_holds_it(rt: HostRuntime) {
     let again = call(&rt, alloc, stamp(12, 2), 0);
     let next = ReceiveRefusal::BadSerial { next: 1 };
     expect_receipt(&rt, &mut member, 2, 2, again, Err(next));
+    drop(member);
 }
 
 #[test]
@@ -193,4 +206,5 @@ fn delivers_in_stamp_order_when_all_have_passed(rt: HostRuntime) {
     let denied = Answer::Denied(Denial::UserExists);
     expect_record(&rt, &member, 0, stamp(1, 1), Answer::Done);
     expect_record(&rt, &member, 1, stamp(1, 2), denied);
+    drop(member);
 }

@@ -91,6 +91,8 @@ fn expect_answer<G: GroupName>(
     let receipt = found.expect(rt, "an answer");
     assert_eq!(rt; receipt.place, place);
     assert!(rt; receipt.answer.same(&answer));
+    drop(receipt);
+    drop(answer);
 }
 
 // How much both passes know.
@@ -148,6 +150,7 @@ fn write<G: GroupName>(
     expect_none(rt, writer, node, &mut ticket);
     settle(rt, alloc, rows, node);
     expect_answer(rt, writer, node, &mut ticket, 0, Answer::Done);
+    drop(ticket);
 }
 
 // The other one asks for ann's roles, of which there are none.
@@ -164,6 +167,7 @@ fn read<G: GroupName>(
     settle(rt, alloc, rows, node);
     let none = Answer::Names(NameSet::new(alloc));
     expect_answer(rt, reader, node, &mut ticket, 1, none);
+    drop(ticket);
 }
 
 // A pass of member 2, and one of a caller whose number the node did not give.
@@ -185,6 +189,8 @@ fn strangers<G: GroupName>(
     node.stop();
     let stopped = ServiceRefusal::Stopped;
     expect_refusal(rt, writer, node, add_ann(rt, alloc), stopped);
+    drop(other);
+    drop(unknown);
 }
 
 fn is_no_group<G: GroupName>(alloc: Global, nodes: &mut [Node<G>]) -> bool {
@@ -222,6 +228,8 @@ fn two_callers<G: GroupName, R: Abort>(
     expect_confirmed(rt, &mut node, &mut writer, true);
     expect_confirmed(rt, &mut node, &mut reader, true);
     strangers(rt, alloc, rows, &mut node, &mut writer);
+    drop(writer);
+    drop(reader);
     audits(rt, alloc, node);
 }
 
@@ -234,4 +242,5 @@ fn two_callers_of_one_member(rt: HostRuntime) {
     let words = Vocabulary::build(Vec::new(alloc), Vec::new(alloc), Vec::new(alloc));
     let words = words.expect(&rt, "a vocabulary");
     two_callers::<Brand, _>(&rt, alloc, &rows, alone, words);
+    drop(rows);
 }

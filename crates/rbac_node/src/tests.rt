@@ -161,12 +161,15 @@ fn talk<G: GroupName, R: Abort>(rt: &R, alloc: Global, founding: &Founding)
     exchange(rt, alloc, &founding.rows, &mut one, &mut two);
     expect_published(rt, &one, (1, 0));
     expect_published(rt, &two, (1, 1));
+    drop(one);
+    drop(two);
 }
 
 #[test]
 fn two_nodes_deliver_one_command(rt: HostRuntime) {
     let founding = founding_of(&rt, rt.alloc(), group_of(&rt, 2, 4), 4);
     talk::<Brand, _>(&rt, rt.alloc(), &founding);
+    drop(founding);
 }
 
 // A member sends two messages, and its row has one place.
@@ -180,10 +183,12 @@ fn fill<G: GroupName, R: Abort>(rt: &R, alloc: Global, founding: &Founding)
     let full = Err(PublishRefusal::RowFull);
     expect_publish(rt, alloc, &founding.rows, &mut node, full);
     expect_published(rt, &node, (1, 0));
+    drop(node);
 }
 
 #[test]
 fn a_full_row_takes_no_more(rt: HostRuntime) {
     let founding = founding_of(&rt, rt.alloc(), group_of(&rt, 1, 4), 1);
     fill::<Brand, _>(&rt, rt.alloc(), &founding);
+    drop(founding);
 }

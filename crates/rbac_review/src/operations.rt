@@ -7,6 +7,7 @@ ghost use Rattle.rbac_review.specs.Among.{is_granted_to_one as granted_to_one};
 
 use crate::parts::Parts;
 use crate::permissions::is_granted_to_one;
+use rbac_hierarchy::RoleOrder;
 use rbac_rolesets::RoleSets;
 use rbac_words::{Name, NameSet, Vocabulary};
 use sorted_keys::KeyTest;

@@ -8,6 +8,7 @@ ghost use Rattle.rbac_words.specs.Reviews.{active_roles, role_permissions, user_
 ghost use Rattle.rbac_review.specs.Among.{is_granted_to_one};
 
 use crate::parts::Parts;
+use rbac_hierarchy::RoleOrder;
 use rbac_rolesets::RoleSets;
 use rbac_words::{Name, NameSet, PermissionSet, Vocabulary};
 use sorted_keys::KeyTest;

@@ -1,6 +1,6 @@
 //! Each review with ample memory. What is expected was written by hand.
 use crate::Parts;
-use rbac_hierarchy::Hierarchy;
+use rbac_hierarchy::{Hierarchy, RoleOrder};
 use rbac_rolesets::RoleSets;
 use rbac_separation::SetTable;
 use rbac_sessions::Sessions;

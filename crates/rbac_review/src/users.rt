@@ -8,7 +8,7 @@ ghost use Rattle.rbac_words.specs.Reviews.{authorized_users, authorized_roles};
 ghost use Rattle.rbac_review.specs.Among.{is_assigned_one};
 
 use crate::parts::Parts;
-use rbac_hierarchy::Hierarchy;
+use rbac_hierarchy::{Hierarchy, RoleOrder};
 use rbac_rolesets::{RoleSets, RolesOf};
 use rbac_words::{Name, NameSet};
 use sorted_keys::KeyTest;

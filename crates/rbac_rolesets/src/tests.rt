@@ -2,9 +2,8 @@
 use crate::RoleSets;
 use crate::assigned::UsersOf;
 use rbac_words::{Name, NameSet};
-use std::alloc::{AllocError, Global};
+use std::alloc::Global;
 use std::process::Abort;
-use std::test::Fail;
 
 fn name(rt: &impl Abort, alloc: Global, text: &str) -> Name {
     Name::read(alloc, text.as_bytes()).expect(rt, "a name")
@@ -26,6 +25,30 @@ fn grant(
     let (operation, object) = (name(rt, alloc, operation), name(rt, alloc, object));
     let role = name(rt, alloc, role);
     sets.grant(operation, object, role).expect(rt, "memory");
+}
+
+fn deassign(rt: &impl Abort, alloc: Global, sets: &mut RoleSets, user: &str, role: &str) {
+    sets.deassign(&name(rt, alloc, user), &name(rt, alloc, role));
+}
+
+fn revoke(
+    rt: &impl Abort,
+    alloc: Global,
+    sets: &mut RoleSets,
+    operation: &str,
+    object: &str,
+    role: &str,
+) {
+    let (operation, object) = (name(rt, alloc, operation), name(rt, alloc, object));
+    sets.revoke(&operation, &object, &name(rt, alloc, role));
+}
+
+fn remove_user(rt: &impl Abort, alloc: Global, sets: &mut RoleSets, user: &str) {
+    sets.remove_user(&name(rt, alloc, user));
+}
+
+fn remove_role(rt: &impl Abort, alloc: Global, sets: &mut RoleSets, role: &str) {
+    sets.remove_role(&name(rt, alloc, role));
 }
 
 fn fill(rt: &impl Abort, alloc: Global, sets: &mut RoleSets) {
@@ -67,10 +90,22 @@ fn reads(rt: &impl Abort, alloc: Global, sets: &RoleSets, role: &str) -> bool {
     sets.granted(&read, &ledger, &name(rt, alloc, role))
 }
 
+fn assert_called(rt: &impl Abort, name: &Name, text: &str) {
+    assert_eq!(rt; name.as_bytes(), text.as_bytes());
+}
+
 fn assert_bytes(rt: &impl Abort, names: &[Name], texts: &[&str]) {
     assert_eq!(rt; names.len(), texts.len());
     for (name, text) in names.iter().zip(texts) {
-        assert_eq!(rt; name.as_bytes(), text.as_bytes());
+        assert_called(rt, name, text);
+    }
+}
+
+// The second names of pairs.
+fn assert_seconds<T>(rt: &impl Abort, pairs: &[(T, Name)], texts: &[&str]) {
+    assert_eq!(rt; pairs.len(), texts.len());
+    for (pair, text) in pairs.iter().zip(texts) {
+        assert_called(rt, &pair.1, text);
     }
 }
 
@@ -79,17 +114,21 @@ fn assert_names(rt: &impl Abort, names: &NameSet, texts: &[&str]) {
 }
 
 fn assert_users(rt: &impl Abort, alloc: Global, sets: &RoleSets, role: &str, texts: &[&str]) {
-    let users = sets.users_of(alloc, &name(rt, alloc, role));
-    assert_names(rt, &users.expect(rt, "memory"), texts);
+    let found = sets.users_of(alloc, &name(rt, alloc, role));
+    let users = found.expect(rt, "memory");
+    assert_names(rt, &users, texts);
+    drop(users);
 }
 
 fn assert_roles(rt: &impl Abort, alloc: Global, sets: &RoleSets, user: &str, texts: &[&str]) {
-    let roles = sets.roles_of(alloc, &name(rt, alloc, user));
-    assert_names(rt, &roles.expect(rt, "memory"), texts);
+    let found = sets.roles_of(alloc, &name(rt, alloc, user));
+    let roles = found.expect(rt, "memory");
+    assert_names(rt, &roles, texts);
+    drop(roles);
 }
 
 #[test]
-fn users_and_roles_are_there(rt: HostRuntime) -> Result<(), Fail> {
+fn users_and_roles_are_there(rt: HostRuntime) {
     let alloc = rt.alloc();
     let sets = small_office(&rt, alloc);
     assert_eq!(rt; sets.user_count(), 2);
@@ -99,38 +138,37 @@ fn users_and_roles_are_there(rt: HostRuntime) -> Result<(), Fail> {
     assert!(rt; !is_user(&rt, alloc, &sets, "clerk"));
     assert!(rt; is_role(&rt, alloc, &sets, "clerk"));
     assert!(rt; !is_role(&rt, alloc, &sets, "bob"));
-    Ok(())
+    drop(sets);
 }
 
 #[test]
-fn roles_are_assigned(rt: HostRuntime) -> Result<(), Fail> {
+fn roles_are_assigned(rt: HostRuntime) {
     let alloc = rt.alloc();
     let mut sets = small_office(&rt, alloc);
     assert!(rt; is_assigned(&rt, alloc, &sets, "bob", "payer"));
     assert!(rt; !is_assigned(&rt, alloc, &sets, "alice", "payer"));
     assert!(rt; !is_assigned(&rt, alloc, &sets, "payer", "bob"));
-    sets.deassign(&name(&rt, alloc, "bob"), &name(&rt, alloc, "payer"));
+    deassign(&rt, alloc, &mut sets, "bob", "payer");
     assert!(rt; !is_assigned(&rt, alloc, &sets, "bob", "payer"));
     assert!(rt; is_assigned(&rt, alloc, &sets, "bob", "clerk"));
-    Ok(())
+    drop(sets);
 }
 
 #[test]
-fn permissions_are_granted(rt: HostRuntime) -> Result<(), Fail> {
+fn permissions_are_granted(rt: HostRuntime) {
     let alloc = rt.alloc();
     let mut sets = small_office(&rt, alloc);
     assert!(rt; reads(&rt, alloc, &sets, "clerk"));
     assert!(rt; !reads(&rt, alloc, &sets, "payer"));
-    let (read, ledger) = (name(&rt, alloc, "read"), name(&rt, alloc, "ledger"));
-    sets.revoke(&ledger, &read, &name(&rt, alloc, "clerk"));
+    revoke(&rt, alloc, &mut sets, "ledger", "read", "clerk");
     assert!(rt; reads(&rt, alloc, &sets, "clerk"));
-    sets.revoke(&read, &ledger, &name(&rt, alloc, "clerk"));
+    revoke(&rt, alloc, &mut sets, "read", "ledger", "clerk");
     assert!(rt; !reads(&rt, alloc, &sets, "clerk"));
-    Ok(())
+    drop(sets);
 }
 
 #[test]
-fn users_and_roles_are_gathered(rt: HostRuntime) -> Result<(), Fail> {
+fn users_and_roles_are_gathered(rt: HostRuntime) {
     let alloc = rt.alloc();
     let sets = small_office(&rt, alloc);
     assert_users(&rt, alloc, &sets, "clerk", &["alice", "bob"]);
@@ -139,43 +177,44 @@ fn users_and_roles_are_gathered(rt: HostRuntime) -> Result<(), Fail> {
     assert_roles(&rt, alloc, &sets, "bob", &["clerk", "payer"]);
     assert_roles(&rt, alloc, &sets, "alice", &["clerk"]);
     assert_roles(&rt, alloc, &sets, "clerk", &[]);
-    Ok(())
+    drop(sets);
 }
 
 // The users of a role, by their test.
-fn users_with(alloc: Global, sets: &RoleSets, role: &Name) -> Result<NameSet, AllocError> {
-    sets.users_where(alloc, &UsersOf { sets, role })
+fn assert_users_with(rt: &impl Abort, alloc: Global, sets: &RoleSets, role: &str, texts: &[&str]) {
+    let role = name(rt, alloc, role);
+    let found = sets.users_where(alloc, &UsersOf { sets, role: &role });
+    let users = found.expect(rt, "memory");
+    assert_names(rt, &users, texts);
+    drop(users);
 }
 
 #[test]
-fn users_that_pass_are_gathered(rt: HostRuntime) -> Result<(), Fail> {
+fn users_that_pass_are_gathered(rt: HostRuntime) {
     let alloc = rt.alloc();
     let sets = small_office(&rt, alloc);
-    let payers = users_with(alloc, &sets, &name(&rt, alloc, "payer"))?;
-    assert_names(&rt, &payers, &["bob"]);
-    let clerks = users_with(alloc, &sets, &name(&rt, alloc, "clerk"))?;
-    assert_names(&rt, &clerks, &["alice", "bob"]);
-    Ok(())
+    assert_users_with(&rt, alloc, &sets, "payer", &["bob"]);
+    assert_users_with(&rt, alloc, &sets, "clerk", &["alice", "bob"]);
+    drop(sets);
 }
 
 fn assert_assignments(rt: &impl Abort, alloc: Global, sets: &RoleSets, user: &str, roles: &[&str]) {
-    let user = name(rt, alloc, user);
-    let pairs = sets.assignments_of(&user);
-    assert_eq!(rt; pairs.len(), roles.len());
-    for (pair, role) in pairs.iter().zip(roles) {
-        assert_eq!(rt; pair.0.as_bytes(), user.as_bytes());
-        assert_eq!(rt; pair.1.as_bytes(), role.as_bytes());
+    let name = name(rt, alloc, user);
+    let pairs = sets.assignments_of(&name);
+    for (assigned, _) in pairs {
+        assert_called(rt, assigned, user);
     }
+    assert_seconds(rt, pairs, roles);
 }
 
 #[test]
-fn assignments_are_lent(rt: HostRuntime) -> Result<(), Fail> {
+fn assignments_are_lent(rt: HostRuntime) {
     let alloc = rt.alloc();
     let sets = small_office(&rt, alloc);
     assert_assignments(&rt, alloc, &sets, "bob", &["clerk", "payer"]);
     assert_assignments(&rt, alloc, &sets, "alice", &["clerk"]);
     assert_assignments(&rt, alloc, &sets, "clerk", &[]);
-    Ok(())
+    drop(sets);
 }
 
 fn assert_grants(
@@ -187,56 +226,54 @@ fn assert_grants(
     roles: &[&str],
 ) {
     let (operation, object) = (name(rt, alloc, operation), name(rt, alloc, object));
-    let grants = sets.grants_of(&operation, &object);
-    assert_eq!(rt; grants.len(), roles.len());
-    for (grant, role) in grants.iter().zip(roles) {
-        assert_eq!(rt; grant.1.as_bytes(), role.as_bytes());
-    }
+    assert_seconds(rt, sets.grants_of(&operation, &object), roles);
 }
 
 #[test]
-fn grants_are_lent(rt: HostRuntime) -> Result<(), Fail> {
+fn grants_are_lent(rt: HostRuntime) {
     let alloc = rt.alloc();
     let mut sets = small_office(&rt, alloc);
     grant(&rt, alloc, &mut sets, "read", "ledger", "auditor");
     assert_grants(&rt, alloc, &sets, "read", "ledger", &["auditor", "clerk"]);
     assert_grants(&rt, alloc, &sets, "pay", "invoice", &["payer"]);
     assert_grants(&rt, alloc, &sets, "ledger", "read", &[]);
-    Ok(())
+    drop(sets);
 }
 
 #[test]
-fn a_user_is_removed_with_its_roles(rt: HostRuntime) -> Result<(), Fail> {
+fn a_user_is_removed_with_its_roles(rt: HostRuntime) {
     let alloc = rt.alloc();
     let mut sets = small_office(&rt, alloc);
-    sets.remove_user(&name(&rt, alloc, "bob"));
-    sets.remove_user(&name(&rt, alloc, "clerk"));
+    remove_user(&rt, alloc, &mut sets, "bob");
+    remove_user(&rt, alloc, &mut sets, "clerk");
     assert_eq!(rt; sets.user_count(), 1);
     assert_roles(&rt, alloc, &sets, "bob", &[]);
     assert_roles(&rt, alloc, &sets, "alice", &["clerk"]);
-    Ok(())
+    drop(sets);
 }
 
 #[test]
-fn a_role_is_removed_with_its_users_and_permissions(rt: HostRuntime) -> Result<(), Fail> {
+fn a_role_is_removed_with_its_users_and_permissions(rt: HostRuntime) {
     let alloc = rt.alloc();
     let mut sets = small_office(&rt, alloc);
-    sets.remove_role(&name(&rt, alloc, "clerk"));
-    sets.remove_role(&name(&rt, alloc, "bob"));
+    remove_role(&rt, alloc, &mut sets, "clerk");
+    remove_role(&rt, alloc, &mut sets, "bob");
     assert_eq!(rt; sets.role_count(), 1);
     assert!(rt; !reads(&rt, alloc, &sets, "clerk"));
     assert_roles(&rt, alloc, &sets, "bob", &["payer"]);
     assert_users(&rt, alloc, &sets, "clerk", &[]);
-    Ok(())
+    drop(sets);
 }
 
 #[test]
-fn a_copy_is_the_same_until_it_is_changed(rt: HostRuntime) -> Result<(), Fail> {
+fn a_copy_is_the_same_until_it_is_changed(rt: HostRuntime) {
     let alloc = rt.alloc();
     let sets = small_office(&rt, alloc);
-    let mut copy = sets.copy()?;
+    let mut copy = sets.copy().expect(&rt, "memory");
     assert!(rt; copy.same(&sets));
-    copy.add_user(name(&rt, alloc, "carol"))?;
+    let added = copy.add_user(name(&rt, alloc, "carol"));
+    assert!(rt; added.is_ok());
     assert!(rt; !copy.same(&sets));
-    Ok(())
+    drop(copy);
+    drop(sets);
 }

@@ -9,7 +9,6 @@ use crate::{
 use sorted_keys::{KeyTest, Same};
 use std::alloc::Global;
 use std::process::Abort;
-use std::test::Fail;
 
 mod answers;
 mod copies;
@@ -44,33 +43,57 @@ fn set(rt: &impl Abort, alloc: Global, texts: &[&str]) -> NameSet {
     set
 }
 
+fn has(rt: &impl Abort, alloc: Global, set: &NameSet, text: &str) -> bool {
+    set.contains(&name(rt, alloc, text))
+}
+
+fn remove(rt: &impl Abort, alloc: Global, set: &mut NameSet, text: &str) {
+    set.remove(&name(rt, alloc, text));
+}
+
+fn assert_called(rt: &impl Abort, name: &Name, text: &str) {
+    assert_eq!(rt; name.as_bytes(), text.as_bytes());
+}
+
 fn assert_names(rt: &impl Abort, names: &[Name], texts: &[&str]) {
     assert_eq!(rt; names.len(), texts.len());
     for (name, text) in names.iter().zip(texts) {
-        assert_eq!(rt; name.as_bytes(), text.as_bytes());
+        assert_called(rt, name, text);
+    }
+}
+
+fn expect_read(rt: &impl Abort, alloc: Global, good: &[u8]) {
+    let name = Name::read(alloc, good).expect(rt, "a name");
+    assert_eq!(rt; name.as_bytes(), good);
+    let copy = name.copy().expect(rt, "memory");
+    assert!(rt; copy == name);
+}
+
+fn is_bad(alloc: Global, bad: &[u8]) -> bool {
+    matches!(Name::read(alloc, bad), Err(NameRefusal::BadName))
+}
+
+#[test]
+fn names_are_read(rt: HostRuntime) {
+    for good in [b"a".as_slice(), b"Z", b"0", b"AZaz09_-.", &[b'x'; 64]] {
+        expect_read(&rt, rt.alloc(), good);
     }
 }
 
 #[test]
-fn names_are_read(rt: HostRuntime) -> Result<(), Fail> {
-    let alloc = rt.alloc();
-    for good in [b"a".as_slice(), b"Z", b"0", b"AZaz09_-.", &[b'x'; 64]] {
-        let name = Name::read(alloc, good)?;
-        assert_eq!(rt; name.as_bytes(), good);
-        assert!(rt; name.copy()? == name);
-    }
-    for bad in [b"".as_slice(), &[b'x'; 65]] {
-        assert!(rt; matches!(Name::read(alloc, bad), Err(NameRefusal::BadName)));
-    }
+fn names_of_no_or_too_many_bytes_are_refused(rt: HostRuntime) {
+    assert!(rt; is_bad(rt.alloc(), b""));
+    assert!(rt; is_bad(rt.alloc(), &[b'x'; 65]));
+}
+
+#[test]
+fn names_with_other_bytes_are_refused(rt: HostRuntime) {
     for byte in [
         0, b'\t', b'\n', b' ', b',', b'/', b':', b'@', b'[', b'^', b'`', b'{', 127, 128, 255,
     ] {
-        for bad in [[byte, b'a'].as_slice(), &[b'a', byte]] {
-            let refused = Name::read(alloc, bad);
-            assert!(rt; matches!(refused, Err(NameRefusal::BadName)), "byte {byte}");
-        }
+        assert!(rt; is_bad(rt.alloc(), &[byte, b'a']), "byte {byte}");
+        assert!(rt; is_bad(rt.alloc(), &[b'a', byte]), "byte {byte}");
     }
-    Ok(())
 }
 
 #[test]
@@ -81,32 +104,38 @@ fn names_are_ordered_by_bytes(rt: HostRuntime) {
         alloc,
         &["-", ".", "0", "A", "B", "_", "a", "a-", "aa", "b"],
     );
-    for pair in rising.windows(2) {
-        assert_eq!(rt; pair.len(), 2);
-        assert!(rt; pair[0] < pair[1]);
-        assert!(rt; pair[0] != pair[1]);
+    for (first, second) in rising.iter().zip(rising.iter().skip(1)) {
+        assert!(rt; first < second && first != second);
     }
+    drop(rising);
 }
 
 #[test]
-fn a_set_of_names(rt: HostRuntime) -> Result<(), Fail> {
+fn a_set_of_names(rt: HostRuntime) {
     let alloc = rt.alloc();
-    let mut set = NameSet::new(alloc);
-    assert!(rt; set.is_empty());
-    for text in ["clerk", "Boss", "auditor", "clerk"] {
-        set.add(name(&rt, alloc, text))?;
-    }
-    assert_eq!(rt; set.len(), 3);
+    let mut set = set(&rt, alloc, &["clerk", "Boss", "auditor", "clerk"]);
     assert!(rt; !set.is_empty());
-    assert!(rt; set.contains(&name(&rt, alloc, "auditor")));
-    assert!(rt; !set.contains(&name(&rt, alloc, "boss")));
+    assert_eq!(rt; set.len(), 3);
+    assert!(rt; has(&rt, alloc, &set, "auditor"));
+    assert!(rt; !has(&rt, alloc, &set, "boss"));
     assert_names(&rt, set.names(), &["Boss", "auditor", "clerk"]);
-    let copy = set.copy()?;
-    set.remove(&name(&rt, alloc, "auditor"));
-    set.remove(&name(&rt, alloc, "boss"));
+    let copy = set.copy().expect(&rt, "memory");
+    remove(&rt, alloc, &mut set, "auditor");
+    remove(&rt, alloc, &mut set, "boss");
     assert_names(&rt, set.names(), &["Boss", "clerk"]);
     assert_names(&rt, copy.names(), &["Boss", "auditor", "clerk"]);
-    Ok(())
+    drop(copy);
+    drop(set);
+}
+
+fn expect_denial(rt: &impl Abort, denial: Denial, number: u32, word: &str) {
+    assert_eq!(rt; denial.number(), number);
+    assert_eq!(rt; denial.word(), word);
+}
+
+#[test]
+fn a_new_set_has_no_names(rt: HostRuntime) {
+    assert!(rt; NameSet::new(rt.alloc()).is_empty());
 }
 
 #[test]
@@ -141,20 +170,23 @@ fn denials_have_numbers_and_words(rt: HostRuntime) {
         (Denial::NoOperation, 27, "NoOperation"),
         (Denial::NoObject, 28, "NoObject"),
     ] {
-        assert_eq!(rt; denial.number(), number);
-        assert_eq!(rt; denial.word(), word);
+        expect_denial(&rt, denial, number, word);
     }
 }
 
+fn expect_group(rt: &impl Abort, members: u32, clock: u64, sent_limit: u32) {
+    let group = Group::build(members, clock, sent_limit).expect(rt, "a group");
+    assert_eq!(rt; group.members(), members);
+    assert_eq!(rt; group.clock(), clock);
+    assert_eq!(rt; group.sent_limit(), sent_limit);
+}
+
 #[test]
-fn groups_are_within_limits(rt: HostRuntime) -> Result<(), Fail> {
+fn groups_are_within_limits(rt: HostRuntime) {
     let last = 9_007_199_254_740_991;
-    for (members, clock, sent_limit) in [(1, 0, 1), (8, last, 65_536), (3, 17, 100)] {
-        let group = Group::build(members, clock, sent_limit)?;
-        assert_eq!(rt; group.members(), members);
-        assert_eq!(rt; group.clock(), clock);
-        assert_eq!(rt; group.sent_limit(), sent_limit);
-    }
+    expect_group(&rt, 1, 0, 1);
+    expect_group(&rt, 8, last, 65_536);
+    expect_group(&rt, 3, 17, 100);
     for (members, clock, sent_limit, refusal) in [
         (0, 0, 1, GroupRefusal::BadMembers),
         (9, 0, 1, GroupRefusal::BadMembers),
@@ -165,9 +197,8 @@ fn groups_are_within_limits(rt: HostRuntime) -> Result<(), Fail> {
         (8, 0, 65_537, GroupRefusal::BadSentLimit),
     ] {
         let refused = Group::build(members, clock, sent_limit);
-        assert_eq!(rt; refused.err(), Some(refusal));
+        assert!(rt; refused.err() == Some(refusal));
     }
-    Ok(())
 }
 
 const LETTERS: [u8; 64] = *b"0123456789ABCDEFGHIJKLMNOPQRSTUVWXYZ_-abcdefghijklmnopqrstuvwxyz";
@@ -255,41 +286,60 @@ fn refusal_of(
 #[test]
 fn vocabularies_are_refused_in_order(rt: HostRuntime) {
     let alloc = rt.alloc();
-    let repeated = Some(VocabularyRefusal::Repeated);
-    let unknown = Some(VocabularyRefusal::UnknownName);
     let read = ("read", "ledger");
-    assert_eq!(rt;
-        refusal_of(&rt, alloc, &["pay", "read"], &["ledger"], &[read]),
-        None
-    );
-    assert_eq!(rt;
-        refusal_of(&rt, alloc, &["read", "pay", "read"], &["ledger"], &[]),
-        repeated
-    );
-    assert_eq!(rt;
-        refusal_of(&rt, alloc, &["read"], &["ledger", "ledger"], &[]),
-        repeated
-    );
-    assert_eq!(rt;
-        refusal_of(&rt, alloc, &["read"], &["ledger"], &[read, read]),
-        repeated
-    );
-    assert_eq!(rt;
-        refusal_of(&rt, alloc, &["pay"], &["ledger"], &[read]),
-        unknown
-    );
-    assert_eq!(rt;
-        refusal_of(&rt, alloc, &["read"], &["invoice"], &[read]),
-        unknown
-    );
-    assert_eq!(rt;
-        refusal_of(&rt, alloc, &["ledger"], &["read"], &[read]),
-        unknown
-    );
-    assert_eq!(rt;
-        refusal_of(&rt, alloc, &["pay"], &["ledger"], &[read, read]),
-        repeated
-    );
+    for (operations, objects, permissions, refusal) in [
+        (
+            ["pay", "read"].as_slice(),
+            ["ledger"].as_slice(),
+            [read].as_slice(),
+            None,
+        ),
+        (
+            &["read", "pay", "read"],
+            &["ledger"],
+            &[],
+            Some(VocabularyRefusal::Repeated),
+        ),
+        (
+            &["read"],
+            &["ledger", "ledger"],
+            &[],
+            Some(VocabularyRefusal::Repeated),
+        ),
+        (
+            &["read"],
+            &["ledger"],
+            &[read, read],
+            Some(VocabularyRefusal::Repeated),
+        ),
+        (
+            &["pay"],
+            &["ledger"],
+            &[read],
+            Some(VocabularyRefusal::UnknownName),
+        ),
+        (
+            &["read"],
+            &["invoice"],
+            &[read],
+            Some(VocabularyRefusal::UnknownName),
+        ),
+        (
+            &["ledger"],
+            &["read"],
+            &[read],
+            Some(VocabularyRefusal::UnknownName),
+        ),
+        (
+            &["pay"],
+            &["ledger"],
+            &[read, read],
+            Some(VocabularyRefusal::Repeated),
+        ),
+    ] {
+        let answer = refusal_of(&rt, alloc, operations, objects, permissions);
+        assert!(rt; answer == refusal);
+    }
 }
 
 #[test]
@@ -338,6 +388,12 @@ fn a_vocabulary_and_its_copy(rt: HostRuntime) {
     expect_small(&rt, rt.alloc(), &vocabulary);
     let copy = vocabulary.copy().expect(&rt, "memory");
     expect_small(&rt, rt.alloc(), &copy);
+    drop(copy);
+    drop(vocabulary);
+}
+
+fn stamp(clock: u64, member: u32) -> Stamp {
+    Stamp { clock, member }
 }
 
 #[test]
@@ -345,26 +401,34 @@ fn stamps_are_ordered_by_clock_and_member(rt: HostRuntime) {
     let rising = [(1, 2), (1, 3), (2, 1), (2, 2), (10, 1)];
     for (i, (clock, member)) in rising.into_iter().enumerate() {
         for (j, (other_clock, other_member)) in rising.into_iter().enumerate() {
-            let stamp = Stamp { clock, member };
-            let other = Stamp {
-                clock: other_clock,
-                member: other_member,
-            };
-            assert_eq!(rt; stamp.is_before(other), i < j);
+            let other = stamp(other_clock, other_member);
+            assert!(rt; stamp(clock, member).is_before(other) == (i < j));
         }
     }
 }
 
+// Whether a copy of the name is the same.
+fn is_copied(rt: &impl Abort, name: &Name) -> bool {
+    let copy = name.copy().expect(rt, "memory");
+    name.same(&copy)
+}
+
+fn are_same_names(rt: &impl Abort, alloc: Global, first: &str, second: &str) -> bool {
+    name(rt, alloc, first).same(&name(rt, alloc, second))
+}
+
+fn are_same_sets(rt: &impl Abort, alloc: Global, first: &[&str], second: &[&str]) -> bool {
+    set(rt, alloc, first).same(&set(rt, alloc, second))
+}
+
 #[test]
-fn equal_names_are_the_same(rt: HostRuntime) -> Result<(), Fail> {
+fn equal_names_are_the_same(rt: HostRuntime) {
     let alloc = rt.alloc();
-    let clerk = name(&rt, alloc, "clerk");
-    assert!(rt; clerk.same(&clerk.copy()?));
-    assert!(rt; !clerk.same(&name(&rt, alloc, "clerks")));
-    let roles = set(&rt, alloc, &["clerk", "payer"]);
-    assert!(rt; roles.same(&set(&rt, alloc, &["payer", "clerk"])));
-    assert!(rt; !roles.same(&set(&rt, alloc, &["clerk"])));
-    Ok(())
+    assert!(rt; is_copied(&rt, &name(&rt, alloc, "clerk")));
+    assert!(rt; !are_same_names(&rt, alloc, "clerk", "clerks"));
+    let roles = ["clerk", "payer"];
+    assert!(rt; are_same_sets(&rt, alloc, &roles, &["payer", "clerk"]));
+    assert!(rt; !are_same_sets(&rt, alloc, &roles, &["clerk"]));
 }
 
 fn small_vocabulary(rt: &impl Abort, alloc: Global, permissions: &[(&str, &str)]) -> Vocabulary {
@@ -399,23 +463,39 @@ impl KeyTest<(Name, Name)> for On<'_> {
 }
 
 #[test]
-fn parts_of_a_vocabulary_are_copied(rt: HostRuntime) -> Result<(), Fail> {
+fn operations_of_a_vocabulary_are_copied(rt: HostRuntime) {
     let alloc = rt.alloc();
     let vocabulary = small_vocabulary(&rt, alloc, &[("read", "ledger"), ("pay", "invoice")]);
-    let (pay, ledger) = (name(&rt, alloc, "pay"), name(&rt, alloc, "ledger"));
-    let operations = vocabulary.operations_where(alloc, &Only(&pay))?;
+    let pay = name(&rt, alloc, "pay");
+    let copied = vocabulary.operations_where(alloc, &Only(&pay));
+    let operations = copied.expect(&rt, "memory");
     assert_names(&rt, operations.names(), &["pay"]);
-    let permissions = vocabulary.permissions_where(alloc, &On(&ledger))?;
-    assert_eq!(rt; permissions.permissions().len(), 1);
-    assert!(rt; permissions.permissions()[0].1 == ledger);
-    Ok(())
+    drop(operations);
+    drop(vocabulary);
 }
 
 #[test]
-fn equal_vocabularies_are_the_same(rt: HostRuntime) -> Result<(), Fail> {
+fn permissions_of_a_vocabulary_are_copied(rt: HostRuntime) {
+    let alloc = rt.alloc();
+    let vocabulary = small_vocabulary(&rt, alloc, &[("read", "ledger"), ("pay", "invoice")]);
+    let ledger = name(&rt, alloc, "ledger");
+    let copied = vocabulary.permissions_where(alloc, &On(&ledger));
+    let permissions = copied.expect(&rt, "memory");
+    assert_eq!(rt; permissions.permissions().len(), 1);
+    assert!(rt; permissions.permissions()[0].1 == ledger);
+    drop(permissions);
+    drop(vocabulary);
+}
+
+#[test]
+fn equal_vocabularies_are_the_same(rt: HostRuntime) {
     let alloc = rt.alloc();
     let vocabulary = small_vocabulary(&rt, alloc, &[("read", "ledger")]);
-    assert!(rt; vocabulary.same(&vocabulary.copy()?));
-    assert!(rt; !vocabulary.same(&small_vocabulary(&rt, alloc, &[("pay", "ledger")])));
-    Ok(())
+    let copy = vocabulary.copy().expect(&rt, "memory");
+    assert!(rt; vocabulary.same(&copy));
+    drop(copy);
+    let other = small_vocabulary(&rt, alloc, &[("pay", "ledger")]);
+    assert!(rt; !vocabulary.same(&other));
+    drop(other);
+    drop(vocabulary);
 }

@@ -12,6 +12,7 @@ ghost use Rattle.rbac_words.specs.declared.command.Command.TheVariants.{CheckAcc
 
 use crate::authorization::{is_authorized, is_authorized_for_all, some_inherits_some};
 use crate::policy::Policy;
+use rbac_hierarchy::RoleOrder;
 use rbac_sessions::Session;
 use rbac_words::{Answer, Name};
 

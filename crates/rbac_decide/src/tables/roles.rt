@@ -8,6 +8,7 @@ ghost use Rattle.rbac_words.specs.declared.command.Command.TheVariants.{AddRole,
 
 use crate::ending::WithActive;
 use crate::tables::Tables;
+use rbac_hierarchy::RoleOrder;
 use rbac_words::Name;
 use std::alloc::{AllocError, Global};
 

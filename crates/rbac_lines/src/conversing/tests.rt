@@ -59,6 +59,7 @@ fn expect_conversation<R: Read + Drop, W: Write>(
     let answered = converse(alloc, &mut watch(reader), &mut watch(writer), &mut desk);
     assert_eq!(rt; answered, ended);
     assert_eq!(rt; desk.asked.as_slice(), asked);
+    drop(desk);
 }
 
 const INPUT: &[u8] = br#"{"at":2,"command":{"name":"DeleteSession","user":"ann","session":"s1"}}

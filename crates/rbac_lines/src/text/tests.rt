@@ -2,18 +2,17 @@
 
 use crate::text::{put_received, put_refused, put_submitted};
 use rbac_words::{Refusal, Stamp};
-use std::alloc::AllocError;
 
 #[test]
-fn submitted_and_received(rt: HostRuntime) -> Result<(), AllocError> {
+fn submitted_and_received(rt: HostRuntime) {
     let mut text = Vec::new(rt.alloc());
     let stamp = Stamp {
         clock: 9_007_199_254_740_991,
         member: 8,
     };
-    put_submitted(&mut text, 18_446_744_073_709_551_615, stamp)?;
-    put_received(&mut text, 5, Some(stamp))?;
-    put_received(&mut text, 5, None)?;
+    put_submitted(&mut text, 18_446_744_073_709_551_615, stamp).expect(&rt, "memory");
+    put_received(&mut text, 5, Some(stamp)).expect(&rt, "memory");
+    put_received(&mut text, 5, None).expect(&rt, "memory");
     assert_eq!(rt;
         text.as_slice(),
         br#"{"line":18446744073709551615,"stamp":[9007199254740991,8]}
@@ -22,11 +21,11 @@ fn submitted_and_received(rt: HostRuntime) -> Result<(), AllocError> {
 "#
             .as_slice()
     );
-    Ok(())
+    drop(text);
 }
 
 #[test]
-fn refused_events(rt: HostRuntime) -> Result<(), AllocError> {
+fn refused_events(rt: HostRuntime) {
     let mut text = Vec::new(rt.alloc());
     for refusal in [
         Refusal::Gap {
@@ -35,7 +34,7 @@ fn refused_events(rt: HostRuntime) -> Result<(), AllocError> {
         Refusal::StampNotRising,
         Refusal::NoMemory,
     ] {
-        put_refused(&mut text, 5, &refusal)?;
+        put_refused(&mut text, 5, &refusal).expect(&rt, "memory");
     }
     assert_eq!(rt;
         text.as_slice(),
@@ -45,5 +44,5 @@ fn refused_events(rt: HostRuntime) -> Result<(), AllocError> {
 "#
             .as_slice()
     );
-    Ok(())
+    drop(text);
 }

@@ -5,7 +5,6 @@ use crate::{Answer, Denial, Name, NameSet, PermissionSet};
 use sorted_keys::{Same, SortedSet};
 use std::alloc::Global;
 use std::process::Abort;
-use std::test::Fail;
 
 fn permissions(rt: &impl Abort, alloc: Global, texts: &[(&str, &str)]) -> PermissionSet {
     let sorted = SortedSet::from_vec(pairs(rt, alloc, texts));
@@ -72,19 +71,22 @@ fn permissions_stand_by_operation_and_then_by_object(rt: HostRuntime) {
 }
 
 #[test]
-fn a_set_of_permissions_is_copied(rt: HostRuntime) -> Result<(), Fail> {
+fn a_set_of_permissions_is_copied(rt: HostRuntime) {
     let sorted = permissions(&rt, rt.alloc(), &[("read", "ledger"), ("pay", "ledger")]);
-    assert!(rt; sorted.copy()?.same(&sorted));
-    Ok(())
+    let copy = sorted.copy().expect(&rt, "memory");
+    assert!(rt; copy.same(&sorted));
+    drop(copy);
+    drop(sorted);
 }
 
 #[test]
-fn copies_of_names_are_added(rt: HostRuntime) -> Result<(), Fail> {
+fn copies_of_names_are_added(rt: HostRuntime) {
     let alloc = rt.alloc();
     let mut names = NameSet::of(SortedSet::new(alloc));
     for text in ["payer", "boss", "payer"] {
-        names.add_copy(&name(&rt, alloc, text))?;
+        let added = names.add_copy(&name(&rt, alloc, text));
+        added.expect(&rt, "memory");
     }
     assert_names(&rt, names.names(), &["boss", "payer"]);
-    Ok(())
+    drop(names);
 }

@@ -1,4 +1,5 @@
-//! Copies of commands, reviews, records and messages: one of each.
+//! Copies of commands, reviews, records and messages: one of each. They end in `drop`, since the proof of a value that goes out of scope
+//! writes its drop out in place, a case for each variant.
 
 use super::name;
 use crate::{Answer, Command, Denial, Message, Name, Record, Review, Stamp};
@@ -37,6 +38,8 @@ fn is_grant(command: &Command) -> bool {
 fn expect_grant_copied(rt: &impl Abort, command: Command) {
     let copy = command.copy().expect(rt, "memory");
     assert!(rt; is_grant(&copy));
+    drop(copy);
+    drop(command);
 }
 
 #[test]
@@ -54,6 +57,8 @@ fn is_review_of_clerks(review: &Review) -> bool {
 fn expect_review_copied(rt: &impl Abort, review: Review) {
     let copy = review.copy().expect(rt, "memory");
     assert!(rt; is_review_of_clerks(&copy));
+    drop(copy);
+    drop(review);
 }
 
 #[test]
@@ -67,6 +72,8 @@ fn expect_record_copied(rt: &impl Abort, record: Record) {
     assert_eq!(rt; (copy.stamp, copy.caller, copy.serial), (STAMP, 3, 4));
     assert!(rt; copy.answer.same(&Answer::Denied(Denial::NoRole)));
     assert!(rt; is_grant(&copy.command));
+    drop(copy);
+    drop(record);
 }
 
 #[test]
@@ -98,6 +105,8 @@ fn expect_message_copied(rt: &impl Abort, message: Message) {
     assert_eq!(rt; message.stamp(), STAMP);
     let copy = message.copy().expect(rt, "memory");
     assert!(rt; is_call(&copy));
+    drop(copy);
+    drop(message);
 }
 
 #[test]

@@ -7,6 +7,7 @@ ghost use Rattle.rbac_decide.specs.Denying.{verdict, TellsDenial};
 use crate::policy::Policy;
 use crate::policy::denial::deny_if;
 use crate::policy::hindrance::Hindrance;
+use rbac_hierarchy::RoleOrder;
 use rbac_words::limits::MOST_ROLES;
 use rbac_words::{Denial, Name};
 use std::alloc::Global;

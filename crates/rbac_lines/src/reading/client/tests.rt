@@ -6,9 +6,9 @@ use rbac_words::Command;
 use std::alloc::Global;
 use std::process::Abort;
 
-/// Whether member 4 is asked to add ann. The command is dropped in this one place: a drop of it is a case for each command.
-fn adds_ann(asked: (u32, Command)) -> bool {
-    match &asked {
+/// Whether member 4 is asked to add ann.
+fn adds_ann(asked: &(u32, Command)) -> bool {
+    match asked {
         (4, Command::AddUser { user }) => user.as_bytes() == b"ann".as_slice(),
         _ => false,
     }
@@ -20,7 +20,8 @@ fn a_command_of_a_member(rt: HostRuntime) {
     let Ok(asked) = read_client(rt.alloc(), line) else {
         panic!(rt);
     };
-    assert!(rt; adds_ann(asked));
+    assert!(rt; adds_ann(&asked));
+    drop(asked);
 }
 
 /// The line is refused so.

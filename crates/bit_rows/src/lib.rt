@@ -1,0 +1,11 @@
+//! A relation on numbers, as a row of bits for each number.
+#![tactic(auto)]
+
+mod relation;
+mod row;
+mod rows;
+
+pub use relation::Relation;
+
+#[cfg(test)]
+mod tests;

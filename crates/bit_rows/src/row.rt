@@ -1,0 +1,147 @@
+//! A row of bits.
+ghost use Rattle.std.specs.Prelude.{◌≡◌, ◌<◌, ◌≤◌, ◌+◌, ◌*◌, ◌||◌, ℕ, [], true, false, nat_eq, length, IfOk, OnOk, OnErr, if◌then◌else◌};
+ghost use Rattle.bit_rows.specs.Bits.{has_bit};
+ghost use Rattle.bit_rows.specs.Room.{unset};
+
+use std::alloc::{AllocError, Global};
+use std::marker::Model;
+
+/// A row of bits: as many as its words have. A bit past its last word isn't set.
+#[derive(Drop)]
+pub struct BitRow {
+    words: Vec<u64>,
+}
+
+impl Model for BitRow {
+    ghost use Rattle.std.specs.Prelude.{List, ℕ};
+
+    ghost Value = { List ℕ };
+
+    ghost view = { λ row. row.words.items };
+}
+
+impl BitRow {
+    /// The row without words, which takes no memory.
+    pub fn new(alloc: Global) -> BitRow
+        ensures { result ≡ [] }
+    {
+        BitRow {
+            words: Vec::new(alloc),
+        }
+    }
+
+    /// The row with one bit set, and no words past it.
+    pub fn lone(alloc: Global, bit: usize) -> Result<BitRow, AllocError>
+        ensures { IfOk result (λ row. (bit < 64 * length row) × ((j : ℕ) → has_bit row j ≡ nat_eq j bit)) }
+    {
+        let mut row = BitRow::new(alloc);
+        for _ in 0..bit / 64 + 1 {
+            row.widen()?;
+        }
+        row.leave(bit);
+        Ok(row)
+    }
+
+    /// Whether the bit is set.
+    pub fn has(&self, bit: usize) -> bool
+        ensures { result ≡ has_bit self.now bit }
+    {
+        bit / 64 < self.words.len() && (self.words[bit / 64] >> (bit % 64)) & 1 == 1
+    }
+
+    // Sets a bit.
+    fn set(&mut self, bit: usize)
+        requires { bit < 64 * length self.old }
+        ensures length { length self.new ≡ length self.old }
+        ensures bits { (j : ℕ) → has_bit self.new j ≡ (if nat_eq j bit then true else has_bit self.old j) }
+    {
+        let word = self.words[bit / 64];
+        self.words[bit / 64] = word | (1 << (bit % 64));
+    }
+
+    // Clears a bit.
+    fn clear(&mut self, bit: usize)
+        requires { bit < 64 * length self.old }
+        ensures length { length self.new ≡ length self.old }
+        ensures bits { (j : ℕ) → has_bit self.new j ≡ (if nat_eq j bit then false else has_bit self.old j) }
+    {
+        let word = self.words[bit / 64];
+        self.words[bit / 64] = word & !(1 << (bit % 64));
+    }
+
+    /// Sets or clears a bit.
+    pub fn put(&mut self, bit: usize, value: bool)
+        requires { bit < 64 * length self.old }
+        ensures length { length self.new ≡ length self.old }
+        ensures bits { (j : ℕ) → has_bit self.new j ≡ (if nat_eq j bit then value else has_bit self.old j) }
+    {
+        if value {
+            self.set(bit);
+        } else {
+            self.clear(bit);
+        }
+    }
+
+    /// Clears all bits but one, which it sets.
+    pub fn leave(&mut self, bit: usize)
+        requires { bit < 64 * length self.old }
+        ensures length { length self.new ≡ length self.old }
+        ensures bits { (j : ℕ) → has_bit self.new j ≡ nat_eq j bit }
+    {
+        for k in 0..self.words.len() {
+            self.words[k] = 0;
+        }
+        self.set(bit);
+    }
+
+    /// Clears a bit, and writes what it was at another place.
+    pub fn move_bit(&mut self, from: usize, to: usize)
+        requires from { from < 64 * length self.old }
+        requires to { to < 64 * length self.old }
+        ensures length { length self.new ≡ length self.old }
+        ensures bits { (j : ℕ) → has_bit self.new j ≡ (if nat_eq j from then false else if nat_eq j to then has_bit self.old from else has_bit self.old j) }
+    {
+        let value = self.has(from);
+        self.put(to, value);
+        self.clear(from);
+    }
+
+    /// Makes room for 64 more bits.
+    pub fn widen(&mut self) -> Result<(), AllocError>
+        ensures ok { OnOk result (length self.new ≡ length self.old + 1) }
+        ensures err { OnErr result (self.new ≡ self.old) }
+        ensures bits { (j : ℕ) → has_bit self.new j ≡ has_bit self.old j }
+    {
+        Ok(self.words.push(0)?)
+    }
+
+    /// Sets the bits that are set in another row, as far as this one has room. Whether one of them was not.
+    pub fn join(&mut self, other: &BitRow) -> bool
+        ensures length { length self.new ≡ length self.old }
+        ensures bits { (j : ℕ) → j < 64 * length self.old → has_bit self.new j ≡ (has_bit self.old j || has_bit other.now j) }
+        ensures same { result ≡ false → self.new ≡ self.old }
+        ensures fewer { result ≡ true → unset self.new < unset self.old }
+        ensures not_more { unset self.new ≤ unset self.old }
+    {
+        let mut grown = false;
+        let words = self.words.len().min(other.words.len());
+        for k in 0..words {
+            let joined = self.words[k] | other.words[k];
+            if joined != self.words[k] {
+                self.words[k] = joined;
+                grown = true;
+            }
+        }
+        grown
+    }
+}
+
+impl Clone for BitRow {
+    ghost is_clone = { λ row clone. clone ≡ row };
+
+    fn clone(&self) -> Result<BitRow, AllocError> {
+        Ok(BitRow {
+            words: self.words.clone()?,
+        })
+    }
+}

@@ -1,0 +1,23 @@
+use Rattle.std.proofs.Common.{◌||◌, ◌∙◌, ap}
+use Rattle.std.specs.List.{list_any}
+use Rattle.sorted_keys.specs.Keys.{has}
+use Rattle.rbac_words.specs.Name.{Name, name_cmp}
+use Rattle.rbac_words.specs.Inheritance.{inherits}
+use Rattle.rbac_hierarchy.proofs.LoopLemmas.{or_nothing, any_one_more, taken_whole}
+use Rattle.rbac_hierarchy.proofs.order.RoleOrder.with_juniors_of_assigned.Goals as goal
+
+pub loop-pair-init : goal.loop-pair-init
+loop-pair-init g c = λ r. or_nothing (has name_cmp r c.args.names)
+
+pub loop-pair-preserved : goal.loop-pair-preserved
+loop-pair-preserved g c = λ r.
+    let h = g.Self.RoleOrder.content c.args.self.now in
+    let below = λ (pair : Name × Name). inherits h.roles h.declared pair.1 r in
+    c.in_ok-more.ensures r
+    ∙ ap (λ t. t || inherits h.roles h.declared c.pair-item.result.1 r) (c.loop-pair.invariant r)
+    ∙ any_one_more (has name_cmp r c.args.names) below c.args.assignments.now c.loop-pair.pair-index c.pair-item.result c.loop-pair-test.true c.pair-item.is
+
+pub returns : goal.returns
+returns g c = λ r.
+    let h = g.Self.RoleOrder.content c.args.self.now in
+    c.loop-pair.invariant r ∙ ap (λ t. has name_cmp r c.args.names || list_any (λ (pair : Name × Name). inherits h.roles h.declared pair.1 r) t) (taken_whole c.args.assignments.now c.loop-pair.pair-index c.loop-pair-test.false)
