@@ -23,7 +23,7 @@ use Rattle.rbac_hierarchy.proofs.Kept.{any-append}
 use Rattle.rbac_hierarchy.proofs.NumberLemmas.{has_equal, has_role, is_role, number_in}
 use Rattle.rbac_hierarchy.proofs.RangeLemmas.{ranges_wider}
 
-fails : (b : Bool) → (b ≡ true → ⊥) → b ≡ false
+pub fails : (b : Bool) → (b ≡ true → ⊥) → b ≡ false
 fails true h = absurd (h refl)
 fails false h = refl
 

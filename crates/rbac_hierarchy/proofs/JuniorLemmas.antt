@@ -1,5 +1,5 @@
 -- Juniors over pairs that range over the roles.
-use Rattle.std.proofs.Common.{◌≡◌, Bool, true, false, ◌↔◌, List, [], ◌∷◌, IsTrue, sym, ◌∙◌, subst, ⊎_elim}
+use Rattle.std.proofs.Common.{◌≡◌, Bool, true, false, ◌&&◌, ◌↔◌, List, [], ◌∷◌, IsTrue, sym, ◌∙◌, subst, ⊎_elim}
 use Rattle.std.specs.List.Sorted.{IsStrictlySortedBy}
 use Rattle.std.specs.Ordering.{eq_by_cmp}
 use Rattle.std.proofs.lemmas.Bool.{and_parts, and_from, or_cases, or_left, true≢false, false_from_ne_true}
@@ -66,3 +66,7 @@ module _ (roles : List Name) (declared : List (Name × Name)) (ranges : RangesOv
       juniors_are (with_key name_cmp role roles) declared role (role ∷ []) (sorted_with_key names_total role roles sorted) (sorted_with_key names_total role [] (sorted_none name_cmp))
       (λ q m. ⊎_elim (λ e. ([], (is_role, sym (one_key names_exact q role e)))) (λ none. absurd (true≢false (sym none))) (or_cases _ _ m))
       (λ q i. or_left _ _ (subst (λ x. eq_by_cmp name_cmp q x ≡ true) (sym (alone q i.0 i.1)) (ties_itself names_total q)))
+
+-- what is inherited is a role
+pub inherited_roles : (roles : List Name) (declared : List (Name × Name)) (r q : Name) → (inherits roles declared r q && has name_cmp q roles) ≡ inherits roles declared r q
+inherited_roles roles declared r q = same_bits _ _ (λ both. (and_parts _ _ both).0) (λ e. and_from _ _ e (between_roles roles declared r q e).1)

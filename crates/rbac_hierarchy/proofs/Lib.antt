@@ -8,3 +8,5 @@ pub mod WalkLemmas
 pub mod NumberLemmas
 pub mod ExactLemmas
 pub mod GatherLemmas
+pub mod GapLemmas
+pub mod PairLemmas

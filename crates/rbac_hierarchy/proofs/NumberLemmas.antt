@@ -1,5 +1,5 @@
 -- Numbers and names.
-use Rattle.std.proofs.Common.{rules, ℕ, zero, suc, ◌≡◌, ◌<◌, Bool, true, false, ◌==◌, ◌||◌, List, [], ◌∷◌, Option, None, Some, IfSome, IfNone, is_some, length, position, refl, sym, ◌∙◌, subst, ⊎_elim, arith}
+use Rattle.std.proofs.Common.{rules, ℕ, zero, suc, ◌≡◌, ◌<◌, Bool, true, false, ◌==◌, ◌||◌, List, [], ◌∷◌, Option, None, Some, IfSome, IfNone, is_some, length, get_or, position, refl, sym, ap, ◌∙◌, subst, ⊎_elim, arith}
 use Rattle.std.specs.Cmp.Lexicographic.{pointwise}
 use Rattle.std.specs.Cmp.Rules.{comparing}
 use Rattle.std.specs.List.{list_any}
@@ -7,9 +7,10 @@ use Rattle.std.specs.Ordering.{eq_by_cmp}
 use Rattle.std.proofs.lemmas.Bool.{or_left, or_right, or_cases, both_ways, false≢true}
 use Rattle.std.proofs.lemmas.List.Quantifiers.{position-Some}
 use Rattle.sorted_keys.specs.Keys.{has}
-use Rattle.sorted_keys.proofs.Gathered.{has-set_of}
+use Rattle.sorted_keys.proofs.Gathered.{has-set_of, sorted_set_of}
+use Rattle.sorted_keys.proofs.Members.{same_keys}
 use Rattle.rbac_words.specs.Name.{Name, name_cmp}
-use Rattle.rbac_words.proofs.NameLemmas.{names_total, names_exact, one_key, ties_itself}
+use Rattle.rbac_words.proofs.NameLemmas.{names_total, names_exact, one_key, same_bits, ties_itself}
 use Rattle.rbac_hierarchy.specs.Numbers.{role_at, roles_of}
 
 -- `==` of names is their order's
@@ -65,3 +66,18 @@ role_missing names role (Some i) none absent = absurd (both_ways _ none refl)
 pub role_told : (names : List Name) (role : Name) (found : Option ℕ) → IfSome found (λ i. (i < length names) × (role_at names i ≡ role)) → IfNone found (has name_cmp role names ≡ false) → is_some found ≡ has name_cmp role names
 role_told names role None numbered absent = sym absent
 role_told names role (Some i) numbered absent = sym (subst (λ r. has name_cmp r names ≡ true) numbered.1 (is_name names i numbered.0))
+
+-- names that are all among one another are the same roles
+pub roles_same : (xs ys : List Name) → ((q : Name) → list_any (pointwise ◌==◌ q) xs ≡ true → list_any (pointwise ◌==◌ q) ys ≡ true) → ((q : Name) → list_any (pointwise ◌==◌ q) ys ≡ true → list_any (pointwise ◌==◌ q) xs ≡ true)
+    → roles_of xs ≡ roles_of ys
+roles_same xs ys there back = same_keys names_exact names_total _ _ (sorted_set_of names_total xs) (sorted_set_of names_total ys)
+    (λ q. has_role xs q ∙ same_bits _ _ (λ m. sym (has_equal q ys) ∙ there q (has_equal q xs ∙ m)) (λ m. sym (has_equal q xs) ∙ back q (has_equal q ys ∙ m)) ∙ sym (has_role ys q))
+
+pub roles_among : (xs ys : List Name) → roles_of xs ≡ roles_of ys → (q : Name) → list_any (pointwise ◌==◌ q) xs ≡ true → list_any (pointwise ◌==◌ q) ys ≡ true
+roles_among xs ys e q m = has_equal q ys ∙ sym (has_role ys q) ∙ sym (ap (has name_cmp q) e) ∙ has_role xs q ∙ sym (has_equal q xs) ∙ m
+
+-- what a number below the length stands for does not hang on a default
+pub any_role_at : (names : List Name) (i : ℕ) (d : Name) → i < length names → get_or names i d ≡ role_at names i
+any_role_at [] i d lt = absurd (omega arith)
+any_role_at (x ∷ xs) zero d lt = refl
+any_role_at (x ∷ xs) (suc i) d lt = any_role_at xs i d (omega arith)

@@ -1,6 +1,7 @@
 //! The role hierarchy: the roles, the declared pairs of roles (RH), and what roles inherit.
 #![tactic(auto)]
 
+mod bit_order;
 mod list_order;
 mod order;
 mod removal;
@@ -8,11 +9,12 @@ mod rows;
 mod seniors;
 mod walk;
 
+pub use bit_order::BitOrder;
 pub use list_order::ListOrder;
 pub use order::RoleOrder;
 
 /// The hierarchy that a policy keeps.
-pub type Hierarchy = ListOrder;
+pub type Hierarchy = BitOrder;
 
 #[cfg(test)]
 mod tests;

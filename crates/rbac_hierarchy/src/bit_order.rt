@@ -1,0 +1,179 @@
+//! A hierarchy as a row of bits for each role.
+ghost use Rattle.std.specs.Prelude.{◌≡◌};
+
+mod numbers;
+mod renewal;
+
+use crate::order::RoleOrder;
+use crate::removal::{OtherPair, OtherPairs};
+use bit_rows::Relation;
+use indexmap::IndexSet;
+use numbers::{ByName, JuniorsOf, number, number_of, same_roles, with_roles_where};
+use rbac_words::{Name, NameSet};
+use renewal::{pairs_above, renew};
+use sorted_keys::{KeyTest, PairProbe, SortedSet};
+use std::alloc::{AllocError, Global};
+use std::marker::Model;
+
+/// The roles and the declared pairs of roles (RH).
+///
+/// Roles are numbered, and for each the bits of its juniors are kept, its own among them. So a question is two look-ups
+/// and a bit. A declared pair joins one row into others; a pair that is taken back makes some rows anew.
+#[derive(Drop)]
+pub struct BitOrder {
+    declared: SortedSet<(Name, Name)>,
+    numbers: IndexSet<Name>,
+    inherited: Relation,
+}
+
+impl Model for BitOrder {
+    ghost use Rattle.rbac_hierarchy.specs.Order.{Hierarchy as HierarchyValue};
+    ghost use Rattle.rbac_hierarchy.specs.Numbers.{IsExact, roles_of};
+
+    ghost Value = { HierarchyValue };
+
+    ghost view = { λ h. record { content = record { roles = roles_of h.numbers.keys; declared = h.declared.content } } };
+
+    ghost invariant = { λ h. IsExact h.numbers.keys h.declared.content h.inherited };
+}
+
+impl RoleOrder for BitOrder {
+    ghost content = { λ h. h.content };
+
+    fn empty(alloc: Global) -> BitOrder {
+        BitOrder {
+            declared: SortedSet::new(alloc),
+            numbers: IndexSet::new(alloc),
+            inherited: Relation::new(alloc),
+        }
+    }
+
+    fn inherits(&self, senior: &Name, junior: &Name) -> bool {
+        let Some(above) = number_of(&self.numbers, senior) else {
+            return false;
+        };
+        let Some(below) = number_of(&self.numbers, junior) else {
+            return false;
+        };
+        self.inherited.has(above, below)
+    }
+
+    fn declared(&self, ascendant: &Name, descendant: &Name) -> bool {
+        self.declared.contains(&PairProbe {
+            first: ascendant,
+            second: descendant,
+        })
+    }
+
+    fn add_role(&mut self, alloc: Global, role: &Name) -> Result<(), AllocError> {
+        if number_of(&self.numbers, role).is_some() {
+            return Ok(());
+        }
+        let role = role.copy()?;
+        self.numbers.reserve(1)?;
+        self.inherited.invariants();
+        self.inherited.add(alloc)?;
+        self.numbers.insert_full(role).unwrap();
+        Ok(())
+    }
+
+    fn remove_role(&mut self, alloc: Global, role: &Name) -> Result<(), AllocError> {
+        let Some(gap) = number_of(&self.numbers, role) else {
+            return Ok(());
+        };
+        let others = OtherPairs { role };
+        let pairs = pairs_above(
+            alloc,
+            &self.numbers,
+            &self.declared,
+            &self.inherited,
+            gap,
+            &others,
+        )?;
+        self.declared.retain(&others);
+        renew(alloc, &mut self.inherited, gap, &pairs);
+        self.inherited.remove(gap);
+        self.numbers.swap_remove_index(gap);
+        Ok(())
+    }
+
+    fn declare(
+        &mut self,
+        alloc: Global,
+        ascendant: &Name,
+        descendant: &Name,
+    ) -> Result<(), AllocError> {
+        let above = number(&self.numbers, ascendant);
+        let below = number(&self.numbers, descendant);
+        let pair = (ascendant.copy()?, descendant.copy()?);
+        self.declared.insert(pair)?;
+        self.inherited.join_above(alloc, above, below);
+        Ok(())
+    }
+
+    fn retract(
+        &mut self,
+        alloc: Global,
+        ascendant: &Name,
+        descendant: &Name,
+    ) -> Result<(), AllocError> {
+        let Some(above) = number_of(&self.numbers, ascendant) else {
+            return Ok(());
+        };
+        let pairs = pairs_above(
+            alloc,
+            &self.numbers,
+            &self.declared,
+            &self.inherited,
+            above,
+            &OtherPair {
+                ascendant,
+                descendant,
+            },
+        )?;
+        self.declared.remove(&PairProbe {
+            first: ascendant,
+            second: descendant,
+        });
+        renew(alloc, &mut self.inherited, above, &pairs);
+        Ok(())
+    }
+
+    fn with_juniors(&self, names: NameSet, role: &Name) -> Result<NameSet, AllocError> {
+        let Some(above) = number_of(&self.numbers, role) else {
+            return Ok(names);
+        };
+        let juniors = JuniorsOf {
+            inherited: &self.inherited,
+            above,
+        };
+        with_roles_where(names, self.numbers.as_slice(), &juniors)
+    }
+
+    fn roles_where<T: KeyTest<Name>>(
+        &self,
+        alloc: Global,
+        test: &T,
+    ) -> Result<NameSet, AllocError> {
+        let none = NameSet::new(alloc);
+        let roles = with_roles_where(none, self.numbers.as_slice(), &ByName { test })?;
+        let _in_order = roles.names();
+        Ok(roles)
+    }
+
+    fn invariants(&self) {
+        let _numbers = &self.numbers;
+    }
+
+    fn copy(&self) -> Result<BitOrder, AllocError> {
+        Ok(BitOrder {
+            declared: self.declared.copy()?,
+            numbers: self.numbers.clone()?,
+            inherited: self.inherited.copy()?,
+        })
+    }
+
+    fn same(&self, other: &BitOrder) -> bool {
+        self.declared.same(&other.declared) && same_roles(&self.numbers, &other.numbers)
+    }
+}
