@@ -10,3 +10,4 @@ pub mod ExactLemmas
 pub mod GatherLemmas
 pub mod GapLemmas
 pub mod PairLemmas
+pub mod ChangeLemmas

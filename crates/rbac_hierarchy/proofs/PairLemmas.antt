@@ -56,15 +56,17 @@ module _ (names : List Name) (ascendant : ℕ) (declared : List (Name × Name)) 
     new = λ k low high. ⊎_elim
         (λ in_old.
         let was = so_far.new k low in_old in
-        let same = at_old k in_old in
-        (ap (λ x. x.0) same ∙ was.0,
-        subst (λ (x : ℕ × ℕ). x.1 < length names) (sym same) was.1,
-        (was.2.0, with_one _ ∙ or_left _ _ (subst (λ (x : ℕ × ℕ). has pair_cmp (was.2.0, role_at names x.1) declared ≡ true) (sym same) was.2.1))))
+        let same = at_old k in_old in (
+          ap (λ x. x.0) same ∙ was.0,
+          subst (λ (x : ℕ × ℕ). x.1 < length names) (sym same) was.1,
+          (was.2.0, with_one _ ∙ or_left _ _ (subst (λ (x : ℕ × ℕ). has pair_cmp (was.2.0, role_at names x.1) declared ≡ true) (sym same) was.2.1)),
+        ))
         (λ past.
-        let same : get_or more_pairs k (0, 0) ≡ (ascendant, n) = ap (λ m. get_or more_pairs m (0, 0)) (omega (arith, past, high, size)) ∙ at_new in
-        (ap (λ x. x.0) same,
-        subst (λ (x : ℕ × ℕ). x.1 < length names) (sym same) in_n,
-        (p.0, with_one _ ∙ or_right _ _ (or_left _ _ (subst (λ (r : Name). eq_by_cmp pair_cmp (p.0, r) p ≡ true) (sym (ap (λ (x : ℕ × ℕ). role_at names x.1) same ∙ is_n)) (ties_itself pairs_total p))))))
+        let same : get_or more_pairs k (0, 0) ≡ (ascendant, n) = ap (λ m. get_or more_pairs m (0, 0)) (omega (arith, past, high, size)) ∙ at_new in (
+          ap (λ x. x.0) same,
+          subst (λ (x : ℕ × ℕ). x.1 < length names) (sym same) in_n,
+          (p.0, with_one _ ∙ or_right _ _ (or_left _ _ (subst (λ (r : Name). eq_by_cmp pair_cmp (p.0, r) p ≡ true) (sym (ap (λ (x : ℕ × ℕ). role_at names x.1) same ∙ is_n)) (ties_itself pairs_total p)))),
+        ))
         (cases_lt k (length pairs));
     all = λ a d m. ⊎_elim
         (λ there.

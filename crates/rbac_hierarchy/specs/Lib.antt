@@ -3,3 +3,4 @@ pub mod Order
 pub mod Renewal
 pub mod Rows
 pub mod Walk
+pub mod Changes

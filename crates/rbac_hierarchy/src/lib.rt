@@ -2,6 +2,8 @@
 #![tactic(auto)]
 
 mod bit_order;
+mod change;
+pub mod laws;
 mod list_order;
 mod order;
 mod removal;
@@ -10,6 +12,7 @@ mod seniors;
 mod walk;
 
 pub use bit_order::BitOrder;
+pub use change::Change;
 pub use list_order::ListOrder;
 pub use order::RoleOrder;
 

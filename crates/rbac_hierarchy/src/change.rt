@@ -1,0 +1,11 @@
+//! Changes of a role hierarchy.
+use rbac_words::Name;
+
+/// One change of a role hierarchy, with its names.
+#[derive(Drop)]
+pub enum Change {
+    AddRole { role: Name },
+    RemoveRole { role: Name },
+    Declare { ascendant: Name, descendant: Name },
+    Retract { ascendant: Name, descendant: Name },
+}
