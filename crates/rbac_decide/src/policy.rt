@@ -102,8 +102,8 @@ impl Policy {
         ensures listed { IfOk result (λ granted. granted ≡ has pair_cmp (operation.now, object.now) (session_permissions self.now session.now)) }
     {
         self.invariants();
-        self.may_check_access(session, operation, object)?;
-        Ok(self.session_holds(session, operation, object))
+        let session = self.checked_session(session, operation, object)?;
+        Ok(self.some_has_permission(session.active.names(), operation, object))
     }
 
     /// Of each policy each set is in order and without repeats, references exist, counts are within their limits, the

@@ -7,7 +7,7 @@ ghost use Rattle.std.specs.FinMap.Entries.{find};
 ghost use Rattle.rbac_words.specs.Name.{name_cmp};
 ghost use Rattle.rbac_words.specs.Authorization.{inherits_in, is_authorized as is_authorized_in, has_permission};
 ghost use Rattle.rbac_words.specs.Rows.{is_owner, is_active};
-ghost use Rattle.rbac_words.specs.Effect.{reply, session_holds};
+ghost use Rattle.rbac_words.specs.Effect.{reply};
 ghost use Rattle.rbac_words.specs.declared.command.Command.TheVariants.{CheckAccess};
 
 use crate::authorization::{is_authorized, is_authorized_for_all, some_inherits_some};
@@ -72,8 +72,13 @@ impl Policy {
         }
     }
 
-    // Whether the permission is granted to a role that one of these inherits.
-    fn some_has_permission(&self, roles: &[Name], operation: &Name, object: &Name) -> bool
+    /// Whether the permission is granted to a role that one of these inherits.
+    pub(crate) fn some_has_permission(
+        &self,
+        roles: &[Name],
+        operation: &Name,
+        object: &Name,
+    ) -> bool
         ensures { result ≡ list_any (has_permission self.now (operation.now, object.now)) roles.now }
     {
         let grants = self.tables.sets.grants_of(operation, object);
@@ -85,16 +90,6 @@ impl Policy {
         ensures { option_copied result ≡ find name_cmp session.now self.now.sessions }
     {
         self.tables.sessions.get(session)
-    }
-
-    /// Whether there is the session, and it holds the permission.
-    pub(crate) fn session_holds(&self, session: &Name, operation: &Name, object: &Name) -> bool
-        ensures { result ≡ session_holds (find name_cmp session.now self.now.sessions) self.now (operation.now, object.now) }
-    {
-        match self.session(session) {
-            Some(session) => self.some_has_permission(session.active.names(), operation, object),
-            None => false,
-        }
     }
 
     /// The answer to CheckAccess.

@@ -1,5 +1,7 @@
 //! The first failing precondition of each command about sessions, and of a check.
-ghost use Rattle.std.specs.Prelude.{◌≡◌};
+ghost use Rattle.std.specs.Prelude.{◌≡◌, IfErr, IfOk, OnOk, Some, None};
+ghost use Rattle.std.specs.FinMap.Entries.{find};
+ghost use Rattle.rbac_words.specs.Name.{name_cmp};
 ghost use Rattle.rbac_words.specs.Rows.{first_denial};
 ghost use Rattle.rbac_words.specs.declared.command.Command.TheVariants.{CreateSession, DeleteSession, AddActiveRole, DropActiveRole, CheckAccess};
 ghost use Rattle.rbac_decide.specs.Denying.{verdict, TellsDenial};
@@ -7,6 +9,7 @@ ghost use Rattle.rbac_decide.specs.Denying.{verdict, TellsDenial};
 use crate::policy::Policy;
 use crate::policy::denial::deny_if;
 use crate::policy::hindrance::Hindrance;
+use rbac_sessions::Session;
 use rbac_words::limits::MOST_SESSIONS;
 use rbac_words::{Denial, Name, NameSet};
 
@@ -82,6 +85,28 @@ impl Policy {
         Ok(())
     }
 
+    /// The session that a check asks of, or the check's first failing precondition.
+    pub(crate) fn checked_session(
+        &self,
+        session: &Name,
+        operation: &Name,
+        object: &Name,
+    ) -> Result<&Session, Denial>
+        ensures denied { IfErr result (λ denial. first_denial (CheckAccess session.now operation.now object.now) self.now ≡ Some denial) }
+        ensures allowed { OnOk result (first_denial (CheckAccess session.now operation.now object.now) self.now ≡ None) }
+        ensures found { IfOk result (λ found. find name_cmp session.now self.now.sessions ≡ Some found.now) }
+    {
+        let Some(found) = self.session(session) else {
+            return Err(Denial::NoSession);
+        };
+        deny_if(
+            !self.vocabulary.has_operation(operation),
+            Denial::NoOperation,
+        )?;
+        deny_if(!self.vocabulary.has_object(object), Denial::NoObject)?;
+        Ok(found)
+    }
+
     /// The first failing precondition of a check.
     pub(crate) fn may_check_access(
         &self,
@@ -91,12 +116,7 @@ impl Policy {
     ) -> Result<(), Denial>
         ensures { result ≡ verdict (CheckAccess session.now operation.now object.now) self.now }
     {
-        deny_if(!self.tables.sessions.contains(session), Denial::NoSession)?;
-        deny_if(
-            !self.vocabulary.has_operation(operation),
-            Denial::NoOperation,
-        )?;
-        deny_if(!self.vocabulary.has_object(object), Denial::NoObject)?;
+        self.checked_session(session, operation, object)?;
         Ok(())
     }
 }
