@@ -1,10 +1,10 @@
 //! Who is authorized for a role, and which roles have a permission, by the sets of a policy.
-ghost use Rattle.std.specs.Prelude.{◌≡◌, ◌&&◌, ◌||◌, IfOk};
+ghost use Rattle.std.specs.Prelude.{◌≡◌, ◌&&◌, not, count_by, IfOk};
 ghost use Rattle.sorted_keys.specs.Keys.{has};
 ghost use Rattle.rbac_words.specs.Name.{Name as NameValue, name_cmp};
 ghost use Rattle.std.specs.List.{list_all, list_any};
 ghost use Rattle.rbac_words.specs.Inheritance.{inherits};
-ghost use Rattle.rbac_words.specs.Authorization.{inherits_in, is_authorized, is_entitled};
+ghost use Rattle.rbac_words.specs.Authorization.{is_authorized, is_entitled};
 ghost use Rattle.rbac_decide.specs.Tables.{state_of_roles};
 
 use rbac_hierarchy::{Hierarchy, RoleOrder};
@@ -64,19 +64,39 @@ pub fn is_authorized_for_all(
         .all(|role| is_authorized(sets, hierarchy, user, role))
 }
 
-/// The roles that the user is authorized for, and those that this role inherits.
-pub fn authorized_with(
+/// Those of the roles that the user is not authorized for.
+pub fn fresh_roles(
     alloc: Global,
     sets: &RoleSets,
     hierarchy: &Hierarchy,
     user: &Name,
-    role: &Name,
+    roles: &NameSet,
 ) -> Result<NameSet, AllocError>
-    ensures { let s = state_of_roles sets.now.content hierarchy.now.content in IfOk result (λ names. (r : NameValue) →
-        has name_cmp r names ≡ (inherits_in s role.now r || is_authorized s user.now r)) }
+    ensures { let s = state_of_roles sets.now.content hierarchy.now.content in IfOk result (λ fresh. (r : NameValue) →
+        has name_cmp r fresh ≡ (has name_cmp r roles.now && not (is_authorized s user.now r))) }
 {
-    let juniors = hierarchy.juniors(alloc, role)?;
-    hierarchy.with_juniors_of_assigned(juniors, sets.assignments_of(user))
+    let mut fresh = NameSet::new(alloc);
+    for role in roles.names() {
+        if !is_authorized(sets, hierarchy, user, role) {
+            fresh.add_copy(role)?;
+        }
+    }
+    Ok(fresh)
+}
+
+/// How many of the roles the user is authorized for.
+pub fn count_authorized(
+    sets: &RoleSets,
+    hierarchy: &Hierarchy,
+    user: &Name,
+    roles: &[Name],
+) -> usize
+    ensures { result ≡ count_by (is_authorized (state_of_roles sets.now.content hierarchy.now.content) user.now) roles.now }
+{
+    roles
+        .iter()
+        .filter(|role| is_authorized(sets, hierarchy, user, role))
+        .count()
 }
 
 /// Whether each of the roles is there, and the owner of a session is authorized for it. Where the owner is, the role is there.
