@@ -1,6 +1,6 @@
 -- What the counts of a policy become by each command.
 use Rattle.std.proofs.Common.{ℕ, zero, suc, ◌+◌, ◌<◌, List, [], ◌∷◌, length, get_or, take, drop, count_by, nat_le, Bool, true, false, not, cond, ◌||◌, ◌&&◌, ◌≡◌, Option, Some, None, is_some, Result, Ok, Err, OnOk, refl, sym, ap, ◌∙◌, subst, add-one, arith}
-use Rattle.std.proofs.lemmas.Bool.{or_left, or_right}
+use Rattle.std.proofs.lemmas.Bool.{or_left, or_right, false≢true}
 use Rattle.std.proofs.lemmas.List.Sums.{sum_by-cons}
 use Rattle.std.proofs.Math.Seq.{drop-cons}
 use Rattle.std.specs.declared.cmp.Ordering.{Ordering}
@@ -14,6 +14,7 @@ use Rattle.sorted_keys.proofs.Order.{IsBelowAll, greater}
 use Rattle.rbac_words.specs.Name.{Name, name_cmp}
 use Rattle.rbac_words.specs.Separation.{RoleSet, is_broken_by}
 use Rattle.rbac_words.proofs.NameLemmas.{names_total, names_exact, one_key, ties_itself, ties_flip}
+use Rattle.rbac_rules.proofs.SoundSeparation.{is_false}
 use Rattle.rbac_separation.specs.Counts.{with_number, is_over, first_over}
 use Rattle.rbac_hierarchy.proofs.LoopLemmas.{any_one_more}
 use Rattle.rbac_decide.specs.Counting.{count_in, touches}
@@ -126,6 +127,16 @@ user_step set w other user users i right old n m lt is made so_far =
     go true false true e = refl
     go true false false e = refl
     go false b d e = refl
+
+-- where no set has a role in question, none that is found has
+pub none_touched : (below : List Name) (sets : List (Name × RoleSet)) → list_any (λ e. touches below (Some e.1)) sets ≡ false → (set : Name) → touches below (find name_cmp set sets) ≡ false
+none_touched below [] none set = refl
+none_touched below (e ∷ es) none set =
+    go (eq_by_cmp name_cmp set e.0) (none_touched below es (is_false _ (λ t. false≢true (sym none ∙ or_right _ _ t))) set)
+  where
+    go : (b : Bool) → touches below (find name_cmp set es) ≡ false → touches below (cond b (Some e.1) (find name_cmp set es)) ≡ false
+    go true rest = is_false _ (λ t. false≢true (sym none ∙ or_left _ _ t))
+    go false rest = rest
 
 -- one set more of those that have a role in question, with the users in question, or one that has none
 module _ (below users : List Name) (sets rest : List (Name × RoleSet)) (e : Name × RoleSet) (found : find name_cmp e.0 sets ≡ Some e.1) (right n m : Name → Name → ℕ)

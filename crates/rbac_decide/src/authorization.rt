@@ -10,6 +10,7 @@ ghost use Rattle.rbac_decide.specs.Tables.{state_of_roles};
 use rbac_hierarchy::{Hierarchy, RoleOrder};
 use rbac_rolesets::RoleSets;
 use rbac_words::{Name, NameSet};
+use sorted_keys::KeyTest;
 use std::alloc::{AllocError, Global};
 
 // Whether the role of one of the assignments inherits the role.
@@ -64,6 +65,39 @@ pub fn is_authorized_for_all(
         .all(|role| is_authorized(sets, hierarchy, user, role))
 }
 
+/// Those of the names that pass a test.
+pub fn names_where<T: KeyTest<Name>>(
+    alloc: Global,
+    names: &NameSet,
+    test: &T,
+) -> Result<NameSet, AllocError>
+    ensures { IfOk result (λ kept. (r : NameValue) → has name_cmp r kept ≡ (has name_cmp r names.now && T.passes test.now r)) }
+{
+    let mut kept = NameSet::new(alloc);
+    for name in names.names() {
+        if test.test(name) {
+            kept.add_copy(name)?;
+        }
+    }
+    Ok(kept)
+}
+
+// The roles that a user is not authorized for.
+#[derive(Drop)]
+struct NewTo<'a> {
+    sets: &'a RoleSets,
+    hierarchy: &'a Hierarchy,
+    user: &'a Name,
+}
+
+impl KeyTest<Name> for NewTo<'_> {
+    ghost passes = { λ new role. not (is_authorized (state_of_roles new.sets.now.content new.hierarchy.now.content) new.user.now role) };
+
+    fn test(&self, role: &Name) -> bool {
+        !is_authorized(self.sets, self.hierarchy, self.user, role)
+    }
+}
+
 /// Those of the roles that the user is not authorized for.
 pub fn fresh_roles(
     alloc: Global,
@@ -75,13 +109,12 @@ pub fn fresh_roles(
     ensures { let s = state_of_roles sets.now.content hierarchy.now.content in IfOk result (λ fresh. (r : NameValue) →
         has name_cmp r fresh ≡ (has name_cmp r roles.now && not (is_authorized s user.now r))) }
 {
-    let mut fresh = NameSet::new(alloc);
-    for role in roles.names() {
-        if !is_authorized(sets, hierarchy, user, role) {
-            fresh.add_copy(role)?;
-        }
-    }
-    Ok(fresh)
+    let test = NewTo {
+        sets,
+        hierarchy,
+        user,
+    };
+    names_where(alloc, roles, &test)
 }
 
 /// How many of the roles the user is authorized for.

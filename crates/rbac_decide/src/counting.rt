@@ -1,5 +1,5 @@
 //! The counts that a policy keeps of its static sets, and what a command makes of them.
-ghost use Rattle.std.specs.Prelude.{◌≡◌, ◌&&◌, [], ◌∷◌, true, false, if◌then◌else◌, IfOk, OnOk, count_by};
+ghost use Rattle.std.specs.Prelude.{◌≡◌, ◌&&◌, [], ◌∷◌, true, false, if◌then◌else◌, IfOk, OnOk, Some, count_by};
 ghost use Rattle.std.specs.List.{list_any};
 ghost use Rattle.std.specs.Option.{unwrap_or};
 ghost use Rattle.std.specs.Ordering.{eq_by_cmp};
@@ -7,7 +7,7 @@ ghost use Rattle.sorted_keys.specs.Keys.{has};
 ghost use Rattle.rbac_words.specs.Name.{Name as NameValue, name_cmp};
 ghost use Rattle.rbac_words.specs.Separation.{is_broken_by};
 ghost use Rattle.rbac_separation.specs.Counts.{numbers_of, with_number};
-ghost use Rattle.rbac_decide.specs.Counting.{authorized_by, authorized_users_by, juniors_by, AreCountsBy, IsStep, IsShift, IsSetStep, without_static, changes_counts};
+ghost use Rattle.rbac_decide.specs.Counting.{authorized_by, authorized_users_by, juniors_by, touches, AreCountsBy, IsStep, IsShift, IsSetStep, without_static, changes_counts};
 
 use crate::authorization::{count_authorized, is_authorized};
 use crate::tables::Tables;
@@ -39,6 +39,13 @@ fn touches(below: &NameSet, roles: &RoleSet) -> bool
     roles.roles.names().iter().any(|role| below.contains(role))
 }
 
+// Whether some of the sets has one of the roles.
+fn touches_some(below: &NameSet, sets: &[(Name, RoleSet)]) -> bool
+    ensures { result ≡ list_any (λ e. touches below.now (Some e.1)) sets.now }
+{
+    sets.iter().any(|entry| touches(below, &entry.1))
+}
+
 // Counts anew for how many roles of the set the user is authorized: fewer than its number, so that the count fits.
 fn recount(
     tables: &Tables,
@@ -55,7 +62,7 @@ fn recount(
     counts.put(set, user, number as u32)
 }
 
-// The same for each of the users.
+// Counts anew for how many roles of the set each of the users is authorized.
 fn recount_set(
     tables: &Tables,
     set: &Name,
@@ -73,7 +80,7 @@ fn recount_set(
     Ok(())
 }
 
-// The same for each static set that has one of these roles, where the other counts are right.
+// Counts anew for these users, of each static set that has one of these roles, where the other counts are right.
 fn recount_touched(
     tables: &Tables,
     users: &[Name],
@@ -92,7 +99,7 @@ fn recount_touched(
     Ok(())
 }
 
-// The same for one user and what the role inherits. Where there is no static set nothing is gathered.
+// Counts anew for one user, of each static set that has a role that this one inherits. Where there is no static set nothing is gathered.
 fn recount_user(
     alloc: Global,
     before: &Tables,
@@ -113,7 +120,8 @@ fn recount_user(
     recount_touched(after, users.names(), &below, counts)
 }
 
-// The same for the users that were authorized for a role.
+// Counts anew for the users that were authorized for the ascendant, of each static set that has a role that this one inherits. Where
+// there is no such set no user is looked at.
 fn recount_authorized(
     alloc: Global,
     before: &Tables,
@@ -128,12 +136,15 @@ fn recount_authorized(
     if after.static_sets.len() == 0 {
         return Ok(());
     }
+    let below = before.hierarchy.juniors(alloc, role)?;
+    if !touches_some(&below, after.static_sets.entries()) {
+        return Ok(());
+    }
     let authorized = AuthorizedFor {
         tables: before,
         role: ascendant,
     };
     let users = before.sets.users_where(alloc, &authorized)?;
-    let below = before.hierarchy.juniors(alloc, role)?;
     recount_touched(after, users.names(), &below, counts)
 }
 

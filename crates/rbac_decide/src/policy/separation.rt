@@ -1,6 +1,6 @@
 //! What separation of duty asks: the sets of a kind, and who would break one.
 ghost use Rattle.std.specs.Prelude.{◌≡◌, ◌||◌, ◌&&◌, nat_le, length, count_by, is_some, IfOk};
-ghost use Rattle.sorted_keys.specs.Keys.{without};
+ghost use Rattle.sorted_keys.specs.Keys.{has, without};
 ghost use Rattle.std.specs.List.{list_any};
 ghost use Rattle.std.specs.Option.{option_copied};
 ghost use Rattle.std.specs.FinMap.Entries.{find};
@@ -11,17 +11,17 @@ ghost use Rattle.rbac_words.specs.Authorization.{is_authorized as is_authorized_
 ghost use Rattle.rbac_words.specs.Constraints.{sets_of, breaks_dynamic};
 ghost use Rattle.rbac_words.specs.Rows.{found_and, is_set, is_member};
 ghost use Rattle.rbac_words.specs.declared.separation.Separation.TheVariants.{Static, Dynamic};
-ghost use Rattle.rbac_words.specs.Inheritance.{juniors as juniors_of};
 ghost use Rattle.rbac_separation.specs.Counts.{numbers_of, first_over};
 ghost use Rattle.rbac_decide.specs.Counting.{authorized_count};
-ghost use Rattle.rbac_decide.specs.Breaking.{breaks_with, breaks_below, breaks_set};
+ghost use Rattle.rbac_decide.specs.Breaking.{breaks_with, breaks_below, breaks_set, is_constrained_junior};
 
-use crate::authorization::{count_authorized, fresh_roles};
+use crate::authorization::{count_authorized, fresh_roles, names_where};
 use crate::breaking::Breaking;
 use crate::policy::Policy;
 use rbac_hierarchy::RoleOrder;
 use rbac_separation::{Counts, RoleSet, SetTable};
 use rbac_words::{Name, NameSet, Separation};
+use sorted_keys::KeyTest;
 use std::alloc::{AllocError, Global};
 
 /// Whether a set of so many roles may have this number.
@@ -43,6 +43,20 @@ fn is_over(sets: &SetTable, roles: &NameSet) -> bool
     ensures { result ≡ is_some (first_broken roles.now sets.now.content) }
 {
     sets.over(roles).is_some()
+}
+
+// The roles of some of the sets.
+#[derive(Drop)]
+struct Constrained<'a> {
+    sets: &'a SetTable,
+}
+
+impl KeyTest<Name> for Constrained<'_> {
+    ghost passes = { λ constrained role. is_constrained role constrained.sets.now.content };
+
+    fn test(&self, role: &Name) -> bool {
+        self.sets.holds_role(role)
+    }
 }
 
 // Whether the user would have too many roles of some of the sets with the fresh ones.
@@ -108,14 +122,28 @@ impl Policy {
         is_over_with(&self.counts, &self.tables.static_sets, user, fresh)
     }
 
-    // Whether the user would break a static set with what some role inherits, which are these roles, besides.
+    // The roles of static sets that the role inherits. Where there is no static set nothing is gathered.
+    fn constrained_juniors(&self, alloc: Global, role: &Name) -> Result<NameSet, AllocError>
+        ensures { IfOk result (λ names. (r : NameValue) → has name_cmp r names ≡ is_constrained_junior self.now role.now r) }
+    {
+        if self.tables.static_sets.len() == 0 {
+            return Ok(NameSet::new(alloc));
+        }
+        let juniors = self.tables.hierarchy.juniors(alloc, role)?;
+        let constrained = Constrained {
+            sets: &self.tables.static_sets,
+        };
+        names_where(alloc, &juniors, &constrained)
+    }
+
+    // Whether the user would break a static set with what some role inherits besides: of that, these are the roles of static sets.
     fn breaks_with_juniors(
         &self,
         alloc: Global,
         user: &Name,
         juniors: &NameSet,
     ) -> Result<bool, AllocError>
-        ensures { (role : NameValue) → juniors.now ≡ juniors_of self.now.roles self.now.declared role →
+        ensures { (role : NameValue) → ((r : NameValue) → has name_cmp r juniors.now ≡ is_constrained_junior self.now role r) →
             IfOk result (λ breaks. breaks ≡ breaks_with self.now role user.now) }
     {
         self.invariants();
@@ -130,7 +158,7 @@ impl Policy {
     }
 
     /// Whether the user would break a static set with this role, and what it inherits, besides. Only roles that the user is not
-    /// authorized for are tried, and nothing is gathered where there is no static set.
+    /// authorized for are tried.
     pub(crate) fn breaks_with(
         &self,
         alloc: Global,
@@ -139,15 +167,12 @@ impl Policy {
     ) -> Result<bool, AllocError>
         ensures { IfOk result (λ breaks. breaks ≡ breaks_with self.now role.now user.now) }
     {
-        if self.tables.static_sets.len() == 0 {
-            return Ok(false);
-        }
-        let juniors = self.tables.hierarchy.juniors(alloc, role)?;
+        let juniors = self.constrained_juniors(alloc, role)?;
         self.breaks_with_juniors(alloc, user, &juniors)
     }
 
-    // Whether the user is authorized for the ascendant, and would break a static set with what the descendant inherits, which are
-    // these roles.
+    // Whether the user is authorized for the ascendant, and would break a static set with what some descendant inherits besides: of
+    // that, these are the roles of static sets.
     fn breaks_through(
         &self,
         alloc: Global,
@@ -155,7 +180,7 @@ impl Policy {
         user: &Name,
         juniors: &NameSet,
     ) -> Result<bool, AllocError>
-        ensures { (descendant : NameValue) → juniors.now ≡ juniors_of self.now.roles self.now.declared descendant →
+        ensures { (descendant : NameValue) → ((r : NameValue) → has name_cmp r juniors.now ≡ is_constrained_junior self.now descendant r) →
             IfOk result (λ breaks. breaks ≡ (is_authorized_in self.now user.now ascendant.now && breaks_with self.now descendant user.now)) }
     {
         if !self.is_authorized(user, ascendant) {
@@ -165,7 +190,7 @@ impl Policy {
     }
 
     /// Whether some user who is authorized for the ascendant would break a static set with the descendant. Only roles that such
-    /// a user is not authorized for are tried, and nothing is gathered where there is no static set.
+    /// a user is not authorized for are tried, and no user where the descendant inherits no role of a static set.
     pub(crate) fn breaks_below(
         &self,
         alloc: Global,
@@ -174,10 +199,11 @@ impl Policy {
     ) -> Result<bool, AllocError>
         ensures { IfOk result (λ breaks. breaks ≡ breaks_below self.now ascendant.now descendant.now) }
     {
-        if self.tables.static_sets.len() == 0 {
+        self.invariants();
+        let juniors = self.constrained_juniors(alloc, descendant)?;
+        if juniors.is_empty() {
             return Ok(false);
         }
-        let juniors = self.tables.hierarchy.juniors(alloc, descendant)?;
         for user in self.tables.sets.users() {
             if self.breaks_through(alloc, ascendant, user, &juniors)? {
                 return Ok(true);

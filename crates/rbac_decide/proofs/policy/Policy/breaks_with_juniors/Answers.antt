@@ -11,5 +11,5 @@ returns c = λ role are.
     let user = c.args.user.now in
     let below = c.args.juniors.now in
     c.breaks_with_fresh.ensures
-    ∙ breaks_fresh c.args.self.now c.invariants.ensures role user below c.in_ok-fresh.fresh are
+    ∙ breaks_fresh c.args.self.now role user c.invariants.ensures below c.in_ok-fresh.fresh are
     (subst (λ (seen : State). (r : Name) → has name_cmp r c.in_ok-fresh.fresh ≡ (has name_cmp r below && not (is_authorized seen user r))) c.self.view_is c.in_ok-fresh.ensures)
