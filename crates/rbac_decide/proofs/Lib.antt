@@ -1,3 +1,6 @@
 pub mod ApplyLemmas
+pub mod CountingLemmas
+pub mod CountingSteps
+pub mod FreshLemmas
 pub mod SeparationLemmas
 pub mod TablesLemmas

@@ -183,7 +183,7 @@ any_one p xs k is others = same_bits _ _
     either x m e false apart = absurd (false≢true (sym (others x m apart) ∙ e))
 
 -- no user of a sound policy breaks a static set
-unbroken : (s : State) → IsSound s → (user : Name) → has name_cmp user s.users ≡ true → breaks_static s user ≡ false
+pub unbroken : (s : State) → IsSound s → (user : Name) → has name_cmp user s.users ≡ true → breaks_static s user ≡ false
 unbroken s h user is = is_false _ (λ e. false≢true (sym h.separation.static ∙ member_any names_total names_exact (breaks_static s) s.users user is e))
 
 module _ (user role : Name) (s : State) where

@@ -3,10 +3,14 @@ use Rattle.std.specs.Prelude.{Bool, ◌||◌, ◌&&◌}
 use Rattle.std.specs.List.{list_any}
 use Rattle.rbac_words.specs.Name.{Name}
 use Rattle.rbac_words.specs.State.{State}
-use Rattle.rbac_words.specs.Separation.{RoleSet, is_broken_by, is_broken}
+use Rattle.rbac_words.specs.Separation.{RoleSet, is_broken_by, is_broken, is_constrained}
 use Rattle.rbac_words.specs.Authorization.{inherits_in, is_authorized}
 use Rattle.rbac_words.specs.declared.separation.Separation.{Separation}
 use Rattle.rbac_words.specs.declared.separation.Separation.TheVariants.{Static, Dynamic}
+
+-- the role inherits this one, which is in some static set
+abbrev pub is_constrained_junior : State → Name → Name → Bool
+is_constrained_junior s role r = inherits_in s role r && is_constrained r s.static_sets
 
 -- the user would break a static set with this role and what it inherits besides
 abbrev pub breaks_with : State → Name → Name → Bool

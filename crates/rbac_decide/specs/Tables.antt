@@ -3,7 +3,6 @@ use Rattle.std.specs.Prelude.{[], ◌≡◌, None}
 use Rattle.rbac_words.specs.Founding.{Vocabulary}
 use Rattle.rbac_words.specs.State.{State}
 use Rattle.rbac_words.specs.Rows.{first_denial}
-use Rattle.rbac_words.specs.Sound.{IsSound}
 use Rattle.rbac_words.specs.declared.command.Command.{Command}
 use Rattle.rbac_rolesets.specs.Sets.{Sets}
 use Rattle.rbac_hierarchy.specs.Order.{Order}
@@ -47,8 +46,3 @@ HasSameRoles t = t.hierarchy.content.roles ≡ t.sets.content.roles
 -- with some vocabulary the command is not denied
 abbrev pub IsUndenied : Command → Tables → Type 0
 IsUndenied c t = (v : Vocabulary) × (first_denial c (state_of t v) ≡ None)
-
--- what holds of a policy's sets
-pub record IsPolicy (t : Tables) (v : Vocabulary) : Type 0 where
-  pub sound : IsSound (state_of t v)
-  pub same_roles : HasSameRoles t

@@ -1,15 +1,16 @@
 //! Who is authorized for a role, and which roles have a permission, by the sets of a policy.
-ghost use Rattle.std.specs.Prelude.{◌≡◌, ◌&&◌, ◌||◌, IfOk};
+ghost use Rattle.std.specs.Prelude.{◌≡◌, ◌&&◌, not, count_by, IfOk};
 ghost use Rattle.sorted_keys.specs.Keys.{has};
 ghost use Rattle.rbac_words.specs.Name.{Name as NameValue, name_cmp};
 ghost use Rattle.std.specs.List.{list_all, list_any};
 ghost use Rattle.rbac_words.specs.Inheritance.{inherits};
-ghost use Rattle.rbac_words.specs.Authorization.{inherits_in, is_authorized, is_entitled};
+ghost use Rattle.rbac_words.specs.Authorization.{is_authorized, is_entitled};
 ghost use Rattle.rbac_decide.specs.Tables.{state_of_roles};
 
 use rbac_hierarchy::{Hierarchy, RoleOrder};
 use rbac_rolesets::RoleSets;
 use rbac_words::{Name, NameSet};
+use sorted_keys::KeyTest;
 use std::alloc::{AllocError, Global};
 
 // Whether the role of one of the assignments inherits the role.
@@ -64,19 +65,71 @@ pub fn is_authorized_for_all(
         .all(|role| is_authorized(sets, hierarchy, user, role))
 }
 
-/// The roles that the user is authorized for, and those that this role inherits.
-pub fn authorized_with(
+/// Those of the names that pass a test.
+pub fn names_where<T: KeyTest<Name>>(
+    alloc: Global,
+    names: &NameSet,
+    test: &T,
+) -> Result<NameSet, AllocError>
+    ensures { IfOk result (λ kept. (r : NameValue) → has name_cmp r kept ≡ (has name_cmp r names.now && T.passes test.now r)) }
+{
+    let mut kept = NameSet::new(alloc);
+    for name in names.names() {
+        if test.test(name) {
+            kept.add_copy(name)?;
+        }
+    }
+    Ok(kept)
+}
+
+// The roles that a user is not authorized for.
+#[derive(Drop)]
+struct NewTo<'a> {
+    sets: &'a RoleSets,
+    hierarchy: &'a Hierarchy,
+    user: &'a Name,
+}
+
+impl KeyTest<Name> for NewTo<'_> {
+    ghost passes = { λ new role. not (is_authorized (state_of_roles new.sets.now.content new.hierarchy.now.content) new.user.now role) };
+
+    fn test(&self, role: &Name) -> bool {
+        !is_authorized(self.sets, self.hierarchy, self.user, role)
+    }
+}
+
+/// Those of the roles that the user is not authorized for.
+pub fn fresh_roles(
     alloc: Global,
     sets: &RoleSets,
     hierarchy: &Hierarchy,
     user: &Name,
-    role: &Name,
+    roles: &NameSet,
 ) -> Result<NameSet, AllocError>
-    ensures { let s = state_of_roles sets.now.content hierarchy.now.content in IfOk result (λ names. (r : NameValue) →
-        has name_cmp r names ≡ (inherits_in s role.now r || is_authorized s user.now r)) }
+    ensures { let s = state_of_roles sets.now.content hierarchy.now.content in IfOk result (λ fresh. (r : NameValue) →
+        has name_cmp r fresh ≡ (has name_cmp r roles.now && not (is_authorized s user.now r))) }
 {
-    let juniors = hierarchy.juniors(alloc, role)?;
-    hierarchy.with_juniors_of_assigned(juniors, sets.assignments_of(user))
+    let test = NewTo {
+        sets,
+        hierarchy,
+        user,
+    };
+    names_where(alloc, roles, &test)
+}
+
+/// How many of the roles the user is authorized for.
+pub fn count_authorized(
+    sets: &RoleSets,
+    hierarchy: &Hierarchy,
+    user: &Name,
+    roles: &[Name],
+) -> usize
+    ensures { result ≡ count_by (is_authorized (state_of_roles sets.now.content hierarchy.now.content) user.now) roles.now }
+{
+    roles
+        .iter()
+        .filter(|role| is_authorized(sets, hierarchy, user, role))
+        .count()
 }
 
 /// Whether each of the roles is there, and the owner of a session is authorized for it. Where the owner is, the role is there.

@@ -3,6 +3,7 @@
 
 mod authorization;
 mod breaking;
+mod counting;
 mod ending;
 mod policy;
 mod tables;

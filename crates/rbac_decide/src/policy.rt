@@ -1,5 +1,6 @@
 //! A policy: what commands answer, and what they change.
 ghost use Rattle.std.specs.Prelude.{◌≡◌, ◌↔◌, false, IsTrue, IfOk, IfErr, OnOk, OnErr, Some, None};
+ghost use Rattle.std.specs.Option.{unwrap_or};
 ghost use Rattle.std.specs.FinMap.Entries.{find};
 ghost use Rattle.sorted_keys.specs.Keys.{has};
 ghost use Rattle.rbac_words.specs.Name.{name_cmp, pair_cmp};
@@ -8,6 +9,7 @@ ghost use Rattle.rbac_words.specs.Rows.{first_denial};
 ghost use Rattle.rbac_words.specs.Effect.{effect, reply, session_holds};
 ghost use Rattle.rbac_words.specs.Reviews.{session_permissions};
 ghost use Rattle.rbac_words.specs.Sound.{IsSound};
+ghost use Rattle.rbac_decide.specs.Counting.{AreCounts};
 
 mod access;
 mod denial;
@@ -16,8 +18,10 @@ mod review;
 mod separation;
 mod violation;
 
+use crate::counting::counts_after;
 use crate::policy::hindrance::Hindrance;
 use crate::tables::Tables;
+use rbac_separation::Counts;
 use rbac_words::{Answer, Command, Denial, Name, Vocabulary};
 use std::alloc::{AllocError, Global};
 use std::marker::Model;
@@ -26,18 +30,20 @@ use std::marker::Model;
 #[derive(Drop)]
 pub struct Policy {
     tables: Tables,
+    counts: Counts,
     vocabulary: Vocabulary,
 }
 
 impl Model for Policy {
     ghost use Rattle.rbac_words.specs.State.{State};
-    ghost use Rattle.rbac_decide.specs.Tables.{state_of, IsPolicy};
+    ghost use Rattle.rbac_decide.specs.Tables.{state_of};
+    ghost use Rattle.rbac_decide.specs.Policy.{IsPolicy};
 
     ghost Value = { State };
 
     ghost view = { λ p. state_of p.tables p.vocabulary };
 
-    ghost invariant = { λ p. IsPolicy p.tables p.vocabulary };
+    ghost invariant = { λ p. IsPolicy p.tables p.counts p.vocabulary };
 }
 
 impl Policy {
@@ -48,8 +54,18 @@ impl Policy {
         vocabulary.invariants();
         Policy {
             tables: Tables::new(alloc),
+            counts: Counts::empty(alloc),
             vocabulary,
         }
+    }
+}
+
+// Puts the new counts in place, where there are any.
+fn replace_where_new(counts: &mut Counts, new: Option<Counts>)
+    ensures { counts.new ≡ unwrap_or new counts.old }
+{
+    if let Some(new) = new {
+        *counts = new;
     }
 }
 
@@ -71,7 +87,9 @@ impl Policy {
         }
         let mut next = self.tables.copy()?;
         next.change(alloc, command)?;
+        let counts = counts_after(alloc, &self.tables, &next, command, &self.counts)?;
         self.tables = next;
+        replace_where_new(&mut self.counts, counts);
         Ok(Answer::Done)
     }
 
@@ -115,6 +133,13 @@ impl Policy {
         let _tables = &self.tables;
     }
 
+    /// The counts that are kept of the static sets: of each set and each user, for how many of its roles the user is authorized.
+    pub fn static_counts(&self) -> &Counts
+        ensures { AreCounts result.now self.now }
+    {
+        &self.counts
+    }
+
     /// Whether both policies have the same sets and the same vocabulary.
     pub fn same(&self, other: &Policy) -> bool
         ensures { IsTrue result ↔ (self.now ≡ other.now) }
@@ -128,6 +153,7 @@ impl Policy {
     {
         Ok(Policy {
             tables: self.tables.copy()?,
+            counts: self.counts.copy()?,
             vocabulary: self.vocabulary.copy()?,
         })
     }

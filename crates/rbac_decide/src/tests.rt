@@ -249,3 +249,72 @@ fn stops_at_the_limit_of_sets(rt: HostRuntime) {
     let limit = Answer::Denied(Denial::Limit);
     expect_answer(&rt, rt.alloc(), &mut policy, command, limit);
 }
+
+// The static set d of three of a, b and c, and ann, who is assigned a.
+fn a_static_set(rt: &impl Abort, alloc: Global) -> Policy {
+    let mut policy = founded(rt, alloc);
+    add_user(rt, alloc, &mut policy, "ann");
+    add_role(rt, alloc, &mut policy, "a");
+    add_role(rt, alloc, &mut policy, "b");
+    add_role(rt, alloc, &mut policy, "c");
+    assign(rt, alloc, &mut policy, "ann", "a");
+    let command = Command::CreateSet {
+        kind: Separation::Static,
+        set: name(rt, alloc, "d"),
+        roles: set(rt, alloc, &["a", "b", "c"]),
+        n: 3,
+    };
+    expect_done(rt, alloc, &mut policy, command);
+    policy
+}
+
+fn inherit(rt: &impl Abort, alloc: Global, policy: &mut Policy, ascendant: &str, descendant: &str) {
+    let command = Command::AddInheritance {
+        ascendant: name(rt, alloc, ascendant),
+        descendant: name(rt, alloc, descendant),
+    };
+    expect_done(rt, alloc, policy, command);
+}
+
+fn deassign(rt: &impl Abort, alloc: Global, policy: &mut Policy, user: &str, role: &str) {
+    let (user, role) = (name(rt, alloc, user), name(rt, alloc, role));
+    expect_done(rt, alloc, policy, Command::DeassignUser { user, role });
+}
+
+// How many roles of d are counted for ann.
+fn count(rt: &impl Abort, alloc: Global, policy: &Policy) -> u32 {
+    let (set, user) = (name(rt, alloc, "d"), name(rt, alloc, "ann"));
+    let number = policy.static_counts().get(&set, &user);
+    drop(set);
+    drop(user);
+    number
+}
+
+#[test]
+fn counts_of_static_sets_are_kept(rt: HostRuntime) {
+    let alloc = rt.alloc();
+    let mut policy = a_static_set(&rt, alloc);
+    assert_eq!(rt; count(&rt, alloc, &policy), 1);
+    inherit(&rt, alloc, &mut policy, "a", "b");
+    assert_eq!(rt; count(&rt, alloc, &policy), 2);
+    assign(&rt, alloc, &mut policy, "ann", "b");
+    assert_eq!(rt; count(&rt, alloc, &policy), 2);
+    deassign(&rt, alloc, &mut policy, "ann", "a");
+    assert_eq!(rt; count(&rt, alloc, &policy), 1);
+    drop(policy);
+}
+
+#[test]
+fn what_a_pair_gives_is_counted_for_its_users(rt: HostRuntime) {
+    let alloc = rt.alloc();
+    let mut policy = a_static_set(&rt, alloc);
+    inherit(&rt, alloc, &mut policy, "a", "b");
+    let command = Command::AddInheritance {
+        ascendant: name(&rt, alloc, "b"),
+        descendant: name(&rt, alloc, "c"),
+    };
+    let denied = Answer::Denied(Denial::SsdViolated);
+    expect_answer(&rt, alloc, &mut policy, command, denied);
+    assert_eq!(rt; count(&rt, alloc, &policy), 2);
+    drop(policy);
+}

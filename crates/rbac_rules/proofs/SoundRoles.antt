@@ -31,10 +31,14 @@ use Rattle.rbac_rules.proofs.SoundParts.{none_fails, length-with_key-new, fewer,
 -- ---- One more role
 
 -- who is authorized stays so where roles and pairs stay
-authorized_still : (s : State) (roles : List Name) (declared : List (Name × Name))
+pub authorized_still : (s : State) (roles : List Name) (declared : List (Name × Name))
     → ((x : Name) → has name_cmp x s.roles ≡ true → has name_cmp x roles ≡ true) → ((p : Name × Name) → has pair_cmp p s.declared ≡ true → has pair_cmp p declared ≡ true)
     → (user role : Name) → IsAuthorized s user role → IsAuthorized (record s { roles = roles; declared = declared }) user role
 authorized_still s roles declared keeps_roles keeps_pairs user role a = (a.0, a.1, inherits_still s.roles roles s.declared declared keeps_roles keeps_pairs a.0 role a.2)
+
+-- nobody gains a role by a new one that no pair names
+pub authorized_before_role : (role : Name) (s : State) → IsSound s → (user r : Name) → IsAuthorized (record s { roles = with_key name_cmp role s.roles }) user r → IsAuthorized s user r
+authorized_before_role role s h user r a = (a.0, a.1, inherits_without role s.roles s.declared h.references.declared a.0 r (h.references.assigned user a.0 a.1).1 a.2)
 
 -- static separation stays where, for the roles of the sets, nobody is authorized who was not
 pub static_stays : (s t : State) → IsSound s → ((user : Name) → has name_cmp user t.users ≡ true → has name_cmp user s.users ≡ true)
@@ -69,7 +73,7 @@ sound_with_role role s new few h =
       separation = record {
         static_sets = sets_wider s.roles t.roles s.static_sets stays h.separation.static_sets;
         dynamic_sets = sets_wider s.roles t.roles s.dynamic_sets stays h.separation.dynamic_sets;
-        static = static_stays s t h (λ u m. m) (λ u r is a. (a.0, a.1, inherits_without role s.roles s.declared h.references.declared a.0 r (h.references.assigned u a.0 a.1).1 a.2));
+        static = static_stays s t h (λ u m. m) (λ u r is a. authorized_before_role role s h u r a);
         dynamic = h.separation.dynamic;
       };
       sessions = sessions_stay s t (λ user m. m) (authorized_still s t.roles s.declared stays (λ p m. m)) s.sessions h.sessions;
@@ -163,6 +167,22 @@ inherits_nothing role other s new is h i = go i.0 i.1
     go [] c = false≢true (sym new ∙ subst (λ x. has name_cmp x s.roles ≡ true) (sym c.1) is)
     go (p ∷ rest) c = false≢true (sym new ∙ (h.references.declared role p c.1).0)
 
+-- nobody gains a role by a new ascendant
+pub authorized_before_ascendant : (a d : Name) (s : State) → has name_cmp a s.roles ≡ false → IsSound s → (user r : Name)
+    → IsAuthorized (record s { roles = with_key name_cmp a s.roles; declared = with_key pair_cmp (a, d) s.declared }) user r → IsAuthorized s user r
+authorized_before_ascendant a d s new h user r x = let senior = (h.references.assigned user x.0 x.1).1 in ⊎_elim
+    (λ direct. (x.0, x.1, inherits_without a s.roles s.declared h.references.declared x.0 r senior direct))
+    (λ over. absurd (not_inherited a x.0 s new senior h over.0))
+    (inherits_over (with_key name_cmp a s.roles) s.declared a d x.0 r x.2)
+
+-- nor, but for that role, by a new descendant
+pub authorized_before_descendant : (a d : Name) (s : State) → has name_cmp d s.roles ≡ false → IsSound s → (user r : Name) → has name_cmp r s.roles ≡ true
+    → IsAuthorized (record s { roles = with_key name_cmp d s.roles; declared = with_key pair_cmp (a, d) s.declared }) user r → IsAuthorized s user r
+authorized_before_descendant a d s new h user r is x = let senior = (h.references.assigned user x.0 x.1).1 in ⊎_elim
+    (λ direct. (x.0, x.1, inherits_without d s.roles s.declared h.references.declared x.0 r senior direct))
+    (λ over. absurd (inherits_nothing d r s new is h over.1))
+    (inherits_over (with_key name_cmp d s.roles) s.declared a d x.0 r x.2)
+
 -- a name that is added is there
 pub is_there : (name : Name) (names : List Name) → has name_cmp name (with_key name_cmp name names) ≡ true
 is_there name names = has-with_key names_total name names name ∙ or_left _ _ (ties_itself names_total name)
@@ -173,11 +193,7 @@ sound_add_ascendant a d s none h =
     let is_d = not-false _ holds.1.0 in
     let more = with_key pair_cmp (a, d) s.declared in
     sound_with_pair a d (record s { roles = with_key name_cmp a s.roles }) (is_there a s.roles) (still names_total a s.roles d is_d) (not_inherited a d s holds.0 is_d h)
-    (static_stays s (record s { roles = with_key name_cmp a s.roles; declared = more }) h (λ u m. m)
-    (λ u r is x. let senior = (h.references.assigned u x.0 x.1).1 in ⊎_elim
-    (λ direct. (x.0, x.1, inherits_without a s.roles s.declared h.references.declared x.0 r senior direct))
-    (λ over. absurd (not_inherited a x.0 s holds.0 senior h over.0))
-    (inherits_over (with_key name_cmp a s.roles) s.declared a d x.0 r x.2)))
+    (static_stays s (record s { roles = with_key name_cmp a s.roles; declared = more }) h (λ u m. m) (λ u r is x. authorized_before_ascendant a d s holds.0 h u r x))
     (sound_with_role a s holds.0 (omega (arith, leb-false 1024 (length s.roles) holds.1.1.0)) h)
 
 pub sound_add_descendant : (a d : Name) (s : State) → first_denial (AddDescendant a d) s ≡ None → IsSound s → IsSound (change (AddDescendant a d) s)
@@ -186,11 +202,7 @@ sound_add_descendant a d s none h =
     let is_a = not-false _ holds.1.0 in
     let more = with_key pair_cmp (a, d) s.declared in
     sound_with_pair a d (record s { roles = with_key name_cmp d s.roles }) (still names_total d s.roles a is_a) (is_there d s.roles) (inherits_nothing d a s holds.0 is_a h)
-    (static_stays s (record s { roles = with_key name_cmp d s.roles; declared = more }) h (λ u m. m)
-    (λ u r is x. let senior = (h.references.assigned u x.0 x.1).1 in ⊎_elim
-    (λ direct. (x.0, x.1, inherits_without d s.roles s.declared h.references.declared x.0 r senior direct))
-    (λ over. absurd (inherits_nothing d r s holds.0 is h over.1))
-    (inherits_over (with_key name_cmp d s.roles) s.declared a d x.0 r x.2)))
+    (static_stays s (record s { roles = with_key name_cmp d s.roles; declared = more }) h (λ u m. m) (λ u r is x. authorized_before_descendant a d s holds.0 h u r is x))
     (sound_with_role d s holds.0 (omega (arith, leb-false 1024 (length s.roles) holds.1.1.0)) h)
 
 -- ---- Fewer roles and pairs

@@ -2,9 +2,11 @@
 #![tactic(auto)]
 
 mod change;
+mod counts;
 mod role_set;
 mod set_table;
 
+pub use counts::Counts;
 pub use role_set::RoleSet;
 pub use set_table::SetTable;
 

@@ -3,6 +3,7 @@ ghost use Rattle.std.specs.Prelude.{◌≡◌, ◌↔◌, IsTrue, IfOk, count_by
 ghost use Rattle.sorted_keys.specs.Keys.{has};
 ghost use Rattle.rbac_words.specs.Name.{name_cmp};
 ghost use Rattle.rbac_words.specs.Separation.{is_broken};
+ghost use Rattle.rbac_separation.specs.Counts.{is_over};
 
 use rbac_words::{Name, NameSet};
 use sorted_keys::{Duplicate, Same};
@@ -44,6 +45,13 @@ impl RoleSet {
         ensures { result ≡ is_broken roles.now self.now }
     {
         self.cardinality as usize <= self.count_among(roles)
+    }
+
+    // Whether this number, and how many of its roles are among these, come to its own number or more.
+    pub(crate) fn is_over(&self, number: u32, fresh: &NameSet) -> bool
+        ensures { result ≡ is_over number fresh.now self.now }
+    {
+        self.cardinality.saturating_sub(number) as usize <= self.count_among(fresh)
     }
 }
 

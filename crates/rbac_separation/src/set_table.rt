@@ -113,6 +113,13 @@ impl SetTable {
         }
     }
 
+    /// The sets with their names, in order of these.
+    pub fn entries(&self) -> &[(Name, RoleSet)]
+        ensures entries { result.now ≡ self.now.content }
+    {
+        self.sets.entries()
+    }
+
     /// The names of the sets.
     pub fn names(&self, alloc: Global) -> Result<NameSet, AllocError>
         ensures { IfOk result (λ names. names ≡ map (λ e. e.0) self.now.content) }

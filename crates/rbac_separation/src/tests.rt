@@ -1,6 +1,6 @@
 //! Each public call with ample memory. What is expected was written by hand.
 
-use crate::{RoleSet, SetTable};
+use crate::{Counts, RoleSet, SetTable};
 use rbac_words::{Name, NameSet};
 use sorted_keys::{Duplicate, Same};
 use std::alloc::Global;
@@ -250,4 +250,112 @@ fn one_set_is_copied_and_compared(rt: HostRuntime) -> Result<(), Fail> {
     copy.cardinality = 3;
     assert!(rt; !copy.same(&set));
     Ok(())
+}
+
+fn put(rt: &impl Abort, alloc: Global, counts: &mut Counts, set: &str, user: &str, number: u32) {
+    let set = name(rt, alloc, set);
+    let user = name(rt, alloc, user);
+    counts.put(&set, &user, number).expect(rt, "memory");
+    drop(set);
+    drop(user);
+}
+
+// Ann has 1 of d and 1 of e, and bob 2 of d.
+fn some_counts(rt: &impl Abort, alloc: Global) -> Counts {
+    let mut counts = Counts::empty(alloc);
+    put(rt, alloc, &mut counts, "d", "ann", 1);
+    put(rt, alloc, &mut counts, "e", "ann", 1);
+    put(rt, alloc, &mut counts, "d", "bob", 2);
+    counts
+}
+
+fn number(rt: &impl Abort, alloc: Global, counts: &Counts, set: &str, user: &str) -> u32 {
+    let set = name(rt, alloc, set);
+    let user = name(rt, alloc, user);
+    let number = counts.get(&set, &user);
+    drop(set);
+    drop(user);
+    number
+}
+
+// The numbers of d and e with ann, and of d with bob.
+fn assert_numbers(rt: &impl Abort, alloc: Global, counts: &Counts, wanted: (u32, u32, u32)) {
+    assert_eq!(rt; number(rt, alloc, counts, "d", "ann"), wanted.0);
+    assert_eq!(rt; number(rt, alloc, counts, "e", "ann"), wanted.1);
+    assert_eq!(rt; number(rt, alloc, counts, "d", "bob"), wanted.2);
+}
+
+#[test]
+fn a_number_is_that_of_a_set_and_a_user(rt: HostRuntime) {
+    let alloc = rt.alloc();
+    let empty = Counts::empty(alloc);
+    assert_numbers(&rt, alloc, &empty, (0, 0, 0));
+    let counts = some_counts(&rt, alloc);
+    assert_numbers(&rt, alloc, &counts, (1, 1, 2));
+    assert_eq!(rt; number(&rt, alloc, &counts, "e", "bob"), 0);
+    drop(counts);
+    drop(empty);
+}
+
+#[test]
+fn another_number_takes_its_place_and_0_takes_it_out(rt: HostRuntime) {
+    let alloc = rt.alloc();
+    let mut counts = some_counts(&rt, alloc);
+    put(&rt, alloc, &mut counts, "d", "ann", 3);
+    put(&rt, alloc, &mut counts, "d", "bob", 0);
+    put(&rt, alloc, &mut counts, "e", "bob", 0);
+    assert_numbers(&rt, alloc, &counts, (3, 1, 0));
+    drop(counts);
+}
+
+#[test]
+fn a_set_or_a_user_is_forgotten(rt: HostRuntime) {
+    let alloc = rt.alloc();
+    let mut counts = some_counts(&rt, alloc);
+    let mut copy = counts.copy().expect(&rt, "memory");
+    let set = name(&rt, alloc, "d");
+    counts.forget_set(&set);
+    assert_numbers(&rt, alloc, &counts, (0, 1, 0));
+    let user = name(&rt, alloc, "ann");
+    copy.forget_user(&user);
+    assert_numbers(&rt, alloc, &copy, (0, 0, 2));
+    drop(user);
+    drop(set);
+    drop(copy);
+    drop(counts);
+}
+
+// Whether the first set of which the user would have too many roles, with these besides, is this one: "" where there is none.
+fn is_over_with(
+    rt: &impl Abort,
+    alloc: Global,
+    counts: &Counts,
+    sets: &SetTable,
+    user: &str,
+    fresh: &[&str],
+    wanted: &str,
+) -> bool {
+    let user = name(rt, alloc, user);
+    let fresh = roles(rt, alloc, fresh);
+    let is = match counts.over_with(sets, &user, &fresh) {
+        Some(set) => set.as_bytes() == wanted.as_bytes(),
+        None => wanted.is_empty(),
+    };
+    drop(fresh);
+    drop(user);
+    is
+}
+
+#[test]
+fn fresh_roles_are_counted_besides(rt: HostRuntime) {
+    let alloc = rt.alloc();
+    let sets = two_sets(&rt, alloc);
+    let mut counts = Counts::empty(alloc);
+    put(&rt, alloc, &mut counts, "e", "ann", 1);
+    assert!(rt; is_over_with(&rt, alloc, &counts, &sets, "ann", &["a"], "e"));
+    assert!(rt; is_over_with(&rt, alloc, &counts, &sets, "ann", &["a", "b"], "d"));
+    assert!(rt; is_over_with(&rt, alloc, &counts, &sets, "ann", &["b", "z"], ""));
+    assert!(rt; is_over_with(&rt, alloc, &counts, &sets, "bob", &["a"], ""));
+    drop(counts);
+    drop(sets);
 }

@@ -1,12 +1,15 @@
-use Rattle.std.proofs.Common.{subst, sym}
+use Rattle.std.proofs.Common.{subst, sym, ap, ◌∙◌}
+use Rattle.rbac_words.specs.State.{State}
 use Rattle.rbac_words.specs.Sound.{IsSound}
 use Rattle.rbac_rules.proofs.SoundLemmas.{sound_founding}
+use Rattle.rbac_decide.specs.Counting.{authorized_count}
 use Rattle.rbac_decide.proofs.policy.Policy.found.Goals as goal
 
 pub invariant_of-result : goal.invariant_of-result
 invariant_of-result c = record {
   sound = subst IsSound (sym (c.new.ensures.state c.args.vocabulary)) (sound_founding c.args.vocabulary c.invariants.ensures);
   same_roles = c.new.ensures.same_roles;
+  counted = λ set user. (λ i. c.empty.ensures i set user) ∙ sym (ap (λ (s : State). authorized_count s set user) (c.new.ensures.state c.args.vocabulary));
 }
 
 pub returns : goal.returns

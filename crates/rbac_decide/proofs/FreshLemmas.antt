@@ -1,0 +1,121 @@
+-- What the roles that a user newly becomes authorized for break, with the counts that are kept.
+use Rattle.std.proofs.Common.{List, [], ◌∷◌, length, nat_le, count_by, Bool, true, false, not, ◌||◌, ◌&&◌, ◌≡◌, Some, is_some, refl, sym, ap, ◌∙◌}
+use Rattle.std.proofs.lemmas.Bool.{or_left, or_right}
+use Rattle.std.proofs.lemmas.List.{nil_from_length}
+use Rattle.std.specs.List.{list_any, AllByRecursion as Each}
+use Rattle.std.specs.FinMap.Entries.{find}
+use Rattle.std.specs.Ordering.{eq_by_cmp}
+use Rattle.sorted_keys.specs.Keys.{has, with_key}
+use Rattle.sorted_keys.proofs.Members.{has-with_key}
+use Rattle.rbac_words.specs.Name.{Name, name_cmp}
+use Rattle.rbac_words.specs.State.{State}
+use Rattle.rbac_words.specs.Separation.{RoleSet, is_broken_by, is_constrained}
+use Rattle.rbac_words.specs.Inheritance.{juniors}
+use Rattle.rbac_words.specs.Authorization.{inherits_in, is_authorized}
+use Rattle.rbac_words.specs.Sound.{IsSound}
+use Rattle.rbac_words.proofs.NameLemmas.{names_total, names_exact, one_key, ties_itself}
+use Rattle.rbac_words.proofs.ListLemmas.{Each-weaker}
+use Rattle.rbac_hierarchy.proofs.JuniorLemmas.{has_juniors}
+use Rattle.rbac_separation.specs.Counts.{first_over}
+use Rattle.rbac_decide.specs.Breaking.{breaks_with, breaks_below, is_constrained_junior}
+use Rattle.rbac_decide.specs.Counting.{count_in, authorized_count}
+use Rattle.rbac_decide.proofs.CountingLemmas.{count_same, over_is, found_each}
+use Rattle.rbac_decide.proofs.SeparationLemmas.{unbroken}
+
+-- each role of a set is constrained by the sets
+module _ (whole : List (Name × RoleSet)) where
+  each_constrained : (sets : List (Name × RoleSet)) → ((r : Name) → is_constrained r sets ≡ true → is_constrained r whole ≡ true)
+      → Each (λ e. (r : Name) → has name_cmp r e.1.roles ≡ true → is_constrained r whole ≡ true) sets
+  each_constrained [] are = tt
+  each_constrained (e ∷ es) are = (λ r m. are r (or_left _ _ m), each_constrained es (λ r m. are r (or_right _ _ m)))
+
+  -- what tests alike on the roles of the sets breaks the same sets
+  breaks_alike : (p q : Name → Bool) → ((r : Name) → is_constrained r whole ≡ true → p r ≡ q r) → (sets : List (Name × RoleSet))
+      → Each (λ e. (r : Name) → has name_cmp r e.1.roles ≡ true → is_constrained r whole ≡ true) sets → list_any (λ e. is_broken_by p e.1) sets ≡ list_any (λ e. is_broken_by q e.1) sets
+  breaks_alike p q same [] all = refl
+  breaks_alike p q same (e ∷ es) all = λ i. nat_le e.1.cardinality (count_same p q e.1.roles (λ r m. same r (all.0 r m)) i) || breaks_alike p q same es all.1 i
+
+module _ (s : State) (role user : Name) where
+  -- what the role inherits of the roles of static sets breaks what all that it inherits does
+  constrained_alike : list_any (λ e. is_broken_by (λ r. is_constrained_junior s role r || is_authorized s user r) e.1) s.static_sets ≡ breaks_with s role user
+  constrained_alike =
+      breaks_alike s.static_sets (λ r. is_constrained_junior s role r || is_authorized s user r) (λ r. inherits_in s role r || is_authorized s user r)
+      (λ r m. ap (λ b. (inherits_in s role r && b) || is_authorized s user r) m ∙ ap (λ b. b || is_authorized s user r) (and_true (inherits_in s role r)))
+      s.static_sets (each_constrained s.static_sets s.static_sets (λ r m. m))
+    where
+      and_true : (b : Bool) → (b && true) ≡ b
+      and_true true = refl
+      and_true false = refl
+
+  -- a count over with those of them that the user is not authorized for is a set broken with what the role inherits besides
+  pub breaks_fresh : IsSound s → (below fresh : List Name) → ((r : Name) → has name_cmp r below ≡ is_constrained_junior s role r)
+      → ((r : Name) → has name_cmp r fresh ≡ (has name_cmp r below && not (is_authorized s user r)))
+      → is_some (first_over (λ set. authorized_count s set user) fresh s.static_sets) ≡ breaks_with s role user
+  breaks_fresh h below fresh are told =
+      over_is (λ set. authorized_count s set user) (is_constrained_junior s role) (is_authorized s user) fresh (λ r. told r ∙ ap (λ b. b && not (is_authorized s user r)) (are r)) s.static_sets
+      (Each-weaker (λ (e : Name × RoleSet). find name_cmp e.0 s.static_sets ≡ Some e.1) (λ (e : Name × RoleSet). authorized_count s e.0 user ≡ count_by (is_authorized s user) e.1.roles) s.static_sets
+      (λ e found. ap (count_in (is_authorized s user)) found) (found_each names_total s.static_sets h.separation.static_sets.in_order))
+      ∙ constrained_alike
+
+  -- where it inherits none, a user of a sound policy breaks no set
+  breaks_none : IsSound s → ((r : Name) → is_constrained_junior s role r ≡ false) → has name_cmp user s.users ≡ true → breaks_with s role user ≡ false
+  breaks_none h none is =
+      sym constrained_alike
+      ∙ ap (λ t. list_any (λ e. is_broken_by t e.1) s.static_sets) (λ i r. none r i || is_authorized s user r)
+      ∙ unbroken s h user is
+
+pub breaks_none_below : (s : State) → IsSound s → (a d : Name) → ((r : Name) → is_constrained_junior s d r ≡ false) → breaks_below s a d ≡ false
+breaks_none_below s h a d none = go s.users (λ user m. m)
+  where
+    nothing : (b c : Bool) → c ≡ false → (b && c) ≡ false
+    nothing true c e = e
+    nothing false c e = refl
+
+    go : (users : List Name) → ((user : Name) → has name_cmp user users ≡ true → has name_cmp user s.users ≡ true) → list_any (λ user. is_authorized s user a && breaks_with s d user) users ≡ false
+    go [] are = refl
+    go (x ∷ xs) are = λ i.
+        nothing (is_authorized s x a) (breaks_with s d x) (breaks_none s d x h none (are x (or_left _ _ (ties_itself names_total x)))) i
+        || go xs (λ user m. are user (or_right _ _ m)) i
+
+-- what is gathered of the roles of static sets that a role inherits
+pub gathered : (s : State) (role : Name) (below kept : List Name) → below ≡ juniors s.roles s.declared role → ((r : Name) → has name_cmp r kept ≡ (has name_cmp r below && is_constrained r s.static_sets))
+    → (r : Name) → has name_cmp r kept ≡ is_constrained_junior s role r
+gathered s role below kept are told r = told r ∙ ap (λ b. b && is_constrained r s.static_sets) (ap (has name_cmp r) are ∙ has_juniors s.roles s.declared role r)
+
+-- where there is no static set no role is in one
+pub none_constrained : (s : State) → length s.static_sets ≡ 0 → (role r : Name) → is_constrained_junior s role r ≡ false
+none_constrained s none role r = ap (λ (sets : List (Name × RoleSet)). inherits_in s role r && is_constrained r sets) (nil_from_length s.static_sets none) ∙ go (inherits_in s role r)
+  where
+    go : (b : Bool) → (b && false) ≡ false
+    go true = refl
+    go false = refl
+
+-- ---- The loop that gathers the names that pass a test
+
+module _ (passes : Name → Bool) (x : Name) (rest fresh all : List Name)
+    (so_far : (r : Name) → (has name_cmp r fresh || (has name_cmp r (x ∷ rest) && passes r)) ≡ (has name_cmp r all && passes r)) where
+  pub kept_one : passes x ≡ true → (r : Name) → (has name_cmp r (with_key name_cmp x fresh) || (has name_cmp r rest && passes r)) ≡ (has name_cmp r all && passes r)
+  kept_one is r = ap (λ b. b || (has name_cmp r rest && passes r)) (has-with_key names_total x fresh r) ∙ go (eq_by_cmp name_cmp r x) refl (so_far r)
+    where
+      last : (b : Bool) → (b || true) ≡ true
+      last true = refl
+      last false = refl
+
+      go : (b : Bool) → eq_by_cmp name_cmp r x ≡ b → (has name_cmp r fresh || ((b || has name_cmp r rest) && passes r)) ≡ (has name_cmp r all && passes r)
+          → ((b || has name_cmp r fresh) || (has name_cmp r rest && passes r)) ≡ (has name_cmp r all && passes r)
+      go true e told = sym (last (has name_cmp r fresh)) ∙ ap (λ b. has name_cmp r fresh || b) (sym (ap passes (one_key names_exact r x e) ∙ is)) ∙ told
+      go false e told = told
+
+  pub kept_none : passes x ≡ false → (r : Name) → (has name_cmp r fresh || (has name_cmp r rest && passes r)) ≡ (has name_cmp r all && passes r)
+  kept_none is r = go (eq_by_cmp name_cmp r x) refl (so_far r)
+    where
+      nothing : (b : Bool) → (b && false) ≡ false
+      nothing true = refl
+      nothing false = refl
+
+      go : (b : Bool) → eq_by_cmp name_cmp r x ≡ b → (has name_cmp r fresh || ((b || has name_cmp r rest) && passes r)) ≡ (has name_cmp r all && passes r)
+          → (has name_cmp r fresh || (has name_cmp r rest && passes r)) ≡ (has name_cmp r all && passes r)
+      go true e told =
+          let none : passes r ≡ false = ap passes (one_key names_exact r x e) ∙ is in
+          ap (λ b. has name_cmp r fresh || b) (ap (λ b. has name_cmp r rest && b) none ∙ nothing (has name_cmp r rest) ∙ sym none) ∙ told
+      go false e told = told

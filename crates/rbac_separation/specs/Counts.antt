@@ -1,0 +1,41 @@
+-- Numbers kept of sets of roles and users, and what they say of a set.
+use Rattle.std.specs.Prelude.{ℕ, ◌+◌, List, [], ◌∷◌, Bool, ◌&&◌, Option, Some, None, if◌then◌else◌, nat_le, count_by}
+use Rattle.std.specs.Ordering.{eq_by_cmp}
+use Rattle.std.specs.Option.{unwrap_or}
+use Rattle.std.specs.FinMap.Entries.{find}
+use Rattle.sorted_keys.specs.Keys.{has}
+use Rattle.rbac_words.specs.Name.{Name, name_cmp, pair_cmp}
+use Rattle.rbac_words.specs.Separation.{RoleSet}
+
+-- numbers by the names of a set and a user
+pub record Counts : Type 0 where
+  pub content : List ((Name × Name) × ℕ)
+
+-- the number of a set and a user, 0 where there is none
+abbrev pub numbers_of : Counts → Name → Name → ℕ
+numbers_of counts set user = unwrap_or (find pair_cmp (set, user) counts.content) 0
+
+-- 0 for all
+abbrev pub no_numbers : Name → Name → ℕ
+no_numbers s u = 0
+
+-- another number for one set and one user
+abbrev pub with_number : Name → Name → ℕ → (Name → Name → ℕ) → Name → Name → ℕ
+with_number set user n numbers s u = if eq_by_cmp name_cmp set s && eq_by_cmp name_cmp user u then n else numbers s u
+
+-- 0 for a set, with each user
+abbrev pub without_set : Name → (Name → Name → ℕ) → Name → Name → ℕ
+without_set set numbers s u = if eq_by_cmp name_cmp set s then 0 else numbers s u
+
+-- 0 for a user, with each set
+abbrev pub without_user : Name → (Name → Name → ℕ) → Name → Name → ℕ
+without_user user numbers s u = if eq_by_cmp name_cmp user u then 0 else numbers s u
+
+-- a number and how many roles of the set are among these come to n or more
+abbrev pub is_over : ℕ → List Name → RoleSet → Bool
+is_over number fresh set = nat_le set.cardinality (number + count_by (λ r. has name_cmp r fresh) set.roles)
+
+-- the first of the sets, by name, of which they do
+abbrev pub first_over : (Name → ℕ) → List Name → List (Name × RoleSet) → Option Name
+first_over numbers fresh [] = None
+first_over numbers fresh (e ∷ es) = if is_over (numbers e.0) fresh e.1 then Some e.0 else first_over numbers fresh es
