@@ -1,2 +1,5 @@
+pub mod LeastLemmas
+pub mod MoveLemmas
 pub mod PassedLemmas
 pub mod PlaceLemmas
+pub mod QueueLemmas

@@ -1,2 +1,2 @@
 pub mod Holdback
-pub mod Inside
+pub mod Queues

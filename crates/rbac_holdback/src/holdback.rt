@@ -1,138 +1,128 @@
-//! The commands that are held, in the order of their stamps.
-ghost use Rattle.std.specs.Prelude.{◌≡◌, ◌==◌, ◌||◌, ◌≤◌, ◌↔◌, IsTrue, [], drop, length, IfErr, OnOk, OnErr, IfSome, IfNone};
+//! The commands that are held, as one queue for each sender.
+ghost use Rattle.std.specs.Prelude.{◌≡◌, ◌≤◌, ◌<◌, [], drop, length, max, IfErr, OnOk, OnErr, IfSome, IfNone, vec_len};
 ghost use Rattle.std.specs.List.{AllByRecursion};
+ghost use Rattle.std.specs.Option.{option_copied};
 ghost use Rattle.rbac_words.specs.Message.{submitted_at};
-ghost use Rattle.rbac_words.specs.Stamp.{IsBefore, has_passed, insert_by_stamp};
-ghost use Rattle.rbac_words.specs.Member.{is_passed};
+ghost use Rattle.rbac_words.specs.Stamp.{IsBefore, insert_by_stamp};
+ghost use Rattle.rbac_words.specs.World.{least as least_of};
+ghost use Rattle.rbac_holdback.specs.Holdback.{IsHoldback};
+ghost use Rattle.rbac_holdback.specs.Queues.{AreQueues, IsWidened, held_in, lists_of, lesser as lesser_of};
 
-use rbac_words::{Stamp, Submission as Held};
-use std::alloc::Global;
+use crate::held_queue::HeldQueue;
+use rbac_words::Submission as Held;
+use std::alloc::{AllocError, Global};
 use std::collections::VecDeque;
 use std::marker::Model;
 
-/// The commands that a member holds back, in the order of their stamps. Members are numbered from 1 to their count.
+/// The commands that a member holds back, as one queue for each sender.
+///
+/// Each member's stamps rise, so a queue is in the order of its stamps, and the least command is the least of the first ones.
 #[derive(Drop)]
 pub struct Holdback {
     members: u32,
-    held: VecDeque<Held>,
+    // how many commands are held
+    count: usize,
+    // item k - 1 is the queue of member k, where one is made
+    queues: Vec<VecDeque<Held>>,
 }
 
 impl Model for Holdback {
     ghost use Rattle.rbac_holdback.specs.Holdback.{Holdback as HoldbackValue};
+    ghost use Rattle.rbac_holdback.specs.Queues.{AreKept, held_in, lists_of};
 
     ghost Value = { HoldbackValue };
 
-    ghost use Rattle.rbac_holdback.specs.Inside.{holdback_of, IsKept};
+    ghost view = { λ h. record { members = h.members; held = held_in (lists_of h.queues.items) } };
 
-    ghost view = { holdback_of };
-
-    ghost invariant = { IsKept };
+    ghost invariant = { λ h. AreKept h.members h.count (lists_of h.queues.items) };
 }
 
-// Whether this member need not be waited for: it is this one or the stamp's own, or its latest stamp is greater.
-fn passes(member: usize, me: u32, latest: Option<Stamp>, stamp: Stamp) -> bool
-    ensures { result ≡ ((member == me || member == stamp.member) || has_passed latest stamp) }
+// Of two commands the one with the smaller stamp.
+fn lesser<'a>(one: Option<&'a Held>, other: Option<&'a Held>) -> Option<&'a Held>
+    ensures { option_copied result ≡ lesser_of (option_copied one.entry) (option_copied other.entry) }
 {
-    member == me as usize
-        || member == stamp.member as usize
-        || latest.is_some_and(|latest| stamp < latest)
+    let Some(first) = one else {
+        return other;
+    };
+    let Some(second) = other else {
+        return one;
+    };
+    if first.stamp < second.stamp {
+        one
+    } else {
+        other
+    }
 }
 
-// Whether no member need be waited for. Item k - 1 is the latest stamp of member k.
-fn is_passed_by_all(me: u32, latest: &[Option<Stamp>], held: &Held) -> bool
-    ensures { result ≡ is_passed (length latest.now) me latest.now held.now }
+// The least of the first commands of the queues.
+fn least_head(queues: &[VecDeque<Held>]) -> Option<&Held>
+    requires { AreQueues 0 (lists_of queues.now) }
+    ensures { option_copied result ≡ least_of (held_in (lists_of queues.now)) }
 {
-    for (place, last) in latest.iter().enumerate() {
-        if !passes(place + 1, me, *last, held.stamp) {
-            return false;
-        }
+    let mut least = None;
+    for queue in queues {
+        least = lesser(least, queue.front());
     }
-    true
+    least
 }
 
-impl Holdback {
-    ghost use Rattle.rbac_words.specs.Member.{is_least_passed};
-    ghost use Rattle.rbac_words.specs.World.{least as least_of};
-    ghost use Rattle.rbac_holdback.specs.Holdback.{IsHoldback};
-
-    /// What always holds of it.
-    pub fn invariants(&self)
-        ensures { IsHoldback self.now }
-    {
-        let _held = &self.held;
+// Makes queues that are empty, up to this count.
+fn make_queues(queues: &mut Vec<VecDeque<Held>>, count: usize) -> Result<(), AllocError>
+    ensures made { IsWidened (lists_of queues.old.items) (lists_of queues.new.items) }
+    ensures ok { OnOk result (vec_len queues.new ≡ max (vec_len queues.old) count) }
+    ensures err { OnErr result (vec_len queues.new ≡ vec_len queues.old) }
+{
+    if queues.len() < count {
+        let alloc = *queues.allocator();
+        queues.resize_with(count, || VecDeque::new(alloc))?;
     }
+    Ok(())
+}
 
-    /// Nothing is held, in a group of so many members. It takes no memory.
-    pub fn empty(alloc: Global, members: u32) -> Holdback
-        ensures members { result.members ≡ members }
-        ensures held { result.held ≡ [] }
-    {
+impl HeldQueue for Holdback {
+    ghost content = { λ h. h };
+
+    fn empty(alloc: Global, members: u32) -> Holdback {
         Holdback {
             members,
-            held: VecDeque::new(alloc),
+            count: 0,
+            queues: Vec::new(alloc),
         }
     }
 
-    /// How many commands are held.
-    pub fn len(&self) -> usize
-        ensures { result ≡ length self.now.held }
-    {
-        self.held.len()
+    fn len(&self) -> usize {
+        self.count
     }
 
-    /// Whether no command is held.
-    pub fn is_empty(&self) -> bool
-        ensures { IsTrue result ↔ (self.now.held ≡ []) }
-    {
-        self.held.is_empty()
-    }
-
-    /// Holds a command, before the first one with a greater stamp. Each member's stamps rise, so it comes after those of
-    /// its own member. Where memory is wanting, the command is handed back.
-    pub fn put(&mut self, held: Held) -> Result<(), Held>
-        requires member { (1 ≤ held.stamp.member) × (held.stamp.member ≤ self.old.members) }
-        requires above { AllByRecursion (λ x. x.stamp.member ≡ held.stamp.member → IsBefore x.stamp held.stamp) self.old.held }
-        ensures members { self.new.members ≡ self.old.members }
-        ensures held { OnOk result (self.new.held ≡ insert_by_stamp submitted_at held self.old.held) }
-        ensures handed_back { IfErr result (λ back. back ≡ held) }
-        ensures unchanged { OnErr result (self.new.held ≡ self.old.held) }
-    {
-        let stamp = held.stamp;
-        let place = self.held.partition_point(|other| other.stamp <= stamp);
-        match self.held.insert(place, held) {
-            Ok(()) => Ok(()),
+    fn put(&mut self, held: Held) -> Result<(), Held> {
+        let member = held.stamp.member as usize;
+        // no memory holds more commands than can be counted
+        let Some(count) = self.count.checked_add(1) else {
+            return Err(held);
+        };
+        if make_queues(&mut self.queues, member).is_err() {
+            return Err(held);
+        }
+        match self.queues[member - 1].push_back(held) {
+            Ok(()) => {
+                self.count = count;
+                Ok(())
+            }
             Err(failed) => Err(failed.value),
         }
     }
 
-    /// The command with the least stamp, if one is held. It takes no memory.
-    pub fn least(&self) -> Option<&Held>
-        ensures least { IfSome result (λ x. least_of self.now.held ≡ Some x.now) }
-        ensures none { IfNone result (self.now.held ≡ []) }
-    {
-        self.held.front()
+    fn least(&self) -> Option<&Held> {
+        least_head(&self.queues)
     }
 
-    /// Takes the command with the least stamp out, if one is held. It takes no memory.
-    pub fn take_least(&mut self) -> Option<Held>
-        ensures members { self.new.members ≡ self.old.members }
-        ensures least { result ≡ least_of self.old.held }
-        ensures rest { self.new.held ≡ drop 1 self.old.held }
-    {
-        self.held.pop_front()
+    fn take_least(&mut self) -> Option<Held> {
+        let member = least_head(&self.queues)?.stamp.member as usize;
+        self.count -= 1;
+        self.queues[member - 1].pop_front()
     }
 
-    /// Whether the least command is stable: by the latest stamp of each member's messages, item k - 1 for member k, each
-    /// member but `me` and the command's own has passed it, so no command that comes later has a smaller stamp. False
-    /// where nothing is held (Lamport 1978, "Ordering the Events Totally").
-    pub fn stable(&self, me: u32, latest: &[Option<Stamp>]) -> bool
-        requires latest { length latest.now ≡ self.now.members }
-        requires me { (1 ≤ me) × (me ≤ self.now.members) }
-        ensures { result ≡ is_least_passed self.now.members me latest.now self.now.held }
-    {
-        match self.held.front() {
-            None => false,
-            Some(least) => is_passed_by_all(me, latest, least),
-        }
+    fn invariants(&self) {
+        let _queues = &self.queues;
     }
 }

@@ -2,9 +2,14 @@
 //! "Ordering the Events Totally": the request queue).
 #![tactic(auto)]
 
+mod held_queue;
 mod holdback;
+mod list_held;
+mod passing;
 
+pub use held_queue::HeldQueue;
 pub use holdback::Holdback;
+pub use list_held::ListHeld;
 pub use rbac_words::Submission as Held;
 
 #[cfg(test)]

@@ -8,7 +8,7 @@ mod submit;
 
 use crate::refusal::FoundRefusal;
 use rbac_decide::Policy;
-use rbac_holdback::Holdback;
+use rbac_holdback::{HeldQueue, Holdback};
 use rbac_links::{Inlinks, Outbox};
 use rbac_words::{Group, Message, Record, Vocabulary};
 use sorted_keys::SortedMap;

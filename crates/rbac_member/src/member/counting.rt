@@ -6,7 +6,7 @@ ghost use Rattle.rbac_words.specs.Message.{submitted_at, submissions_of};
 ghost use Rattle.rbac_member.specs.Lists.{CanBeHeld};
 ghost use Rattle.rbac_member.specs.Serials.{counted, counted_of};
 
-use rbac_holdback::{Held, Holdback};
+use rbac_holdback::{Held, HeldQueue, Holdback};
 use rbac_words::Message;
 use sorted_keys::SortedMap;
 use std::alloc::AllocError;

@@ -3,7 +3,7 @@ ghost use Rattle.std.specs.Prelude.{◌≡◌, ◌≢◌, ◌<◌, [], true, is_
 ghost use Rattle.rbac_member.specs.Lists.{TakesOver};
 
 use crate::member::Member;
-use rbac_holdback::{Held, Holdback};
+use rbac_holdback::{Held, HeldQueue, Holdback};
 use rbac_words::{Answer, Record};
 use std::alloc::{AllocError, Global};
 

@@ -1,6 +1,6 @@
 use Rattle.std.proofs.Common.{true, false, sym, ◌∙◌}
 use Rattle.rbac_holdback.proofs.PassedLemmas.{passed_step}
-use Rattle.rbac_holdback.proofs.holdback.is_passed_by_all.Goals as goal
+use Rattle.rbac_holdback.proofs.passing.is_passed_by_all.Goals as goal
 
 pub loop-place-preserved : goal.loop-place-preserved
 loop-place-preserved c =
