@@ -13,15 +13,31 @@ use std::alloc::Global;
 use std::marker::Brand;
 use std::process::Abort;
 use std::sync::Wait;
+use std::sync::atomic::{AtomicU64, Ordering};
 
-// Loses every hint.
+// Loses every hint, and counts them and the wakes that were asked of it.
 #[derive(Drop)]
-struct Lost;
+struct Lost {
+    told: AtomicU64,
+    asked: AtomicU64,
+}
+
+impl Lost {
+    fn new() -> Lost {
+        Lost {
+            told: AtomicU64::new(0),
+            asked: AtomicU64::new(0),
+        }
+    }
+}
 
 impl Courier for Lost {
-    fn tell(&self, _to: u32, _hint: Hint) {}
+    fn tell(&self, _to: u32, _hint: Hint) {
+        self.told.fetch_add(1, Ordering::SeqCst);
+    }
 
     fn next(&self, _at: u32) -> Wake {
+        self.asked.fetch_add(1, Ordering::SeqCst);
         Wake::Sweep
     }
 }
@@ -79,7 +95,7 @@ fn founded<G: GroupName>(
     requires names { (group ≡ G.group) × (words ≡ G.vocabulary) × (rows ≡ G.cells) }
     requires members { length rows.sent ≡ group.members }
 {
-    let service = Service::found(alloc, rows, group, words, NoGate, Lost);
+    let service = Service::found(alloc, rows, group, words, NoGate, Lost::new());
     service.expect(rt, "memory")
 }
 
@@ -173,6 +189,29 @@ fn expect_stopped<G: GroupName, R: Wait + Abort>(
 {
     let found = service.await_answer(rt, pass, ticket);
     assert!(rt; matches!(&found, Err(AwaitRefusal::Stopped(_))));
+}
+
+// Stops the service, which gives a hint to each of so many members.
+fn expect_stop<G: GroupName, R: Wait + Abort>(
+    rt: &R,
+    service: &Service<G, NoGate, Lost>,
+    members: u64,
+) {
+    let told = service.courier.told.load(Ordering::SeqCst);
+    service.stop(rt);
+    let told_now = service.courier.told.load(Ordering::SeqCst);
+    assert_eq!(rt; told_now.wrapping_sub(told), members);
+}
+
+// A member's thread gives up at its first wake.
+fn expect_end<G: GroupName, R: Wait + Abort>(
+    rt: &R,
+    alloc: Global,
+    service: &Service<G, NoGate, Lost>,
+    at: u32,
+) {
+    assert_eq!(rt; service.pump(rt, alloc, at), PumpEnd::GaveUp);
+    assert_eq!(rt; service.courier.asked.load(Ordering::SeqCst), 1);
 }
 
 // A command is submitted, and answered once the members took their turns. Until then the pass is busy.
@@ -280,13 +319,16 @@ fn run_alone<G: GroupName, R: Wait + Abort>(
     let mut other = new_pass(rt, &service, 1);
     expect_no_pass(rt, &service, 2, EnrollRefusal::UnknownMember);
     talk(rt, alloc, &service, &mut one, &mut other);
-    service.stop(rt);
+    expect_stop(rt, &service, 1);
     expect_refusal(rt, alloc, &service, &mut one, ServiceRefusal::Stopped);
     expect_no_pass(rt, &service, 1, EnrollRefusal::Stopped);
     let mut nodes = service.take_nodes();
     expect_audit(rt, alloc, &mut nodes, &[3]);
     expect_confirmed(rt, &mut nodes, &mut one);
     expect_confirmed(rt, &mut nodes, &mut other);
+    drop(nodes);
+    drop(one);
+    drop(other);
 }
 
 #[test]
@@ -317,13 +359,16 @@ fn run_two<G: GroupName, R: Wait + Abort>(
     let added = add_ann(rt, alloc);
     expect_answer(rt, alloc, &service, &mut one, added, 0, Answer::Done);
     let ticket = submitted(rt, alloc, &service, &mut other, roles_of_ann(rt, alloc));
-    service.stop(rt);
+    expect_stop(rt, &service, 2);
     expect_stopped(rt, &service, &mut other, ticket);
     expect_fronts(rt, &one, &other, (1, 0));
     let mut nodes = service.take_nodes();
     expect_audit(rt, alloc, &mut nodes, &[1, 1]);
     nodes.reverse();
     assert!(rt; is_no_group(alloc, &mut nodes));
+    drop(nodes);
+    drop(one);
+    drop(other);
 }
 
 #[test]
@@ -373,9 +418,11 @@ fn run_spoiled<G: GroupName, R: Wait + Abort>(
     assert_eq!(rt; service.pump(rt, alloc, 2), PumpEnd::UnknownMember);
     let mut pass = new_pass(rt, &service, 1);
     let ticket = submitted(rt, alloc, &service, &mut pass, add_ann(rt, alloc));
-    assert_eq!(rt; service.pump(rt, alloc, 1), PumpEnd::GaveUp);
+    expect_end(rt, alloc, &service, 1);
     expect_stopped(rt, &service, &mut pass, ticket);
     expect_refusal(rt, alloc, &service, &mut pass, ServiceRefusal::Stopped);
+    drop(service);
+    drop(pass);
 }
 
 #[test]

@@ -5,6 +5,7 @@ use crate::{
     ChannelCourier, Courier, Gate, GroupName, Hint, Moment, NoGate, Pass, PumpEnd, Rows, Service,
     Wake, audit,
 };
+use crossbeam_channel::{Receiver, Sender, unbounded};
 use rbac_words::{Command, Group, Name, Stamp, Vocabulary};
 use std::alloc::Global;
 use std::marker::Brand;
@@ -238,4 +239,62 @@ fn lost_and_repeated_hints_lose_no_answer(rt: HostRuntime) {
     let group = two_members(&rt);
     let rows = rows_of(&rt, alloc, group);
     run_with_losses::<Brand, _>(&rt, alloc, rows, group, words_of(&rt, alloc));
+}
+
+// Two channels. It waits for a hint, and never sweeps.
+#[derive(Drop)]
+struct Patient<R: Wait + Drop> {
+    rt: R,
+    first: (Sender<Hint>, Receiver<Hint>),
+    second: (Sender<Hint>, Receiver<Hint>),
+}
+
+impl<R: Wait + Drop> Patient<R> {
+    fn channel(&self, member: u32) -> &(Sender<Hint>, Receiver<Hint>) {
+        if member == 1 {
+            &self.first
+        } else {
+            &self.second
+        }
+    }
+}
+
+impl<R: Wait + Drop> Courier for Patient<R> {
+    fn tell(&self, to: u32, hint: Hint) {
+        let _lost = self.channel(to).0.send(&self.rt, hint);
+    }
+
+    fn next(&self, at: u32) -> Wake {
+        match self.channel(at).1.recv(&self.rt) {
+            Ok(hint) => Wake::Hint(hint),
+            Err(_) => Wake::Sweep,
+        }
+    }
+}
+
+fn run_with_patience<
+    G: GroupName + Send + Sync,
+    R: Threads + Wait + Abort + Copy + Drop + Send + Sync,
+>(rt: &R, alloc: Global, rows: Rows, group: Group, words: Vocabulary)
+    requires names { (group ≡ G.group) × (words ≡ G.vocabulary) × (rows ≡ G.cells) }
+    requires members { length rows.sent ≡ group.members }
+{
+    let courier = Patient {
+        rt: *rt,
+        first: unbounded(alloc).expect(rt, "memory"),
+        second: unbounded(alloc).expect(rt, "memory"),
+    };
+    let found = Service::found(alloc, rows, group, words, NoGate, courier);
+    let service: Service<G, NoGate, Patient<R>> = found.expect(rt, "memory");
+    assert!(rt; run_threads(rt, alloc, &service, 6));
+    expect_audit(rt, alloc, service, 12);
+}
+
+// Where no hint is lost, nobody has to sweep: neither for an answer, nor to see the stop.
+#[test]
+fn hints_alone_bring_answers_and_the_stop(rt: HostRuntime) {
+    let alloc = rt.alloc();
+    let group = two_members(&rt);
+    let rows = rows_of(&rt, alloc, group);
+    run_with_patience::<Brand, _>(&rt, alloc, rows, group, words_of(&rt, alloc));
 }

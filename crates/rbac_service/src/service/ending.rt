@@ -1,7 +1,7 @@
 //! The end of a service.
 ghost use Rattle.std.specs.Prelude.{◌≡◌, ◌≤◌, vec_len, vec_capacity};
 
-use crate::courier::Courier;
+use crate::courier::{Courier, Hint};
 use crate::gate::Gate;
 use crate::service::{Room, Service, Slot};
 use rbac_node::{GroupName, Node};
@@ -23,11 +23,16 @@ fn taken<G: GroupName>(mut slots: Vec<Slot<G>>, mut room: Vec<Node<G>>) -> Vec<N
 }
 
 impl<G: GroupName, K: Gate + Drop, C: Courier + Drop> Service<G, K, C> {
-    /// Stops all members: nothing more is submitted, and no caller waits any more. It may wait for each member's lock.
+    /// Stops all members: nothing more is submitted, and no caller waits any more. Each member then gets a hint, at which its
+    /// thread ends. It may wait for each member's lock.
     pub fn stop<R: Wait>(&self, rt: &R) {
         for slot in &self.slots {
             slot.node.lock(rt).stop();
-            slot.changed.notify_all();
+            slot.waiting.wake_all();
+        }
+        for place in 0..self.slots.len() as u32 {
+            let from = place + 1;
+            self.courier.tell(from, Hint { from, number: 0 });
         }
     }
 
