@@ -38,7 +38,8 @@ struct Channel {
     receiver: Receiver<Hint>,
 }
 
-/// A channel without a bound for each member. Where no hint comes for 20 milliseconds, the wake is a sweep.
+/// A channel without a bound for each member. Where no hint comes for 20 milliseconds, the wake is a sweep, and where several
+/// hints lie there, all of them are one.
 #[derive(Drop)]
 pub struct ChannelCourier<R: Wait + Clock + Drop> {
     rt: R,
@@ -57,6 +58,13 @@ impl<R: Wait + Clock + Drop> ChannelCourier<R> {
             channels.push(Channel { sender, receiver })?;
         }
         Ok(ChannelCourier { rt, channels })
+    }
+
+    // Takes so many hints, or fewer.
+    fn skip(&self, receiver: &Receiver<Hint>, hints: usize) {
+        for _ in 0..hints {
+            let _skipped = receiver.try_recv(&self.rt);
+        }
     }
 
     fn channel(&self, member: u32) -> Option<&Channel> {
@@ -79,7 +87,11 @@ impl<R: Wait + Clock + Drop> Courier for ChannelCourier<R> {
             .receiver
             .recv_timeout(&self.rt, Duration::from_millis(20))
         {
-            Ok(hint) => Wake::Hint(hint),
+            Ok(hint) if channel.receiver.is_empty() => Wake::Hint(hint),
+            Ok(_) => {
+                self.skip(&channel.receiver, channel.receiver.len());
+                Wake::Sweep
+            }
             Err(_) => Wake::Sweep,
         }
     }

@@ -7,20 +7,22 @@ mod calls;
 mod ending;
 mod pump;
 mod turn;
+mod waiting;
 
 use crate::courier::Courier;
 use crate::gate::Gate;
+use crate::service::waiting::Waiting;
 pub use pump::PumpEnd;
 use rbac_node::{GroupName, Node, Rows};
 use rbac_words::{Group, Vocabulary};
 use std::alloc::{AllocError, Global};
-use std::sync::{Condvar, Mutex};
+use std::sync::Mutex;
 
-/// A member's lock, and the condition that it has published records or was stopped.
+/// A member's lock, and its callers that wait for answers or for the stop.
 #[derive(Drop)]
 pub(crate) struct Slot<G: GroupName> {
     pub(crate) node: Mutex<Node<G>>,
-    pub(crate) changed: Condvar,
+    pub(crate) waiting: Waiting,
 }
 
 // Room for the nodes, once they are taken out of their locks. It has a lock too: a node is no `Sync`, and a lock makes it one.
@@ -61,7 +63,7 @@ fn found_slot<G: GroupName>(
     let node = Node::found(alloc, rows, group, number, vocabulary.copy()?)?;
     Ok(Slot {
         node: Mutex::new(node),
-        changed: Condvar::new(),
+        waiting: Waiting::found(alloc)?,
     })
 }
 

@@ -71,7 +71,7 @@ impl<G: GroupName, K: Gate + Drop, C: Courier + Drop> Service<G, K, C> {
         let _published = self.publish(alloc, &mut node);
         let shown = node.published();
         drop(node);
-        self.tell(pass.member(), shown);
+        self.tell(pass.member(), shown, pass.member());
         self.gate.at(Moment::Submitted(ticket.stamp()));
         Ok(ticket)
     }
@@ -111,7 +111,7 @@ impl<G: GroupName, K: Gate + Drop, C: Courier + Drop> Service<G, K, C> {
             if node.is_stopped() {
                 return Err(AwaitRefusal::Stopped(ticket));
             }
-            node = slot.changed.wait(rt, node);
+            node = slot.waiting.wait(rt, ticket.stamp(), node);
         }
         unreachable!()
     }

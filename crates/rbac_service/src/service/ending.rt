@@ -28,7 +28,11 @@ impl<G: GroupName, K: Gate + Drop, C: Courier + Drop> Service<G, K, C> {
     pub fn stop<R: Wait>(&self, rt: &R) {
         for slot in &self.slots {
             slot.node.lock(rt).stop();
-            slot.changed.notify_all();
+            slot.waiting.wake_all();
+        }
+        for place in 0..self.slots.len() as u32 {
+            let from = place + 1;
+            self.courier.tell(from, Hint { from, number: 0 });
         }
         for place in 0..self.slots.len() as u32 {
             let from = place + 1;

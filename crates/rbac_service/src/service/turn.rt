@@ -2,7 +2,8 @@
 
 use crate::courier::{Courier, Hint, Wake};
 use crate::gate::Gate;
-use crate::service::{Service, Slot};
+use crate::service::Service;
+use crate::service::waiting::Answered;
 use rbac_node::{GroupName, Node, NodeRefusal, PublishRefusal};
 use std::alloc::{AllocError, Global};
 use std::sync::Wait;
@@ -17,6 +18,13 @@ pub(crate) enum Turn {
     Stopped,
     // somebody else has set a cell of the member's rows
     Broken,
+}
+
+// A node's own commands among those whose records were published from a place on.
+fn answered_since<G: GroupName>(node: &Node<G>, from: usize) -> Answered {
+    let member = node.member();
+    let published = member.history().get(from..node.published_records());
+    Answered::of(published.unwrap_or(&[]), member.number())
 }
 
 impl<G: GroupName, K: Gate + Drop, C: Courier + Drop> Service<G, K, C> {
@@ -57,17 +65,19 @@ impl<G: GroupName, K: Gate + Drop, C: Courier + Drop> Service<G, K, C> {
     }
 
     // Tells each other member that this one has published its messages up to a number, and itself where it is alone: a member's
-    // own message brings it nothing that is due while there are others.
-    pub(crate) fn tell(&self, from: u32, number: usize) {
+    // own message brings it nothing that is due while there are others. It begins with the first, since that one may wait.
+    pub(crate) fn tell(&self, from: u32, number: usize, first: u32) {
         let members = self.slots.len() as u32;
-        for place in 0..members {
-            if place + 1 != from || members == 1 {
-                self.courier.tell(place + 1, Hint { from, number });
+        for step in 0..members {
+            let place = (first.saturating_sub(1) % members).wrapping_add(step) % members;
+            let at = place + 1;
+            if at != from || members == 1 {
+                self.courier.tell(at, Hint { from, number });
             }
         }
     }
 
-    // One turn of a member. Those who wait are woken where records were published.
+    // One turn of a member. Those who wait are woken where their answers were published.
     pub(crate) fn turn<R: Wait>(&self, rt: &R, alloc: Global, at: u32, wake: Wake) -> Turn {
         let Some(slot) = self.slot(at) else {
             return Turn::Stopped;
@@ -77,16 +87,19 @@ impl<G: GroupName, K: Gate + Drop, C: Courier + Drop> Service<G, K, C> {
             return Turn::Stopped;
         }
         let (sent, records) = (node.published(), node.published_records());
+        let first = match wake {
+            Wake::Hint(hint) => hint.from,
+            Wake::Sweep => 1,
+        };
         let received = self.receive(&mut node, wake);
         let delivered = node.deliver_all(alloc);
         let published = self.publish(alloc, &mut node);
-        let (sent_now, records_now) = (node.published(), node.published_records());
+        let sent_now = node.published();
+        let answered = answered_since(&node, records);
         drop(node);
-        if records_now != records {
-            slot.changed.notify_all();
-        }
+        slot.waiting.wake(answered);
         if sent_now != sent {
-            self.tell(at, sent_now);
+            self.tell(at, sent_now, first);
         }
         match published {
             Err(PublishRefusal::Taken) | Err(PublishRefusal::RowFull) => Turn::Broken,

@@ -1,0 +1,5 @@
+use Rattle.std.proofs.Common.{◌≡◌, vec_len}
+use Rattle.rbac_service.proofs.service.waiting.found_places.Given as goal
+
+abbrev pub invariant-loop : goal.invariant-loop
+invariant-loop l = vec_len l.places ≡ l.counter
