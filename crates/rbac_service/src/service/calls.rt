@@ -10,6 +10,7 @@ use crate::courier::Courier;
 use crate::gate::{Gate, Moment};
 use crate::refusal::{AwaitRefusal, CallRefusal, EnrollRefusal};
 use crate::service::Service;
+use crate::service::turn::answered_since;
 use rbac_node::{GroupName, MeetRefusal, Node, Pass, Receipt, ServiceRefusal, Ticket};
 use rbac_words::{Command, Record};
 use std::alloc::{AllocError, Global};
@@ -68,9 +69,11 @@ impl<G: GroupName, K: Gate + Drop, C: Courier + Drop> Service<G, K, C> {
         };
         let mut node = slot.node.lock(rt);
         let ticket = pass.submit(&mut node, command)?;
+        let records = node.published_records();
         let _published = self.publish(alloc, &mut node);
-        let shown = node.published();
+        let (shown, answered) = (node.published(), answered_since(&node, records));
         drop(node);
+        slot.waiting.wake(answered);
         self.tell(pass.member(), shown, pass.member());
         self.gate.at(Moment::Submitted(ticket.stamp()));
         Ok(ticket)

@@ -34,10 +34,6 @@ impl<G: GroupName, K: Gate + Drop, C: Courier + Drop> Service<G, K, C> {
             let from = place + 1;
             self.courier.tell(from, Hint { from, number: 0 });
         }
-        for place in 0..self.slots.len() as u32 {
-            let from = place + 1;
-            self.courier.tell(from, Hint { from, number: 0 });
-        }
     }
 
     /// The members' nodes, in order of number. It takes no memory, and does not wait.

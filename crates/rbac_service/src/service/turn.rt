@@ -20,8 +20,8 @@ pub(crate) enum Turn {
     Broken,
 }
 
-// A node's own commands among those whose records were published from a place on.
-fn answered_since<G: GroupName>(node: &Node<G>, from: usize) -> Answered {
+/// A node's own commands among those whose records were published from a place on.
+pub(crate) fn answered_since<G: GroupName>(node: &Node<G>, from: usize) -> Answered {
     let member = node.member();
     let published = member.history().get(from..node.published_records());
     Answered::of(published.unwrap_or(&[]), member.number())
