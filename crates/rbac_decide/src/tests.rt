@@ -5,7 +5,6 @@ use rbac_words::{Answer, Command, Denial, Name, NameSet, Review, Separation, Voc
 use sorted_keys::SortedSet;
 use std::alloc::Global;
 use std::process::Abort;
-use std::test::Fail;
 
 fn name(rt: &impl Abort, alloc: Global, text: &str) -> Name {
     Name::read(alloc, text.as_bytes()).expect(rt, "a name")
@@ -127,6 +126,7 @@ fn applies_changes_and_checks(rt: HostRuntime) {
     expect_access(&rt, rt.alloc(), &mut policy, "s2", Answer::Refused);
     let denied = Answer::Denied(Denial::NoSession);
     expect_access(&rt, rt.alloc(), &mut policy, "zz", denied);
+    drop(policy);
 }
 
 fn expect_review(
@@ -156,6 +156,7 @@ fn applies_reviews(rt: HostRuntime) {
     };
     let denied = Answer::Denied(Denial::NoSet);
     expect_review(&rt, rt.alloc(), &mut policy, review, denied);
+    drop(policy);
 }
 
 // Whether a check is answered so: granted or not, or the denial's number.
@@ -195,6 +196,8 @@ fn checks_without_a_command(rt: HostRuntime) {
         expect_check(&rt, rt.alloc(), &policy, words, wanted);
         expect_check(&rt, rt.alloc(), &copy, words, wanted);
     }
+    drop(policy);
+    drop(copy);
 }
 
 #[test]
@@ -204,14 +207,21 @@ fn tells_equal_policies(rt: HostRuntime) {
     assert!(rt; policy.same(&copy));
     open_session(&rt, rt.alloc(), &mut policy, "s3", &[]);
     assert!(rt; !policy.same(&copy));
+    drop(policy);
+    drop(copy);
+}
+
+fn add_numbered_role(rt: &impl Abort, alloc: Global, policy: &mut Policy, number: u32) {
+    let role = format!(in alloc; "r{number}").expect(rt, "memory");
+    add_role(rt, alloc, policy, role.as_str());
+    drop(role);
 }
 
 #[test]
-fn stops_at_the_limit_of_roles(rt: HostRuntime) -> Result<(), Fail> {
+fn stops_at_the_limit_of_roles(rt: HostRuntime) {
     let mut policy = founded(&rt, rt.alloc());
     for number in 0..1024 {
-        let role = format!(in rt.alloc(); "r{number}")?;
-        add_role(&rt, rt.alloc(), &mut policy, role.as_str());
+        add_numbered_role(&rt, rt.alloc(), &mut policy, number);
     }
     let role = name(&rt, rt.alloc(), "r1024");
     let limit = Answer::Denied(Denial::Limit);
@@ -222,7 +232,7 @@ fn stops_at_the_limit_of_roles(rt: HostRuntime) -> Result<(), Fail> {
         Command::AddRole { role },
         limit,
     );
-    Ok(())
+    drop(policy);
 }
 
 // The command that makes the static set of this number, of the roles a and b.
@@ -248,6 +258,7 @@ fn stops_at_the_limit_of_sets(rt: HostRuntime) {
     let command = set_command(&rt, rt.alloc(), 256);
     let limit = Answer::Denied(Denial::Limit);
     expect_answer(&rt, rt.alloc(), &mut policy, command, limit);
+    drop(policy);
 }
 
 // The static set d of three of a, b and c, and ann, who is assigned a.
