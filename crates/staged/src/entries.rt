@@ -1,0 +1,91 @@
+//! Maps that are changed by plans.
+ghost use Rattle.std.specs.Prelude.{◌≡◌, Bool, List, Option, IfOk, if◌then◌else◌};
+ghost use Rattle.std.specs.Option.{option_copied, option_or};
+ghost use Rattle.std.specs.FinMap.Entries.{find};
+ghost use Rattle.staged.specs.Entries.{with_entry};
+ghost use Rattle.staged.specs.Made.{made_all};
+
+use crate::staged::Staged;
+use sorted_keys::SortedMap;
+use std::alloc::{AllocError, Global};
+
+/// A change of what stands at one key of a map.
+pub trait EntryChange<K, V> {
+    /// The key.
+    ghost key: { Self → K };
+
+    /// The value after the change, by the value before it. Where it gives none, nothing changes.
+    ghost becomes: { Self → Option V → Option V };
+
+    /// The key, with memory of its own.
+    fn key(&self) -> Result<K, AllocError>
+        ensures { IfOk result (λ own. own ≡ key self.now) };
+
+    /// The value after the change, with memory of its own.
+    fn value(&self, alloc: Global, found: Option<&V>) -> Result<Option<V>, AllocError>
+        ensures { IfOk result (λ value. value ≡ becomes self.now (option_copied found.entry)) };
+}
+
+// The newer of two values, where it is at the key that is asked for.
+fn newer<'a, V>(is_here: bool, value: &'a Option<V>, found: Option<&'a V>) -> Option<&'a V>
+    ensures { option_copied result ≡ (if is_here then option_or value.now (option_copied found.entry) else option_copied found.entry) }
+{
+    if !is_here {
+        return found;
+    }
+    match value {
+        Some(newer) => Some(newer),
+        None => found,
+    }
+}
+
+// What stands at the key after these steps.
+fn found_after<'a, K: Ord + Drop, V: Drop>(
+    map: &'a SortedMap<K, V>,
+    steps: &'a [(K, Option<V>)],
+    key: &K,
+) -> Option<&'a V>
+    ensures { option_copied result ≡ find K.cmp key.now (made_all (λ step. with_entry K.cmp step.0 step.1) steps.now map.now.content) }
+{
+    let mut found = map.get(key);
+    for step in steps {
+        found = newer(key.cmp(&step.0).is_eq(), &step.1, found);
+    }
+    found
+}
+
+impl<K: Ord + Drop, V: Drop, C: EntryChange<K, V>> Staged<C> for SortedMap<K, V> {
+    type Step = (K, Option<V>);
+
+    ghost Content = { List (K × V) };
+
+    ghost content = { λ m. m.content };
+
+    ghost room = { λ m. m.room };
+
+    ghost changed = { λ change es. with_entry K.cmp (C.key change) (C.becomes change (find K.cmp (C.key change) es)) es };
+
+    ghost made = { λ step es. with_entry K.cmp step.0 step.1 es };
+
+    fn prepare(
+        &self,
+        alloc: Global,
+        before: &[(K, Option<V>)],
+        change: &C,
+    ) -> Result<(K, Option<V>), AllocError> {
+        let key = change.key()?;
+        let value = change.value(alloc, found_after(self, before, &key))?;
+        Ok((key, value))
+    }
+
+    fn make_room(&mut self, _alloc: Global, more: usize) -> Result<(), AllocError> {
+        self.reserve(more)
+    }
+
+    fn make(&mut self, step: (K, Option<V>)) {
+        let (key, value) = step;
+        if let Some(value) = value {
+            self.put(key, value);
+        }
+    }
+}
