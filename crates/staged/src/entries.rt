@@ -2,8 +2,7 @@
 ghost use Rattle.std.specs.Prelude.{◌≡◌, Bool, List, Option, IfOk, if◌then◌else◌};
 ghost use Rattle.std.specs.Option.{option_copied, option_or};
 ghost use Rattle.std.specs.FinMap.Entries.{find};
-ghost use Rattle.staged.specs.Entries.{with_entry};
-ghost use Rattle.staged.specs.Made.{made_all};
+ghost use Rattle.staged.specs.Entries.{after_entries, with_entry};
 
 use crate::staged::Staged;
 use sorted_keys::SortedMap;
@@ -45,7 +44,7 @@ fn found_after<'a, K: Ord + Drop, V: Drop>(
     steps: &'a [(K, Option<V>)],
     key: &K,
 ) -> Option<&'a V>
-    ensures { option_copied result ≡ find K.cmp key.now (made_all (λ step. with_entry K.cmp step.0 step.1) steps.now map.now.content) }
+    ensures { option_copied result ≡ find K.cmp key.now (after_entries K.cmp steps.now map.now.content) }
 {
     let mut found = map.get(key);
     for step in steps {
