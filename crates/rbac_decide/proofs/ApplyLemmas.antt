@@ -1,13 +1,15 @@
 -- What a command that is not denied answers and leaves.
-use Rattle.std.proofs.Common.{◌≡◌, false, true≢false, Option, Some, None, Err, refl, sym, ap, ◌∙◌}
+use Rattle.std.proofs.Common.{◌≡◌, false, true≢false, Option, Some, None, Err, refl, sym, ap, ◌∙◌, subst}
 use Rattle.rbac_words.specs.State.{State}
 use Rattle.rbac_words.specs.Rows.{first_denial}
+use Rattle.rbac_words.specs.Sound.{IsSound, BringsASet}
 use Rattle.rbac_words.specs.Change.{change}
 use Rattle.rbac_words.specs.Effect.{effect, effect_unless, answer, reply, reply_unless}
 use Rattle.rbac_words.specs.declared.command.Command.{Command}
 use Rattle.rbac_words.specs.declared.command.Command.TheVariants.{CheckAccess, Review as ReviewCommand}
 use Rattle.rbac_words.specs.declared.answer.Answer.TheVariants.{Done, Denied}
 use Rattle.rbac_words.specs.declared.answer.Denial.{Denial}
+use Rattle.rbac_rules.proofs.SoundLemmas.{sound_effect}
 use Rattle.rbac_decide.specs.Asking.{is_question}
 use Rattle.rbac_decide.specs.Denying.{unless_denied}
 
@@ -20,9 +22,13 @@ change-answer c s e = refl
 pub change-reply : (c : Command) (s : State) → is_question c ≡ false → first_denial c s ≡ None → Done ≡ reply c s
 change-reply c s asks none = change-answer c s asks ∙ ap (λ (o : Option Denial). reply_unless o c s) (sym none)
 
--- a copy is changed
-pub changed : (c : Command) (s copy new inside : State) → first_denial c s ≡ None → inside ≡ s → copy ≡ inside → new ≡ change c copy → new ≡ effect c s
-changed c s copy new inside none seen copied made = made ∙ ap (change c) (copied ∙ seen) ∙ ap (λ (o : Option Denial). effect_unless o c s) (sym none)
+-- what is inside is changed
+pub changed : (c : Command) (s inside new : State) → first_denial c s ≡ None → inside ≡ s → new ≡ change c inside → new ≡ effect c s
+changed c s inside new none seen made = made ∙ ap (change c) seen ∙ ap (λ (o : Option Denial). effect_unless o c s) (sym none)
+
+-- and is as sound as before
+pub sound_then : (c : Command) (s inside new : State) → BringsASet c → IsSound inside → first_denial c s ≡ None → inside ≡ s → new ≡ change c inside → IsSound new
+sound_then c s inside new brings sound none seen made = subst IsSound (sym (changed c s inside new none seen made)) (sound_effect c s brings (subst IsSound seen sound))
 
 -- what is denied is answered by its denial
 pub denied-reply : (o : Option Denial) (denial : Denial) (c : Command) (s : State) → Err denial ≡ unless_denied o → Denied denial ≡ reply_unless o c s

@@ -1,5 +1,5 @@
 -- Which counts a command leaves, and what the others become.
-use Rattle.std.proofs.Common.{ℕ, List, [], ◌∷◌, Bool, true, false, not, cond, ◌||◌, ◌&&◌, ◌≡◌, Option, Some, None, is_some, refl, sym, ap, ◌∙◌, subst, ◌⊎◌, inl, inr, ⊎_elim}
+use Rattle.std.proofs.Common.{ℕ, List, [], ◌∷◌, Bool, true, false, not, cond, ◌||◌, ◌&&◌, ◌≡◌, Option, Some, None, refl, sym, ap, ◌∙◌, subst, ◌⊎◌, inl, inr, ⊎_elim}
 use Rattle.std.proofs.lemmas.Bool.{or_left, or_cases, and_from, not-false, false≢true}
 use Rattle.std.specs.List.{list_any, filter}
 use Rattle.std.specs.Ordering.{eq_by_cmp}
@@ -16,7 +16,7 @@ use Rattle.rbac_words.specs.Inheritance.{IsChain, Inherits, juniors}
 use Rattle.rbac_words.specs.Authorization.{IsAuthorized, is_authorized}
 use Rattle.rbac_words.specs.Constraints.{sets_of, with_sets}
 use Rattle.rbac_words.specs.Change.{change, with_member, without_member, with_cardinality}
-use Rattle.rbac_words.specs.Rows.{first_denial, preconditions, is_set}
+use Rattle.rbac_words.specs.Rows.{first_denial, preconditions}
 use Rattle.rbac_words.specs.Sound.{IsSound, IsRoleSet}
 use Rattle.rbac_words.specs.declared.command.Command.{Command}
 use Rattle.rbac_words.specs.declared.command.Command.TheVariants.{DeleteUser, AddRole, DeleteRole, AssignUser, DeassignUser, AddInheritance, DeleteInheritance, AddAscendant, AddDescendant, CreateSet, DeleteSet, AddRoleMember, DeleteRoleMember, SetCardinality}
@@ -32,9 +32,22 @@ use Rattle.rbac_hierarchy.proofs.JuniorLemmas.{has_juniors}
 use Rattle.rbac_separation.specs.Counts.{Counts, numbers_of, without_user as without_user_of}
 use Rattle.rbac_decide.specs.declared.tables.Tables.{Tables}
 use Rattle.rbac_decide.specs.Tables.{state_of}
-use Rattle.rbac_decide.specs.Counting.{count_in, authorized_count, authorized_by, authorized_users_by, juniors_by, count_by_tables, AreCountsBy, IsStep, IsShift, IsSetStep, touches, without_static, changes_counts}
+use Rattle.rbac_decide.specs.Counting.{count_in, authorized_count, authorized_by, authorized_users_by, juniors_by, count_by_tables, AreCountsBy, IsStep, touches, without_static}
 use Rattle.rbac_decide.proofs.CountingLemmas.{count_same, none_in}
 use Rattle.rbac_decide.proofs.SeparationLemmas.{unbroken}
+
+-- ---- What is still right, and what is counted anew
+
+-- the sets of a policy after a change of what these users are authorized for, among these roles, where all other counts are right
+pub record IsShift (after : Tables) (users below : List Name) (counts : Counts) : Type 0 where
+  pub unbroken : (user : Name) → has name_cmp user users ≡ true → list_any (λ e. is_broken_by (authorized_by after user) e.1) after.static_sets.content ≡ false
+  pub others : (set user : Name) → (touches below (find name_cmp set after.static_sets.content) && has name_cmp user users) ≡ false → numbers_of counts set user ≡ count_by_tables after set user
+
+-- the sets of a policy after a change of one set of a kind, where all counts but that set's are right
+pub record IsSetStep (kind : Separation) (set : Name) (after : Tables) (counts : Counts) : Type 0 where
+  pub unbroken : (user : Name) → has name_cmp user after.sets.content.users ≡ true → list_any (λ e. is_broken_by (authorized_by after user) e.1) after.static_sets.content ≡ false
+  pub others : kind ≡ Static → (other user : Name) → (eq_by_cmp name_cmp set other && has name_cmp user after.sets.content.users) ≡ false → numbers_of counts other user ≡ count_by_tables after other user
+  pub all : kind ≡ Dynamic → AreCountsBy after counts
 
 -- ---- Who is authorized as before
 
@@ -251,19 +264,6 @@ updated_elsewhere set other f sets apart =
     find-updated name_cmp names_total set f sets other
     ∙ ap (λ b. cond b (option_map f (find name_cmp other sets)) (find name_cmp other sets)) (ties_flip names_total names_exact other set ∙ apart)
 
--- and the set itself is found
-put_there : (set : Name) (x : RoleSet) (sets : List (Name × RoleSet)) → is_some (find name_cmp set (put name_cmp set x sets)) ≡ true
-put_there set x sets =
-    ap is_some (find-put name_cmp names_total set set x sets) ∙ ap (λ b. is_some (cond b (Some x) (find name_cmp set sets))) (ties_itself names_total set)
-
-updated_there : (set : Name) (f : RoleSet → RoleSet) (sets : List (Name × RoleSet)) → is_some (find name_cmp set sets) ≡ true → is_some (find name_cmp set (updated name_cmp set f sets)) ≡ true
-updated_there set f sets is = ap is_some (find-updated name_cmp names_total set f sets set) ∙ go (eq_by_cmp name_cmp set set) (find name_cmp set sets) is
-  where
-    go : (b : Bool) (o : Option RoleSet) → is_some o ≡ true → is_some (cond b (option_map f o) o) ≡ true
-    go b None e = absurd (false≢true e)
-    go true (Some x) e = refl
-    go false (Some x) e = refl
-
 -- the only member of a set of one
 only : (user : Name) (users : List Name) → has name_cmp user users ≡ true → (other : Name) → has name_cmp other (user ∷ []) ≡ true → has name_cmp other users ≡ true
 only user users is other m = ⊎_elim (λ t. subst (λ z. has name_cmp z users ≡ true) (sym (one_key names_exact other user t)) is) (λ f. absurd (false≢true f)) (or_cases _ _ m)
@@ -289,6 +289,20 @@ numbered set other n test sets = ap (count_in test) (find-updated name_cmp names
     go false o = refl
 
 -- ---- All other commands
+
+-- the commands that may change a count
+abbrev pub changes_counts : Command → Bool
+changes_counts (DeleteUser user) = true
+changes_counts (DeleteRole role) = true
+changes_counts (AssignUser user role) = true
+changes_counts (DeassignUser user role) = true
+changes_counts (AddInheritance ascendant descendant) = true
+changes_counts (DeleteInheritance ascendant descendant) = true
+changes_counts (CreateSet kind set roles n) = true
+changes_counts (DeleteSet kind set) = true
+changes_counts (AddRoleMember kind set role) = true
+changes_counts (DeleteRoleMember kind set role) = true
+changes_counts c = false
 
 pub unchanged : (c : Command) (s : State) → IsSound s → first_denial c s ≡ None → changes_counts c ≡ false → (set user : Name) → authorized_count (change c s) set user ≡ authorized_count s set user
 unchanged (AddRole role) s h none e set user =
@@ -356,12 +370,10 @@ module _ (c : Command) (before after : Tables) (step : IsStep c before after) (c
 
   -- where the command changes only one set of a kind
   pub one_set_step : (kind : Separation) (set : Name) → (change c s).users ≡ s.users
-      → (kind ≡ Static → is_some (find name_cmp set (change c s).static_sets) ≡ true)
       → ((other user : Name) → (kind ≡ Static → eq_by_cmp name_cmp set other ≡ false) → authorized_count (change c s) other user ≡ authorized_count s other user)
       → IsSetStep kind set after counts
-  one_set_step kind set same_users there stays = record {
+  one_set_step kind set same_users stays = record {
     unbroken = unbroken_after;
-    found = λ is. ap (λ (x : State). is_some (find name_cmp set x.static_sets)) step.made ∙ there is;
     others = λ is other user e. go other user (eq_by_cmp name_cmp set other) (has name_cmp user after.sets.content.users) refl refl e;
     all = λ is set other. left set other (stays set other (λ static. absurd (kinds_differ static is)));
   }
@@ -412,38 +424,29 @@ module _ (before after : Tables) (counts : Counts) (counted : AreCountsBy before
   -- a change of one set of a kind
   set_changed : (c : Command) (kind : Separation) (set : Name) (f : List (Name × RoleSet) → List (Name × RoleSet)) (step : IsStep c before after)
       → change c (state_of before step.vocabulary) ≡ with_sets kind (f (sets_of kind (state_of before step.vocabulary))) (state_of before step.vocabulary)
-      → (kind ≡ Static → is_some (find name_cmp set (f before.static_sets.content)) ≡ true)
       → ((other : Name) → eq_by_cmp name_cmp set other ≡ false → find name_cmp other (f before.static_sets.content) ≡ find name_cmp other before.static_sets.content)
       → IsSetStep kind set after counts
-  set_changed c Static set f step made there elsewhere =
+  set_changed c Static set f step made elsewhere =
       one_set_step c before after step counts counted Static set (ap (λ (x : State). x.users) made)
-      (λ is. ap (λ (x : State). is_some (find name_cmp set x.static_sets)) made ∙ there is)
       (λ other user apart. ap (λ (x : State). authorized_count x other user) made ∙ ap (count_in (authorized_by before user)) (elsewhere other (apart refl)))
-  set_changed c Dynamic set f step made there elsewhere =
+  set_changed c Dynamic set f step made elsewhere =
       one_set_step c before after step counts counted Dynamic set (ap (λ (x : State). x.users) made)
-      (λ is. let never : ⊥ = cc in absurd never)
       (λ other user apart. ap (λ (x : State). authorized_count x other user) made)
 
   pub created_set : (kind : Separation) (set : Name) (roles : List Name) (n : ℕ) → IsStep (CreateSet kind set roles n) before after → IsSetStep kind set after counts
   created_set kind set roles n step =
       let x : RoleSet = record { roles = roles; cardinality = n } in
       set_changed (CreateSet kind set roles n) kind set (put name_cmp set x) step refl
-      (λ is. put_there set x before.static_sets.content) (λ other. put_elsewhere set other x before.static_sets.content)
+      (λ other. put_elsewhere set other x before.static_sets.content)
 
   pub added_member : (kind : Separation) (set role : Name) → IsStep (AddRoleMember kind set role) before after → IsSetStep kind set after counts
   added_member kind set role step =
-      let s = state_of before step.vocabulary in
-      let holds = none_fails (preconditions (AddRoleMember kind set role) s) step.undenied in
       set_changed (AddRoleMember kind set role) kind set (updated name_cmp set (with_member role)) step refl
-      (λ is. updated_there set (with_member role) before.static_sets.content (subst (λ k. is_set k s set ≡ true) is (not-false _ holds.0)))
       (λ other. updated_elsewhere set other (with_member role) before.static_sets.content)
 
   pub deleted_member : (kind : Separation) (set role : Name) → IsStep (DeleteRoleMember kind set role) before after → IsSetStep kind set after counts
   deleted_member kind set role step =
-      let s = state_of before step.vocabulary in
-      let holds = none_fails (preconditions (DeleteRoleMember kind set role) s) step.undenied in
       set_changed (DeleteRoleMember kind set role) kind set (updated name_cmp set (without_member role)) step refl
-      (λ is. updated_there set (without_member role) before.static_sets.content (subst (λ k. is_set k s set ≡ true) is (not-false _ holds.0)))
       (λ other. updated_elsewhere set other (without_member role) before.static_sets.content)
 
   pub deleted_set : (kind : Separation) (set : Name) → IsStep (DeleteSet kind set) before after → (other user : Name) → without_static kind set (numbers_of counts) other user ≡ count_by_tables after other user

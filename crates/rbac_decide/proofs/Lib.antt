@@ -1,3 +1,4 @@
+pub mod AffectedLemmas
 pub mod ApplyLemmas
 pub mod CountingLemmas
 pub mod CountingSteps

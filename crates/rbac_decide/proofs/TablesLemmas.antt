@@ -1,30 +1,37 @@
--- What a change of one table is to the state.
-use Rattle.std.proofs.Common.{[], ◌≡◌, IsTrue, ap, sym, subst, ◌∙◌}
-use Rattle.sorted_keys.specs.Keys.{has, with_key}
-use Rattle.rbac_words.specs.Name.{Name, name_cmp, pair_cmp}
+-- What a change of one table is to the state, and tables with the same sets.
+use Rattle.std.proofs.Common.{◌≡◌, ap, sym, ◌∙◌}
+use Rattle.std.specs.FinMap.Entries.{find}
+use Rattle.rbac_words.specs.Name.{name_cmp}
 use Rattle.rbac_words.specs.Founding.{Vocabulary}
-use Rattle.rbac_words.specs.State.{State}
-use Rattle.rbac_words.specs.Change.{change}
-use Rattle.rbac_words.specs.declared.command.Command.TheVariants.{AddRole}
-use Rattle.rbac_hierarchy.specs.Order.{Hierarchy}
-use Rattle.rbac_decide.specs.Tables.{state_of}
+use Rattle.rbac_words.specs.Authorization.{is_authorized}
+use Rattle.rbac_hierarchy.specs.Order.{Order}
+use Rattle.rbac_rolesets.specs.Sets.{Sets}
+use Rattle.rbac_separation.specs.Counts.{Counts, numbers_of}
+use Rattle.rbac_decide.specs.Counting.{AreCountsBy, count_in}
+use Rattle.rbac_decide.specs.Tables.{state_of, state_of_roles, HasSameRoles, HaveSameSets}
 use Rattle.rbac_decide.specs.declared.tables.Tables.{Tables}
 
-no_vocabulary : Vocabulary
-no_vocabulary = record { operations = []; objects = []; permissions = [] }
+module _ (t other : Tables) (same : HaveSameSets t other) where
+  pub same_state : (v : Vocabulary) → state_of t v ≡ state_of other v
+  same_state v = λ i. record {
+    users = (same.sets i).users;
+    roles = (same.hierarchy i).roles;
+    assigned = (same.sets i).assigned;
+    granted = (same.sets i).granted;
+    declared = (same.hierarchy i).declared;
+    static_sets = same.static_sets i;
+    dynamic_sets = same.dynamic_sets i;
+    sessions = same.sessions i;
+    operations = v.operations;
+    objects = v.objects;
+    permissions = v.permissions;
+  }
 
--- the roles of tables whose states are these
-same_roles : (t : Tables) (s : Vocabulary → State) → ((v : Vocabulary) → state_of t v ≡ s v) → t.hierarchy.content.roles ≡ (s no_vocabulary).roles
-same_roles t s e = ap (λ (x : State). x.roles) (e no_vocabulary)
+  pub roles_stay_same : HasSameRoles other → HasSameRoles t
+  roles_stay_same roles = ap (λ (h : Order). h.roles) same.hierarchy ∙ roles ∙ sym (ap (λ (s : Sets). s.roles) same.sets)
 
-module _ (role : Name) (old new : Tables) (added : (v : Vocabulary) → state_of new v ≡ change (AddRole role) (state_of old v)) where
-  -- the role and those that were there are there
-  pub are_there : (name : Name) → IsTrue (has name_cmp name (with_key name_cmp role old.hierarchy.content.roles)) → IsTrue (has name_cmp name new.hierarchy.content.roles)
-  are_there name is = subst (λ roles. IsTrue (has name_cmp name roles)) (sym (same_roles new (λ v. change (AddRole role) (state_of old v)) added)) is
-
-  -- with one more pair besides
-  pub added_with_pair : (a d : Name) (h : Hierarchy) → h.content ≡ record new.hierarchy.content { declared = with_key pair_cmp (a, d) new.hierarchy.content.declared }
-      → (v : Vocabulary) → state_of (record new { hierarchy = h }) v ≡ record (state_of old v) { roles = with_key name_cmp role old.hierarchy.content.roles; declared = with_key pair_cmp (a, d) old.hierarchy.content.declared }
-  added_with_pair a d h e v =
-      (λ i. state_of (record new { hierarchy = record { content = e i } }) v)
-      ∙ ap (λ (s : State). let t : State = record s { declared = with_key pair_cmp (a, d) s.declared } in t) (added v)
+  pub counts_stay_right : (counts alike : Counts) → numbers_of alike ≡ numbers_of counts → AreCountsBy other counts → AreCountsBy t alike
+  counts_stay_right counts alike numbers right = λ set user.
+      (λ i. numbers i set user)
+      ∙ right set user
+      ∙ sym (λ i. count_in (is_authorized (state_of_roles (same.sets i) (same.hierarchy i)) user) (find name_cmp set (same.static_sets i)))

@@ -1,10 +1,10 @@
 -- The counts that a policy keeps: for each static set and each user, of how many of its roles the user has the authorization.
-use Rattle.std.specs.Prelude.{ℕ, List, Bool, true, false, ◌&&◌, ◌≡◌, Option, Some, None, is_some, count_by}
+use Rattle.std.specs.Prelude.{ℕ, List, [], ◌∷◌, Bool, false, ◌&&◌, ◌≡◌, Option, Some, None, count_by}
 use Rattle.std.specs.FinMap.Entries.{find}
 use Rattle.std.specs.List.{list_any, filter}
 use Rattle.std.specs.Ordering.{eq_by_cmp}
 use Rattle.sorted_keys.specs.Keys.{has}
-use Rattle.rbac_words.specs.Name.{Name, name_cmp}
+use Rattle.rbac_words.specs.Name.{Name, name_cmp, pair_cmp}
 use Rattle.rbac_words.specs.Founding.{Vocabulary}
 use Rattle.rbac_words.specs.Separation.{RoleSet, is_broken_by}
 use Rattle.rbac_words.specs.State.{State}
@@ -17,7 +17,7 @@ use Rattle.rbac_words.specs.declared.separation.Separation.{Separation}
 use Rattle.rbac_words.specs.declared.separation.Separation.TheVariants.{Static, Dynamic}
 use Rattle.rbac_words.specs.declared.command.Command.{Command}
 use Rattle.rbac_words.specs.declared.command.Command.TheVariants.{DeleteUser, DeleteRole, AssignUser, DeassignUser, AddInheritance, DeleteInheritance, CreateSet, DeleteSet, AddRoleMember, DeleteRoleMember}
-use Rattle.rbac_separation.specs.Counts.{Counts, numbers_of, without_set}
+use Rattle.rbac_separation.specs.Counts.{Counts, numbers_of, without_set, without_user}
 use Rattle.rbac_decide.specs.declared.tables.Tables.{Tables}
 use Rattle.rbac_decide.specs.Tables.{state_of, state_of_roles}
 
@@ -64,33 +64,49 @@ pub record IsStep (command : Command) (before after : Tables) : Type 0 where
   pub made : state_of after vocabulary ≡ change command (state_of before vocabulary)
   pub sound_after : IsSound (state_of after vocabulary)
 
--- the sets of a policy after a change of what these users are authorized for, among these roles, where all other counts are right
-pub record IsShift (after : Tables) (users below : List Name) (counts : Counts) : Type 0 where
-  pub unbroken : (user : Name) → has name_cmp user users ≡ true → list_any (λ e. is_broken_by (authorized_by after user) e.1) after.static_sets.content ≡ false
-  pub others : (set user : Name) → (touches below (find name_cmp set after.static_sets.content) && has name_cmp user users) ≡ false → numbers_of counts set user ≡ count_by_tables after set user
-
--- the sets of a policy after a change of one set of a kind, where all counts but that set's are right
-pub record IsSetStep (kind : Separation) (set : Name) (after : Tables) (counts : Counts) : Type 0 where
-  pub unbroken : (user : Name) → has name_cmp user after.sets.content.users ≡ true → list_any (λ e. is_broken_by (authorized_by after user) e.1) after.static_sets.content ≡ false
-  pub found : kind ≡ Static → is_some (find name_cmp set after.static_sets.content) ≡ true
-  pub others : kind ≡ Static → (other user : Name) → (eq_by_cmp name_cmp set other && has name_cmp user after.sets.content.users) ≡ false → numbers_of counts other user ≡ count_by_tables after other user
-  pub all : kind ≡ Dynamic → AreCountsBy after counts
-
 -- the numbers without those of a static set
 abbrev pub without_static : Separation → Name → (Name → Name → ℕ) → Name → Name → ℕ
 without_static Static set numbers = without_set set numbers
 without_static Dynamic set numbers = numbers
 
--- the commands that may change a count
-abbrev pub changes_counts : Command → Bool
-changes_counts (DeleteUser user) = true
-changes_counts (DeleteRole role) = true
-changes_counts (AssignUser user role) = true
-changes_counts (DeassignUser user role) = true
-changes_counts (AddInheritance ascendant descendant) = true
-changes_counts (DeleteInheritance ascendant descendant) = true
-changes_counts (CreateSet kind set roles n) = true
-changes_counts (DeleteSet kind set) = true
-changes_counts (AddRoleMember kind set role) = true
-changes_counts (DeleteRoleMember kind set role) = true
-changes_counts c = false
+-- the numbers without those of the user or the static set that a command deletes
+abbrev pub remaining : Command → (Name → Name → ℕ) → Name → Name → ℕ
+remaining (DeleteUser user) = without_user user
+remaining (DeleteSet kind set) = without_static kind set
+remaining c = λ numbers. numbers
+
+-- whether the user would break one of the static sets
+abbrev pub breaks_some : Tables → Name → Bool
+breaks_some t user = list_any (λ e. is_broken_by (authorized_by t user) e.1) t.static_sets.content
+
+-- whether a set of this name has one of the roles
+abbrev pub is_touched : List Name → Name → List (Name × RoleSet) → Bool
+is_touched below set sets = list_any (λ e. eq_by_cmp name_cmp set e.0 && touches below (Some e.1)) sets
+
+-- whether a set and a user are a static set that has one of the roles, and one of the users
+abbrev pub of_touched : Tables → List Name → List Name → Name → Name → Bool
+of_touched t below users set user = is_touched below set t.static_sets.content && has name_cmp user users
+
+-- whether a set and a user are this static set, and any user
+abbrev pub of_set : Separation → Name → Tables → Name → Name → Bool
+of_set Static name t set user = eq_by_cmp name_cmp set name && has name_cmp user t.sets.content.users
+of_set Dynamic name t set user = false
+
+-- whether the command may change the count of a set and a user, other than by deleting one of them
+abbrev pub may_change : Command → Tables → Name → Name → Bool
+may_change (AssignUser user role) t = of_touched t (juniors_by t role) (user ∷ [])
+may_change (DeassignUser user role) t = of_touched t (juniors_by t role) (user ∷ [])
+may_change (DeleteRole role) t = of_touched t (juniors_by t role) (authorized_users_by t role)
+may_change (AddInheritance ascendant descendant) t = of_touched t (juniors_by t descendant) (authorized_users_by t ascendant)
+may_change (DeleteInheritance ascendant descendant) t = of_touched t (juniors_by t descendant) (authorized_users_by t ascendant)
+may_change (CreateSet kind name roles n) t = of_set kind name t
+may_change (AddRoleMember kind name role) t = of_set kind name t
+may_change (DeleteRoleMember kind name role) t = of_set kind name t
+may_change c t = λ set user. false
+
+-- the sets of a policy after a command, with the counts from before it and all pairs whose counts it may change
+pub record IsPrepared (command : Command) (pairs : List (Name × Name)) (counts : Counts) (after : Tables) : Type 0 where
+  pub before : Tables
+  pub step : IsStep command before after
+  pub counted : AreCountsBy before counts
+  pub told : (set user : Name) → has pair_cmp (set, user) pairs ≡ may_change command before set user

@@ -46,3 +46,11 @@ HasSameRoles t = t.hierarchy.content.roles ≡ t.sets.content.roles
 -- with some vocabulary the command is not denied
 abbrev pub IsUndenied : Command → Tables → Type 0
 IsUndenied c t = (v : Vocabulary) × (first_denial c (state_of t v) ≡ None)
+
+-- both have the same sets
+pub record HaveSameSets (t other : Tables) : Type 0 where
+  pub sets : t.sets.content ≡ other.sets.content
+  pub hierarchy : t.hierarchy.content ≡ other.hierarchy.content
+  pub static_sets : t.static_sets.content ≡ other.static_sets.content
+  pub dynamic_sets : t.dynamic_sets.content ≡ other.dynamic_sets.content
+  pub sessions : t.sessions.content ≡ other.sessions.content

@@ -1,6 +1,5 @@
 //! A policy: what commands answer, and what they change.
 ghost use Rattle.std.specs.Prelude.{◌≡◌, ◌↔◌, false, IsTrue, IfOk, IfErr, OnOk, OnErr, Some, None};
-ghost use Rattle.std.specs.Option.{unwrap_or};
 ghost use Rattle.std.specs.FinMap.Entries.{find};
 ghost use Rattle.sorted_keys.specs.Keys.{has};
 ghost use Rattle.rbac_words.specs.Name.{name_cmp, pair_cmp};
@@ -18,7 +17,7 @@ mod review;
 mod separation;
 mod violation;
 
-use crate::counting::counts_after;
+use crate::counting::{affected_pairs, recount_affected};
 use crate::policy::hindrance::Hindrance;
 use crate::tables::Tables;
 use rbac_separation::Counts;
@@ -60,19 +59,10 @@ impl Policy {
     }
 }
 
-// Puts the new counts in place, where there are any.
-fn replace_where_new(counts: &mut Counts, new: Option<Counts>)
-    ensures { counts.new ≡ unwrap_or new counts.old }
-{
-    if let Some(new) = new {
-        *counts = new;
-    }
-}
-
 impl Policy {
     ghost use Rattle.rbac_decide.specs.Asking.{is_check, is_question};
 
-    // Makes the change of a command that asks nothing: in a copy, which is put in place at the end.
+    // Makes the change of a command that asks nothing: in place, after all that may be refused.
     fn change(&mut self, alloc: Global, command: &Command) -> Result<Answer, AllocError>
         requires { is_question command.now ≡ false }
         ensures reply { IfOk result (λ answer. answer ≡ reply command.now self.old) }
@@ -85,11 +75,10 @@ impl Policy {
             Err(Hindrance::Denied(denial)) => return Ok(Answer::Denied(denial)),
             Err(Hindrance::NoMemory) => return Err(AllocError),
         }
-        let mut next = self.tables.copy()?;
-        next.change(alloc, command)?;
-        let counts = counts_after(alloc, &self.tables, &next, command, &self.counts)?;
-        self.tables = next;
-        replace_where_new(&mut self.counts, counts);
+        let pairs = affected_pairs(alloc, &self.tables, command)?;
+        self.counts.reserve(pairs.len())?;
+        self.tables.change(alloc, command)?;
+        recount_affected(&self.tables, command, pairs, &mut self.counts);
         Ok(Answer::Done)
     }
 

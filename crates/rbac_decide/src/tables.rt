@@ -1,5 +1,5 @@
 //! The sets that commands change.
-ghost use Rattle.std.specs.Prelude.{◌≡◌, ◌↔◌, IsTrue, IfOk, OnOk};
+ghost use Rattle.std.specs.Prelude.{◌≡◌, ◌↔◌, IsTrue, IfOk, OnOk, OnErr};
 ghost use Rattle.sorted_keys.specs.Keys.{has};
 ghost use Rattle.rbac_words.specs.Name.{name_cmp};
 ghost use Rattle.rbac_words.specs.Authorization.{purge};
@@ -29,7 +29,7 @@ pub struct Tables {
 }
 
 impl Tables {
-    ghost use Rattle.rbac_decide.specs.Tables.{state_of, HasSameRoles, IsUndenied};
+    ghost use Rattle.rbac_decide.specs.Tables.{state_of, HasSameRoles, HaveSameSets, IsUndenied};
 
     /// No users, no roles and no sessions.
     pub fn new(alloc: Global) -> Tables
@@ -47,7 +47,7 @@ impl Tables {
 
     /// Equal sets.
     pub fn copy(&self) -> Result<Tables, AllocError>
-        ensures { IfOk result (λ copy. copy ≡ self.now) }
+        ensures { IfOk result (λ copy. HaveSameSets copy self.now) }
     {
         Ok(Tables {
             sets: self.sets.copy()?,
@@ -60,7 +60,7 @@ impl Tables {
 
     /// Whether both have the same sets.
     pub fn same(&self, other: &Tables) -> bool
-        ensures { IsTrue result ↔ (self.now ≡ other.now) }
+        ensures { IsTrue result ↔ HaveSameSets self.now other.now }
     {
         self.sets.same(&other.sets)
             && self.hierarchy.same(&other.hierarchy)
@@ -97,11 +97,12 @@ impl Tables {
         self.purge();
     }
 
-    /// Makes the change of a command that is not denied. Where memory ends, some of it may be made.
+    /// Makes the change of a command that is not denied. Where memory ends the sets stay as they are.
     pub fn change(&mut self, alloc: Global, command: &Command) -> Result<(), AllocError>
         requires undenied { IsUndenied command.now self.old }
         ensures state { OnOk result ((v : VocabularyValue) → state_of self.new v ≡ change command.now (state_of self.old v)) }
         ensures same_roles { HasSameRoles self.old → OnOk result (HasSameRoles self.new) }
+        ensures unchanged { OnErr result (HaveSameSets self.new self.old) }
     {
         match command {
             Command::AddUser { user } => self.sets.add_user(user.copy()?)?,

@@ -1,5 +1,5 @@
 -- What the sets of users and roles are seen as.
-use Rattle.std.specs.Prelude.{List, []}
+use Rattle.std.specs.Prelude.{ℕ, List, []}
 use Rattle.std.specs.List.Sorted.{IsStrictlySortedBy}
 use Rattle.rbac_words.specs.Name.{Name, Grant, name_cmp, pair_cmp, grant_cmp}
 
@@ -10,8 +10,10 @@ pub record Sets : Type 0 where
   pub assigned : List (Name × Name)
   pub granted : List Grant
 
+-- and for how many more of each there is room
 pub record RoleSets : Type 0 where
   pub content : Sets
+  pub room : ℕ
 
 -- nothing
 abbrev pub no_sets : Sets

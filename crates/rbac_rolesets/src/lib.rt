@@ -2,10 +2,14 @@
 #![tactic(auto)]
 
 mod assigned;
+mod change;
+mod plan;
 mod removal;
 mod role_sets;
 
 pub use assigned::RolesOf;
+pub use change::Change;
+pub use plan::Plan;
 pub use role_sets::RoleSets;
 
 #[cfg(test)]

@@ -1,15 +1,18 @@
 //! The users and roles, UA and PA.
-ghost use Rattle.std.specs.Prelude.{◌≡◌, ◌↔◌, length, filter, IsTrue, IfOk, OnOk, OnErr};
+ghost use Rattle.std.specs.Prelude.{◌≡◌, ◌↔◌, ◌<◌, ◌≤◌, ◌+◌, length, filter, IsTrue, IfOk, OnOk, OnErr};
 ghost use Rattle.std.specs.Ordering.{eq_by_cmp};
 ghost use Rattle.sorted_keys.specs.Keys.{has, with_key, without};
 ghost use Rattle.rbac_words.specs.Name.{name_cmp, pair_cmp, grant_cmp};
 ghost use Rattle.rbac_words.specs.Relations.{begins_with, users_of, roles_of, without_user, without_role};
+ghost use Rattle.rbac_rolesets.specs.Changes.{changed, made};
 ghost use Rattle.rbac_rolesets.specs.Sets.{Sets, no_sets, AreInOrder};
 
 use crate::assigned::{RolesOf, UsersOf};
+use crate::change::{Change, Step};
 use crate::removal::{OtherRoles, OtherUsers};
 use rbac_words::{Name, NameSet};
 use sorted_keys::{KeyTest, PairProbe, SortedSet};
+use staged::Staged;
 use std::alloc::{AllocError, Global};
 use std::marker::Model;
 
@@ -31,11 +34,12 @@ pub struct RoleSets {
 }
 
 impl Model for RoleSets {
+    ghost use Rattle.std.specs.Prelude.{min};
     ghost use Rattle.rbac_rolesets.specs.Sets.{RoleSets as RoleSetsValue};
 
     ghost Value = { RoleSetsValue };
 
-    ghost view = { λ s. record { content = record { users = s.users.content; roles = s.roles.content; assigned = s.assigned.content; granted = s.granted.content } } };
+    ghost view = { λ s. record { content = record { users = s.users.content; roles = s.roles.content; assigned = s.assigned.content; granted = s.granted.content }; room = min (min s.users.room s.roles.room) (min s.assigned.room s.granted.room) } };
 }
 
 impl RoleSets {
@@ -233,5 +237,71 @@ impl RoleSets {
             && self.roles.same(&other.roles)
             && self.assigned.same(&other.assigned)
             && self.granted.same(&other.granted)
+    }
+}
+
+impl Staged<Change<'_>> for RoleSets {
+    type Step = Step;
+
+    ghost Content = { Sets };
+
+    ghost content = { λ s. s.content };
+
+    ghost room = { λ s. s.room };
+
+    ghost changed = { changed };
+
+    ghost made = { made };
+
+    fn prepare(
+        &self,
+        _alloc: Global,
+        _before: &[Step],
+        change: &Change,
+    ) -> Result<Step, AllocError> {
+        Ok(match change {
+            Change::AddUser { user } => Step::AddUser { user: user.copy()? },
+            Change::AddRole { role } => Step::AddRole { role: role.copy()? },
+            Change::Assign { user, role } => Step::Assign {
+                user: user.copy()?,
+                role: role.copy()?,
+            },
+            Change::Grant {
+                operation,
+                object,
+                role,
+            } => Step::Grant {
+                operation: operation.copy()?,
+                object: object.copy()?,
+                role: role.copy()?,
+            },
+        })
+    }
+
+    fn make_room(&mut self, _alloc: Global, more: usize) -> Result<(), AllocError>
+        ensures content { self.new.content ≡ self.old.content }
+        ensures ok { OnOk result (more ≤ self.new.room) }
+    {
+        self.users.reserve(more)?;
+        self.roles.reserve(more)?;
+        self.assigned.reserve(more)?;
+        self.granted.reserve(more)
+    }
+
+    fn make(&mut self, step: Step)
+        requires { 0 < self.old.room }
+        ensures content { self.new.content ≡ made step self.old.content }
+        ensures room { self.old.room ≤ self.new.room + 1 }
+    {
+        match step {
+            Step::AddUser { user } => self.users.put(user),
+            Step::AddRole { role } => self.roles.put(role),
+            Step::Assign { user, role } => self.assigned.put((user, role)),
+            Step::Grant {
+                operation,
+                object,
+                role,
+            } => self.granted.put(((operation, object), role)),
+        }
     }
 }

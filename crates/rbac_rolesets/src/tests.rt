@@ -1,6 +1,8 @@
 //! Each public call with ample memory. What is expected was written by hand.
-use crate::RoleSets;
+ghost use Rattle.std.specs.Prelude.{◌≤◌, length};
+
 use crate::assigned::UsersOf;
+use crate::{Change, Plan, RoleSets};
 use rbac_words::{Name, NameSet};
 use std::alloc::Global;
 use std::process::Abort;
@@ -275,5 +277,41 @@ fn a_copy_is_the_same_until_it_is_changed(rt: HostRuntime) {
     assert!(rt; added.is_ok());
     assert!(rt; !copy.same(&sets));
     drop(copy);
+    drop(sets);
+}
+
+// Plans that cleo becomes an auditor, who reads the ledger.
+fn plan_an_auditor(rt: &impl Abort, alloc: Global, sets: &mut RoleSets) -> Plan
+    ensures { length result ≤ sets.new.room }
+{
+    let (cleo, auditor) = (name(rt, alloc, "cleo"), name(rt, alloc, "auditor"));
+    let (read, ledger) = (name(rt, alloc, "read"), name(rt, alloc, "ledger"));
+    let changes = [
+        Change::AddUser { user: &cleo },
+        Change::AddRole { role: &auditor },
+        Change::Assign {
+            user: &cleo,
+            role: &auditor,
+        },
+        Change::Grant {
+            operation: &read,
+            object: &ledger,
+            role: &auditor,
+        },
+    ];
+    sets.plan(alloc, &changes).expect(rt, "memory")
+}
+
+#[test]
+fn a_plan_changes_nothing_until_its_commit(rt: HostRuntime) {
+    let alloc = rt.alloc();
+    let mut sets = small_office(&rt, alloc);
+    let plan = plan_an_auditor(&rt, alloc, &mut sets);
+    assert_eq!(rt; (sets.user_count(), sets.role_count()), (2, 2));
+    sets.commit(plan);
+    assert_bytes(&rt, sets.users(), &["alice", "bob", "cleo"]);
+    assert!(rt; is_role(&rt, alloc, &sets, "auditor"));
+    assert!(rt; is_assigned(&rt, alloc, &sets, "cleo", "auditor"));
+    assert!(rt; reads(&rt, alloc, &sets, "auditor"));
     drop(sets);
 }

@@ -7,14 +7,14 @@ use Rattle.sorted_keys.specs.Keys.{without_key, updated}
 use Rattle.sorted_keys.proofs.Lookups.{find-without_key, find-filter_keys}
 use Rattle.rbac_words.specs.Name.{Name, name_cmp, pair_cmp}
 use Rattle.rbac_words.proofs.NameLemmas.{pairs_total, pairs_exact, ties_flip, ties-pair}
-use Rattle.rbac_separation.specs.Counts.{numbers_of, with_number}
+use Rattle.rbac_separation.specs.Counts.{with_number}
 
 abbrev pub Entries : Type 0
 Entries = List ((Name × Name) × ℕ)
 
 -- the numbers of entries
 abbrev pub numbers : Entries → Name → Name → ℕ
-numbers es = numbers_of (record { content = es })
+numbers es set user = unwrap_or (find pair_cmp (set, user) es) 0
 
 -- a pair is that of the set and the user where both names are
 one_pair : (set user s u : Name) → eq_by_cmp pair_cmp (s, u) (set, user) ≡ (eq_by_cmp name_cmp set s && eq_by_cmp name_cmp user u)

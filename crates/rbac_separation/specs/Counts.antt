@@ -7,9 +7,10 @@ use Rattle.sorted_keys.specs.Keys.{has}
 use Rattle.rbac_words.specs.Name.{Name, name_cmp, pair_cmp}
 use Rattle.rbac_words.specs.Separation.{RoleSet}
 
--- numbers by the names of a set and a user
+-- numbers by the names of a set and a user, and for how many more there is room
 pub record Counts : Type 0 where
   pub content : List ((Name × Name) × ℕ)
+  pub room : ℕ
 
 -- the number of a set and a user, 0 where there is none
 abbrev pub numbers_of : Counts → Name → Name → ℕ

@@ -1,2 +1,4 @@
+pub mod Changes
+pub mod CountChanges
 pub mod Counts
 pub mod SetTable

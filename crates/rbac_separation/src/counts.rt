@@ -1,14 +1,17 @@
 //! Numbers kept of sets and users.
-ghost use Rattle.std.specs.Prelude.{◌≡◌, ◌<◌, not, IfOk, OnOk, OnErr};
+ghost use Rattle.std.specs.Prelude.{◌≡◌, ◌<◌, ◌≤◌, ◌+◌, ℕ, length, not, IfOk, OnOk, OnErr};
 ghost use Rattle.std.specs.Option.{option_copied};
 ghost use Rattle.std.specs.Ordering.{eq_by_cmp};
-ghost use Rattle.rbac_words.specs.Name.{name_cmp};
+ghost use Rattle.staged.specs.Made.{made_all};
+ghost use Rattle.rbac_words.specs.Name.{Name as NameValue, name_cmp};
+ghost use Rattle.rbac_separation.specs.CountChanges.{numbers_after, with_numbers};
 ghost use Rattle.rbac_separation.specs.Counts.{numbers_of, no_numbers, with_number, without_set, without_user, first_over};
 
 use crate::role_set::RoleSet;
 use crate::set_table::SetTable;
 use rbac_words::{Name, NameSet};
 use sorted_keys::{Duplicate, EntryTest, PairProbe, SortedMap, ValueChange};
+use staged::{Plan, Staged, commit, make_plan};
 use std::alloc::{AllocError, Global};
 use std::convert::Infallible;
 use std::marker::Model;
@@ -105,11 +108,12 @@ pub struct Counts {
 }
 
 impl Model for Counts {
+    ghost use Rattle.rbac_separation.specs.CountChanges.{numbers_after, with_numbers};
     ghost use Rattle.rbac_separation.specs.Counts.{Counts as CountsValue};
 
     ghost Value = { CountsValue };
 
-    ghost view = { λ c. record { content = c.numbers.content } };
+    ghost view = { λ c. record { content = c.numbers.content; room = c.numbers.room } };
 }
 
 // The name of the first of the sets of which the user's number, and how many of its roles are among these, come to its own number
@@ -158,7 +162,7 @@ impl Counts {
     /// nor does another number for the same pair.
     pub fn put(&mut self, set: &Name, user: &Name, number: u32) -> Result<(), AllocError>
         ensures ok { OnOk result (numbers_of self.new ≡ with_number set.now user.now number (numbers_of self.old)) }
-        ensures err { OnErr result (self.new ≡ self.old) }
+        ensures err { OnErr result (self.new.content ≡ self.old.content) }
         ensures absent { OnErr result (numbers_of self.old set.now user.now ≡ 0) }
         ensures above { OnErr result (0 < number) }
     {
@@ -177,6 +181,27 @@ impl Counts {
         match self.numbers.update(&pair, NumberChange { number }) {
             Ok(()) => Ok(()),
             Err(never) => match never {},
+        }
+    }
+
+    /// Makes room for the numbers of so many more pairs. The numbers stay as they are, also where memory ends.
+    pub fn reserve(&mut self, more: usize) -> Result<(), AllocError>
+        ensures numbers { numbers_of self.new ≡ numbers_of self.old }
+        ensures ok { OnOk result (more ≤ self.new.room) }
+    {
+        self.numbers.reserve(more)
+    }
+
+    /// Gives a set and a user a number, where there is room. Takes no memory.
+    pub fn put_ready(&mut self, key: (Name, Name), number: u32)
+        requires { 0 < self.old.room }
+        ensures numbers { numbers_of self.new ≡ with_number key.0 key.1 number (numbers_of self.old) }
+        ensures room { self.old.room ≤ self.new.room + 1 }
+    {
+        if number == 0 {
+            self.numbers.remove(&key);
+        } else {
+            self.numbers.put(key, Positive::new(number));
         }
     }
 
@@ -209,10 +234,86 @@ impl Counts {
 
     /// Equal numbers.
     pub fn copy(&self) -> Result<Counts, AllocError>
-        ensures { IfOk result (λ copy. copy ≡ self.now) }
+        ensures { IfOk result (λ copy. copy.content ≡ self.now.content) }
     {
         Ok(Counts {
             numbers: self.numbers.copy()?,
         })
+    }
+}
+
+/// A call that may be refused, with its arguments.
+#[derive(Clone, Copy)]
+pub enum CountChange<'a> {
+    Put {
+        set: &'a Name,
+        user: &'a Name,
+        number: u32,
+    },
+}
+
+/// Changes of numbers, with all that they want but room.
+pub type CountPlan = Plan<((Name, Name), u32)>;
+
+impl Staged<CountChange<'_>> for Counts {
+    type Step = ((Name, Name), u32);
+
+    ghost Content = { NameValue → NameValue → ℕ };
+
+    ghost content = { λ c. numbers_of c };
+
+    ghost room = { λ c. c.room };
+
+    ghost changed = { numbers_after };
+
+    ghost made = { λ step numbers. with_number step.0.0 step.0.1 step.1 numbers };
+
+    fn prepare(
+        &self,
+        _alloc: Global,
+        _before: &[((Name, Name), u32)],
+        change: &CountChange,
+    ) -> Result<((Name, Name), u32), AllocError> {
+        match change {
+            CountChange::Put { set, user, number } => {
+                let key = (set.copy()?, user.copy()?);
+                Ok((key, *number))
+            }
+        }
+    }
+
+    fn make_room(&mut self, _alloc: Global, more: usize) -> Result<(), AllocError>
+        ensures content { numbers_of self.new ≡ numbers_of self.old }
+        ensures ok { OnOk result (more ≤ self.new.room) }
+    {
+        self.reserve(more)
+    }
+
+    fn make(&mut self, step: ((Name, Name), u32))
+        requires { 0 < self.old.room }
+        ensures content { numbers_of self.new ≡ with_number step.0.0 step.0.1 step.1 (numbers_of self.old) }
+        ensures room { self.old.room ≤ self.new.room + 1 }
+    {
+        let (key, number) = step;
+        self.put_ready(key, number);
+    }
+}
+
+impl Counts {
+    /// Makes the names of the changes, and room for them. The numbers stay as they are, also where memory ends.
+    pub fn plan(&mut self, alloc: Global, changes: &[CountChange]) -> Result<CountPlan, AllocError>
+        ensures content { numbers_of self.new ≡ numbers_of self.old }
+        ensures changes { IfOk result (λ plan. with_numbers plan (numbers_of self.old) ≡ made_all numbers_after changes.now (numbers_of self.old)) }
+        ensures room { IfOk result (λ plan. length plan ≤ self.new.room) }
+    {
+        make_plan(alloc, self, changes)
+    }
+
+    /// Makes the changes that were planned, in order. Takes no memory.
+    pub fn commit(&mut self, plan: CountPlan)
+        requires { length plan ≤ self.old.room }
+        ensures { numbers_of self.new ≡ with_numbers plan (numbers_of self.old) }
+    {
+        commit::<CountChange, Counts>(self, plan);
     }
 }

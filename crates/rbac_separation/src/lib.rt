@@ -4,10 +4,12 @@
 mod change;
 mod counts;
 mod role_set;
+mod set_plan;
 mod set_table;
 
-pub use counts::Counts;
+pub use counts::{CountChange, CountPlan, Counts};
 pub use role_set::RoleSet;
+pub use set_plan::{SetChange, SetPlan};
 pub use set_table::SetTable;
 
 #[cfg(test)]

@@ -20,7 +20,7 @@ use std::marker::Model;
 /// against the roles that are active in a session.
 #[derive(Drop)]
 pub struct SetTable {
-    sets: SortedMap<Name, RoleSet>,
+    pub(crate) sets: SortedMap<Name, RoleSet>,
 }
 
 impl Model for SetTable {
@@ -28,7 +28,7 @@ impl Model for SetTable {
 
     ghost Value = { SetTableValue };
 
-    ghost view = { λ t. record { content = t.sets.content } };
+    ghost view = { λ t. record { content = t.sets.content; room = t.sets.room } };
 }
 
 // The names of the sets.

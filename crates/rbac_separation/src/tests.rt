@@ -1,6 +1,7 @@
 //! Each public call with ample memory. What is expected was written by hand.
+ghost use Rattle.std.specs.Prelude.{◌≤◌, length};
 
-use crate::{Counts, RoleSet, SetTable};
+use crate::{CountChange, CountPlan, Counts, RoleSet, SetChange, SetPlan, SetTable};
 use rbac_words::{Name, NameSet};
 use sorted_keys::{Duplicate, Same};
 use std::alloc::Global;
@@ -309,6 +310,20 @@ fn another_number_takes_its_place_and_0_takes_it_out(rt: HostRuntime) {
 }
 
 #[test]
+fn numbers_are_put_where_there_is_room(rt: HostRuntime) {
+    let alloc = rt.alloc();
+    let mut counts = some_counts(&rt, alloc);
+    let ann = (name(&rt, alloc, "d"), name(&rt, alloc, "ann"));
+    let bob = (name(&rt, alloc, "d"), name(&rt, alloc, "bob"));
+    counts.reserve(2).expect(&rt, "memory");
+    assert_numbers(&rt, alloc, &counts, (1, 1, 2));
+    counts.put_ready(ann, 3);
+    counts.put_ready(bob, 0);
+    assert_numbers(&rt, alloc, &counts, (3, 1, 0));
+    drop(counts);
+}
+
+#[test]
 fn a_set_or_a_user_is_forgotten(rt: HostRuntime) {
     let alloc = rt.alloc();
     let mut counts = some_counts(&rt, alloc);
@@ -358,4 +373,74 @@ fn fresh_roles_are_counted_besides(rt: HostRuntime) {
     assert!(rt; is_over_with(&rt, alloc, &counts, &sets, "bob", &["a"], ""));
     drop(counts);
     drop(sets);
+}
+
+// Plans the set e of two of a and b, to which c then comes.
+fn plan_a_set(rt: &impl Abort, alloc: Global, sets: &mut SetTable) -> SetPlan
+    ensures { length result ≤ sets.new.room }
+{
+    let (set, role) = (name(rt, alloc, "e"), name(rt, alloc, "c"));
+    let roles = roles(rt, alloc, &["a", "b"]);
+    let changes = [
+        SetChange::Create {
+            set: &set,
+            roles: &roles,
+            cardinality: 2,
+        },
+        SetChange::AddMember {
+            set: &set,
+            role: &role,
+        },
+    ];
+    sets.plan(alloc, &changes).expect(rt, "memory")
+}
+
+#[test]
+fn a_plan_of_sets_changes_nothing_until_its_commit(rt: HostRuntime) {
+    let alloc = rt.alloc();
+    let mut sets = one_set(&rt, alloc);
+    let plan = plan_a_set(&rt, alloc, &mut sets);
+    assert_contains(&rt, alloc, &sets, "e", false);
+    sets.commit(plan);
+    assert_roles(&rt, alloc, &sets, "e", &["a", "b", "c"]);
+    assert_cardinality(&rt, alloc, &sets, "e", 2);
+    drop(sets);
+}
+
+// Plans the number 3 of d and ann, and then another.
+fn plan_numbers(rt: &impl Abort, alloc: Global, counts: &mut Counts, last: u32) -> CountPlan
+    ensures { length result ≤ counts.new.room }
+{
+    let (set, user) = (name(rt, alloc, "d"), name(rt, alloc, "ann"));
+    let changes = [
+        CountChange::Put {
+            set: &set,
+            user: &user,
+            number: 3,
+        },
+        CountChange::Put {
+            set: &set,
+            user: &user,
+            number: last,
+        },
+    ];
+    counts.plan(alloc, &changes).expect(rt, "memory")
+}
+
+fn number_of_ann(rt: &impl Abort, alloc: Global, counts: &Counts) -> u32 {
+    counts.get(&name(rt, alloc, "d"), &name(rt, alloc, "ann"))
+}
+
+#[test]
+fn a_plan_of_numbers_changes_nothing_until_its_commit(rt: HostRuntime) {
+    let alloc = rt.alloc();
+    let mut counts = Counts::empty(alloc);
+    let plan = plan_numbers(&rt, alloc, &mut counts, 2);
+    assert_eq!(rt; number_of_ann(&rt, alloc, &counts), 0);
+    counts.commit(plan);
+    assert_eq!(rt; number_of_ann(&rt, alloc, &counts), 2);
+    let plan = plan_numbers(&rt, alloc, &mut counts, 0);
+    counts.commit(plan);
+    assert_eq!(rt; number_of_ann(&rt, alloc, &counts), 0);
+    drop(counts);
 }

@@ -2,9 +2,11 @@
 #![tactic(auto)]
 
 mod change;
+mod plan;
 mod session;
 mod sessions;
 
+pub use plan::{Change, Plan};
 pub use session::Session;
 pub use sessions::{SessionTest, Sessions};
 

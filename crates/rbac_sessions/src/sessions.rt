@@ -17,7 +17,7 @@ use std::marker::Model;
 /// The sessions, each by its name.
 #[derive(Drop)]
 pub struct Sessions {
-    sessions: SortedMap<Name, Session>,
+    pub(crate) sessions: SortedMap<Name, Session>,
 }
 
 impl Model for Sessions {
@@ -25,7 +25,7 @@ impl Model for Sessions {
 
     ghost Value = { SessionsValue };
 
-    ghost view = { λ s. record { content = s.sessions.content } };
+    ghost view = { λ s. record { content = s.sessions.content; room = s.sessions.room } };
 }
 
 /// A test of sessions.

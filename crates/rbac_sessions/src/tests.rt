@@ -1,8 +1,9 @@
 //! Each public call with ample memory. What is expected was written by hand.
+ghost use Rattle.std.specs.Prelude.{◌≤◌, length};
 ghost use Rattle.std.specs.Ordering.{eq_by_cmp};
 ghost use Rattle.rbac_words.specs.Name.{name_cmp};
 
-use crate::{Session, SessionTest, Sessions};
+use crate::{Change, Plan, Session, SessionTest, Sessions};
 use rbac_words::{Name, NameSet};
 use sorted_keys::{Duplicate, Same};
 use std::alloc::Global;
@@ -186,4 +187,42 @@ fn one_session_is_copied_and_compared(rt: HostRuntime) -> Result<(), Fail> {
     copy.active.remove(&name(&rt, alloc, "clerk"));
     assert!(rt; !copy.same(&session));
     Ok(())
+}
+
+// Plans s3 of cleo as auditor, who then is a clerk too, as bob in s2 is an auditor.
+fn plan_an_auditor(rt: &impl Abort, alloc: Global, sessions: &mut Sessions) -> Plan
+    ensures { length result ≤ sessions.new.room }
+{
+    let (second, third) = (name(rt, alloc, "s2"), name(rt, alloc, "s3"));
+    let (cleo, clerk) = (name(rt, alloc, "cleo"), name(rt, alloc, "clerk"));
+    let (auditor, roles) = (name(rt, alloc, "auditor"), set(rt, alloc, &["auditor"]));
+    let changes = [
+        Change::Create {
+            session: &third,
+            user: &cleo,
+            roles: &roles,
+        },
+        Change::Activate {
+            session: &third,
+            role: &clerk,
+        },
+        Change::Activate {
+            session: &second,
+            role: &auditor,
+        },
+    ];
+    sessions.plan(alloc, &changes).expect(rt, "memory")
+}
+
+#[test]
+fn a_plan_changes_nothing_until_its_commit(rt: HostRuntime) {
+    let alloc = rt.alloc();
+    let mut sessions = two_sessions(&rt, alloc);
+    let plan = plan_an_auditor(&rt, alloc, &mut sessions);
+    assert_eq!(rt; sessions.len(), 2);
+    assert_roles(&rt, alloc, &sessions, "s2", &["clerk", "payer"]);
+    sessions.commit(plan);
+    assert_roles(&rt, alloc, &sessions, "s2", &["auditor", "clerk", "payer"]);
+    assert_roles(&rt, alloc, &sessions, "s3", &["auditor", "clerk"]);
+    drop(sessions);
 }

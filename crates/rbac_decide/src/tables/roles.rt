@@ -1,5 +1,5 @@
 //! Changes of the roles and of the declared pairs, in the role sets and in the hierarchy alike.
-ghost use Rattle.std.specs.Prelude.{◌≡◌, IsTrue, OnOk};
+ghost use Rattle.std.specs.Prelude.{◌≡◌, IsTrue, OnOk, OnErr};
 ghost use Rattle.sorted_keys.specs.Keys.{has, with_key};
 ghost use Rattle.rbac_words.specs.Name.{name_cmp};
 ghost use Rattle.rbac_words.specs.Change.{change};
@@ -9,23 +9,28 @@ ghost use Rattle.rbac_words.specs.declared.command.Command.TheVariants.{AddRole,
 use crate::ending::WithActive;
 use crate::tables::Tables;
 use rbac_hierarchy::RoleOrder;
+use rbac_rolesets::Change;
 use rbac_words::Name;
 use std::alloc::{AllocError, Global};
 
 impl Tables {
-    ghost use Rattle.rbac_decide.specs.Tables.{state_of, HasSameRoles};
+    ghost use Rattle.rbac_decide.specs.Tables.{state_of, HasSameRoles, HaveSameSets};
 
     pub fn add_role(&mut self, alloc: Global, role: &Name) -> Result<(), AllocError>
         ensures state { OnOk result ((v : VocabularyValue) → state_of self.new v ≡ change (AddRole role.now) (state_of self.old v)) }
         ensures same_roles { HasSameRoles self.old → OnOk result (HasSameRoles self.new) }
+        ensures unchanged { OnErr result (HaveSameSets self.new self.old) }
     {
-        self.sets.add_role(role.copy()?)?;
-        self.hierarchy.add_role(alloc, role)
+        let roles = self.sets.plan(alloc, &[Change::AddRole { role }])?;
+        self.hierarchy.add_role(alloc, role)?;
+        self.sets.commit(roles);
+        Ok(())
     }
 
     pub fn delete_role(&mut self, alloc: Global, role: &Name) -> Result<(), AllocError>
         ensures state { OnOk result ((v : VocabularyValue) → state_of self.new v ≡ change (DeleteRole role.now) (state_of self.old v)) }
         ensures same_roles { HasSameRoles self.old → OnOk result (HasSameRoles self.new) }
+        ensures unchanged { OnErr result (HaveSameSets self.new self.old) }
     {
         self.hierarchy.remove_role(alloc, role)?;
         self.sets.remove_role(role);
@@ -42,13 +47,14 @@ impl Tables {
     ) -> Result<(), AllocError>
         ensures state { OnOk result ((v : VocabularyValue) → state_of self.new v ≡ change (DeleteInheritance ascendant.now descendant.now) (state_of self.old v)) }
         ensures same_roles { HasSameRoles self.old → OnOk result (HasSameRoles self.new) }
+        ensures unchanged { OnErr result (HaveSameSets self.new self.old) }
     {
         self.hierarchy.retract(alloc, ascendant, descendant)?;
         self.purge();
         Ok(())
     }
 
-    /// Adds a role, and declares a pair of roles of which it is one.
+    /// Adds a role, and declares a pair of roles of which it is one: in a copy of the hierarchy, which is put in place at the end.
     pub fn add_role_with_pair(
         &mut self,
         alloc: Global,
@@ -60,9 +66,14 @@ impl Tables {
         requires descendant { IsTrue (has name_cmp descendant.now (with_key name_cmp role.now self.old.hierarchy.content.roles)) }
         ensures state { OnOk result ((v : VocabularyValue) → state_of self.new v ≡ change (AddInheritance ascendant.now descendant.now) (change (AddRole role.now) (state_of self.old v))) }
         ensures same_roles { HasSameRoles self.old → OnOk result (HasSameRoles self.new) }
+        ensures unchanged { OnErr result (HaveSameSets self.new self.old) }
     {
-        self.add_role(alloc, role)?;
-        self.hierarchy.declare(alloc, ascendant, descendant)?;
+        let roles = self.sets.plan(alloc, &[Change::AddRole { role }])?;
+        let mut hierarchy = self.hierarchy.copy()?;
+        hierarchy.add_role(alloc, role)?;
+        hierarchy.declare(alloc, ascendant, descendant)?;
+        self.hierarchy = hierarchy;
+        self.sets.commit(roles);
         Ok(())
     }
 }

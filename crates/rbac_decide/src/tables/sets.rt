@@ -1,5 +1,5 @@
 //! Changes of the sets of separation of a kind.
-ghost use Rattle.std.specs.Prelude.{◌≡◌, OnOk};
+ghost use Rattle.std.specs.Prelude.{◌≡◌, OnOk, OnErr};
 ghost use Rattle.rbac_words.specs.Change.{change};
 ghost use Rattle.rbac_words.specs.Founding.{Vocabulary as VocabularyValue};
 ghost use Rattle.rbac_words.specs.declared.command.Command.TheVariants.{CreateSet, DeleteSet, AddRoleMember, DeleteRoleMember, SetCardinality};
@@ -9,7 +9,7 @@ use rbac_words::{Name, NameSet, Separation};
 use std::alloc::AllocError;
 
 impl Tables {
-    ghost use Rattle.rbac_decide.specs.Tables.{state_of, HasSameRoles};
+    ghost use Rattle.rbac_decide.specs.Tables.{state_of, HasSameRoles, HaveSameSets};
 
     pub fn create_set(
         &mut self,
@@ -20,6 +20,7 @@ impl Tables {
     ) -> Result<(), AllocError>
         ensures state { OnOk result ((v : VocabularyValue) → state_of self.new v ≡ change (CreateSet kind set.now roles.now n) (state_of self.old v)) }
         ensures same_roles { HasSameRoles self.old → OnOk result (HasSameRoles self.new) }
+        ensures unchanged { OnErr result (HaveSameSets self.new self.old) }
     {
         let set = set.copy()?;
         let roles = roles.copy()?;
@@ -48,6 +49,7 @@ impl Tables {
     ) -> Result<(), AllocError>
         ensures state { OnOk result ((v : VocabularyValue) → state_of self.new v ≡ change (AddRoleMember kind set.now role.now) (state_of self.old v)) }
         ensures same_roles { HasSameRoles self.old → OnOk result (HasSameRoles self.new) }
+        ensures unchanged { OnErr result (HaveSameSets self.new self.old) }
     {
         let role = role.copy()?;
         match kind {
