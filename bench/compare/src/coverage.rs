@@ -91,8 +91,7 @@ impl Coverage {
     fn missing_answers(&self, choices: &Choices) -> Vec<String> {
         let rows = choices.rows();
         let answers = rows.iter().flat_map(|row| row.answers.iter().map(|answer| (row.name, *answer)));
-        let can_occur = answers.filter(|(command, answer)| choices.can_occur(command, answer));
-        let absent = can_occur.filter(|(command, answer)| self.answers_of(command, answer) == 0);
+        let absent = answers.filter(|(command, answer)| self.answers_of(command, answer) == 0);
         absent.map(|(command, answer)| format!("{command} {answer}")).collect()
     }
 

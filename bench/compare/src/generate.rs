@@ -33,8 +33,7 @@ pub enum Members {
 #[derive(Clone, Copy, PartialEq, Eq)]
 pub enum Extent {
     Whole,
-    /// For a program that is slow to start and slow to run: fewer foundings and inputs, and no schedule that fills the users
-    /// or the sessions.
+    /// For a program that is slow to start and slow to run: fewer foundings and inputs.
     Short,
 }
 
@@ -42,12 +41,6 @@ impl Choices {
     /// The commands that the schedules have.
     pub fn rows(&self) -> Vec<&'static Row> {
         ROWS.iter().filter(|row| self.reviews || row.group != Group::Review).collect()
-    }
-
-    /// Whether some schedule can bring this answer about.
-    pub fn can_occur(&self, command: &str, answer: &str) -> bool {
-        let fills_all = self.extent == Extent::Whole;
-        fills_all || !matches!((command, answer), ("AddUser" | "CreateSession", "Limit"))
     }
 }
 
@@ -59,7 +52,7 @@ pub fn fixed_cases(choices: &Choices) -> Vec<Case> {
     let mut random = Random::new(choices.seed);
     let mut cases = ends::cases();
     cases.extend(cutting::cases(&mut random, choices.extent));
-    cases.extend(limits::cases(&mut random, choices.extent));
+    cases.extend(limits::cases(&mut random));
     cases.extend(foundings::cases(&mut random, choices.extent));
     let (count, length) = if choices.extent == Extent::Whole { (10, 10_000) } else { (2, 4_000) };
     let rows = choices.rows();

@@ -96,9 +96,6 @@ fn compare(words: &Words) -> Result<bool, String> {
     let program = monitor(words)?;
     let choices = &words.choices;
     println!("seed {}", choices.seed);
-    if choices.extent == Extent::Short && choices.members == Members::OneAndGroups {
-        println!("left out, since they take rt try too long: schedules that fill the users or the sessions");
-    }
     let pair = Pair { reference: &reference, program: program.as_ref() };
     let mut coverage = Coverage::default();
     let mut cases = generate::fixed_cases(choices);

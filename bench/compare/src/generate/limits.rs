@@ -2,7 +2,6 @@
 //!
 //! Each also asks, at the limit, for what an earlier precondition denies, and goes below the limit and back to it.
 
-use super::Extent;
 use super::builder::{self, Builder};
 use crate::case::Case;
 use crate::random::Random;
@@ -10,18 +9,16 @@ use crate::tree::{self, Tree};
 
 const VOCABULARY: &str = "operations = []\nobjects = []\npermissions = []\n";
 
-pub fn cases(random: &mut Random, extent: Extent) -> Vec<Case> {
+pub fn cases(random: &mut Random) -> Vec<Case> {
     let named = |name: &str, founding, schedule| Case::new(format!("limit-{name}"), founding, schedule);
     let mut cases = vec![
         named("roles", None, all_roles()),
         named("static-sets", None, sets("Ssd")),
         named("dynamic-sets", None, sets("Dsd")),
+        named("users", None, users()),
+        users_at_two_members(),
+        named("sessions", None, sessions()),
     ];
-    if extent == Extent::Whole {
-        cases.push(named("users", None, users()));
-        cases.push(users_at_two_members());
-        cases.push(named("sessions", None, sessions()));
-    }
     for (number, left) in [0, 1, 20].into_iter().enumerate() {
         let clock = 9_007_199_254_740_991u64 - left;
         let founding = format!("version = 1\nmembers = 1\nclock = {clock}\n{VOCABULARY}");
