@@ -4,16 +4,22 @@ ghost use Rattle.std.specs.List.{list_all};
 ghost use Rattle.rbac_words.specs.Name.{is_name_byte as is_byte_of_a_name, is_name as is_a_name};
 
 use crate::limits::LONGEST_NAME;
+use smallvec::SmallVec;
 use sorted_keys::{Duplicate, Exact, Same};
 use std::alloc::{AllocError, Global};
 use std::cmp::Ordering;
 use std::hash::{Hash, Hasher};
 use std::marker::Model;
+use std::sync::Arc;
 
-/// A name of 1 to 64 bytes, each of `A-Z a-z 0-9 _ - .`, ordered by its bytes.
+// So many bytes lie beside the count of a name's copies, and those of a longer name in a place of their own.
+type Bytes = SmallVec<u8, 16>;
+
+/// A name of 1 to 64 bytes, each of `A-Z a-z 0-9 _ - .`, ordered by its bytes. Copies share the bytes: a copy is a count and no
+/// allocation.
 #[derive(Drop)]
 pub struct Name {
-    bytes: Vec<u8>,
+    bytes: Arc<Bytes>,
 }
 
 impl Model for Name {
@@ -22,9 +28,9 @@ impl Model for Name {
 
     ghost Value = { List ℕ };
 
-    ghost view = { λ name. name.bytes.items };
+    ghost view = { λ name. name.bytes.value.items };
 
-    ghost invariant = { λ name. IsTrue (is_name name.bytes.items) };
+    ghost invariant = { λ name. IsTrue (is_name name.bytes.value.items) };
 }
 
 impl PartialEq for Name {
@@ -38,7 +44,7 @@ impl PartialEq for Name {
     ghost laws = { partial_equiv_from_equiv nat_list_eq_equiv };
 
     fn eq(&self, other: &Name) -> bool {
-        self.bytes == other.bytes
+        self.bytes.as_slice() == other.bytes.as_slice()
     }
 }
 
@@ -58,7 +64,7 @@ impl Hash for Name {
     ghost respects_eq = { Prim.search (hashing, rules) };
 
     fn hash<H: Hasher>(&self, state: &mut H) {
-        self.bytes.hash(state);
+        self.bytes.as_slice().hash(state);
     }
 }
 
@@ -77,7 +83,7 @@ impl Ord for Name {
     ghost matches_eq = { Prim.search (comparing, rules) };
 
     fn cmp(&self, other: &Name) -> Ordering {
-        self.bytes.cmp(&other.bytes)
+        self.bytes.as_slice().cmp(other.bytes.as_slice())
     }
 }
 
@@ -122,6 +128,14 @@ fn is_name(bytes: &[u8]) -> bool
     1 <= bytes.len() && bytes.len() <= LONGEST_NAME && are_name_bytes(bytes)
 }
 
+// The bytes, to be shared.
+fn shared(alloc: Global, bytes: &[u8]) -> Result<Arc<Bytes>, AllocError>
+    ensures { IfOk result (λ shared. shared.value.items ≡ bytes.now) }
+{
+    let bytes = Bytes::from_slice(alloc, bytes)?;
+    Ok(Arc::new(alloc, bytes)?)
+}
+
 impl Name {
     /// Reads a name: each byte string is a name or refused.
     pub fn read(alloc: Global, bytes: &[u8]) -> Result<Name, NameRefusal>
@@ -132,7 +146,7 @@ impl Name {
         if !is_name(bytes) {
             return Err(NameRefusal::BadName);
         }
-        match Vec::from_slice(alloc, bytes) {
+        match shared(alloc, bytes) {
             Ok(bytes) => Ok(Name { bytes }),
             Err(AllocError) => Err(NameRefusal::NoMemory),
         }
@@ -143,7 +157,7 @@ impl Name {
         ensures bytes { result.now ≡ self.now }
         ensures well_formed { IsTrue (is_a_name self.now) }
     {
-        &self.bytes
+        self.bytes.as_slice()
     }
 
     /// An equal name.
