@@ -126,9 +126,10 @@ pub fn count_authorized(
 ) -> usize
     ensures { result ≡ count_by (is_authorized (state_of_roles sets.now.content hierarchy.now.content) user.now) roles.now }
 {
+    let assignments = sets.assignments_of(user);
     roles
         .iter()
-        .filter(|role| is_authorized(sets, hierarchy, user, role))
+        .filter(|role| some_inherits(hierarchy, assignments, role))
         .count()
 }
 

@@ -1,5 +1,5 @@
 -- What a role hierarchy is seen as.
-use Rattle.std.specs.Prelude.{List, []}
+use Rattle.std.specs.Prelude.{ℕ, List, []}
 use Rattle.rbac_words.specs.Name.{Name}
 
 -- the roles, and the declared pairs of an ascendant and a descendant (RH), each sorted and without repeats
@@ -7,8 +7,10 @@ pub record Order : Type 0 where
   pub roles : List Name
   pub declared : List (Name × Name)
 
+-- and for how many more declared pairs there is room
 pub record Hierarchy : Type 0 where
   pub content : Order
+  pub room : ℕ
 
 -- no roles, and no pairs
 abbrev pub no_order : Order

@@ -1,5 +1,7 @@
 //! A hierarchy as a row of bits for each role.
-ghost use Rattle.std.specs.Prelude.{◌≡◌};
+ghost use Rattle.std.specs.Prelude.{◌≡◌, ◌<◌, ◌≤◌, IsTrue, OnOk, OnErr};
+ghost use Rattle.sorted_keys.specs.Keys.{has, with_key};
+ghost use Rattle.rbac_words.specs.Name.{name_cmp, pair_cmp};
 
 mod numbers;
 mod renewal;
@@ -32,9 +34,41 @@ impl Model for BitOrder {
 
     ghost Value = { HierarchyValue };
 
-    ghost view = { λ h. record { content = record { roles = roles_of h.numbers.keys; declared = h.declared.content } } };
+    ghost view = { λ h. record { content = record { roles = roles_of h.numbers.keys; declared = h.declared.content }; room = h.declared.room } };
 
     ghost invariant = { λ h. IsExact h.numbers.keys h.declared.content h.inherited };
+}
+
+impl BitOrder {
+    // Adds a role. Where it is there, nothing changes. There is room for as many pairs as before.
+    fn put_role(&mut self, alloc: Global, role: &Name) -> Result<(), AllocError>
+        ensures ok { let h = self.old.content in OnOk result (self.new.content ≡ record h { roles = with_key name_cmp role.now h.roles }) }
+        ensures err { OnErr result (self.new.content ≡ self.old.content) }
+        ensures room { self.new.room ≡ self.old.room }
+    {
+        if number_of(&self.numbers, role).is_some() {
+            return Ok(());
+        }
+        let role = role.copy()?;
+        self.numbers.reserve(1)?;
+        self.inherited.invariants();
+        self.inherited.add(alloc)?;
+        self.numbers.insert_full(role).unwrap();
+        Ok(())
+    }
+
+    // Declares a pair of roles where there is room for it. Takes no memory.
+    fn put_pair(&mut self, alloc: Global, pair: (Name, Name))
+        requires room { 0 < self.old.room }
+        requires ascendant { IsTrue (has name_cmp pair.0 self.old.content.roles) }
+        requires descendant { IsTrue (has name_cmp pair.1 self.old.content.roles) }
+        ensures { let h = self.old.content in self.new.content ≡ record h { declared = with_key pair_cmp pair h.declared } }
+    {
+        let above = number(&self.numbers, &pair.0);
+        let below = number(&self.numbers, &pair.1);
+        self.declared.put(pair);
+        self.inherited.join_above(alloc, above, below);
+    }
 }
 
 impl RoleOrder for BitOrder {
@@ -66,15 +100,7 @@ impl RoleOrder for BitOrder {
     }
 
     fn add_role(&mut self, alloc: Global, role: &Name) -> Result<(), AllocError> {
-        if number_of(&self.numbers, role).is_some() {
-            return Ok(());
-        }
-        let role = role.copy()?;
-        self.numbers.reserve(1)?;
-        self.inherited.invariants();
-        self.inherited.add(alloc)?;
-        self.numbers.insert_full(role).unwrap();
-        Ok(())
+        self.put_role(alloc, role)
     }
 
     fn remove_role(&mut self, alloc: Global, role: &Name) -> Result<(), AllocError> {
@@ -103,11 +129,23 @@ impl RoleOrder for BitOrder {
         ascendant: &Name,
         descendant: &Name,
     ) -> Result<(), AllocError> {
-        let above = number(&self.numbers, ascendant);
-        let below = number(&self.numbers, descendant);
         let pair = (ascendant.copy()?, descendant.copy()?);
-        self.declared.insert(pair)?;
-        self.inherited.join_above(alloc, above, below);
+        self.declared.reserve(1)?;
+        self.put_pair(alloc, pair);
+        Ok(())
+    }
+
+    fn add_role_with_pair(
+        &mut self,
+        alloc: Global,
+        role: &Name,
+        ascendant: &Name,
+        descendant: &Name,
+    ) -> Result<(), AllocError> {
+        let pair = (ascendant.copy()?, descendant.copy()?);
+        self.declared.reserve(1)?;
+        self.put_role(alloc, role)?;
+        self.put_pair(alloc, pair);
         Ok(())
     }
 

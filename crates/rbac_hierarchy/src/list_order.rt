@@ -43,7 +43,7 @@ impl Model for ListOrder {
 
     ghost Value = { HierarchyValue };
 
-    ghost view = { λ h. record { content = record { roles = roles_in h.juniors.content; declared = h.declared.content } } };
+    ghost view = { λ h. record { content = record { roles = roles_in h.juniors.content; declared = h.declared.content }; room = h.declared.room } };
 
     ghost invariant = { λ h. AreRows h.declared.content h.juniors.content };
 }
@@ -118,6 +118,20 @@ impl RoleOrder for ListOrder {
         let second = descendant.copy()?;
         declared.insert((first, second))?;
         self.replace_pairs(alloc, declared)
+    }
+
+    fn add_role_with_pair(
+        &mut self,
+        alloc: Global,
+        role: &Name,
+        ascendant: &Name,
+        descendant: &Name,
+    ) -> Result<(), AllocError> {
+        let mut changed = self.copy()?;
+        changed.add_role(alloc, role)?;
+        changed.declare(alloc, ascendant, descendant)?;
+        *self = changed;
+        Ok(())
     }
 
     fn retract(

@@ -53,6 +53,19 @@ pub trait RoleOrder: Sized {
         ensures ok { let h = content self.old in OnOk result (content self.new ≡ record h { declared = with_key pair_cmp (ascendant.now, descendant.now) h.declared }) }
         ensures err { OnErr result (content self.new ≡ content self.old) };
 
+    /// Adds a role, and declares a pair of roles of which it is one.
+    fn add_role_with_pair(
+        &mut self,
+        alloc: Global,
+        role: &Name,
+        ascendant: &Name,
+        descendant: &Name,
+    ) -> Result<(), AllocError>
+        requires ascendant { IsTrue (has name_cmp ascendant.now (with_key name_cmp role.now (content self.old).roles)) }
+        requires descendant { IsTrue (has name_cmp descendant.now (with_key name_cmp role.now (content self.old).roles)) }
+        ensures ok { let h = content self.old in OnOk result (content self.new ≡ record { roles = with_key name_cmp role.now h.roles; declared = with_key pair_cmp (ascendant.now, descendant.now) h.declared }) }
+        ensures err { OnErr result (content self.new ≡ content self.old) };
+
     /// Takes a declared pair back. Where it is not declared, nothing changes.
     fn retract(
         &mut self,

@@ -263,6 +263,27 @@ fn a_role_that_is_there_is_not_added<O: RoleOrder + Drop>(rt: &impl Abort, alloc
     drop(before);
 }
 
+// Adds both, and the first one with the pair that puts it above the second.
+fn add_above<O: RoleOrder>(
+    alloc: Global,
+    hierarchy: &mut O,
+    role: &Name,
+    junior: &Name,
+) -> Result<(), AllocError> {
+    hierarchy.add_role(alloc, junior)?;
+    hierarchy.add_role_with_pair(alloc, role, role, junior)
+}
+
+fn a_role_is_added_with_a_pair<O: RoleOrder + Drop>(rt: &impl Abort, alloc: Global) {
+    let mut hierarchy: O = hierarchy_of(rt, alloc, &[("b", "c")]);
+    let (a, b) = (name(rt, alloc, "a"), name(rt, alloc, "b"));
+    add_above(alloc, &mut hierarchy, &a, &b).expect(rt, "memory");
+    let declared = [("a", "b", true), ("b", "c", true), ("a", "c", false)];
+    assert_declared(rt, alloc, &hierarchy, &declared);
+    assert_juniors(rt, alloc, &hierarchy, "a", &["a", "b", "c"]);
+    drop(hierarchy);
+}
+
 fn a_pair_that_is_not_declared_is_not_retracted<O: RoleOrder + Drop>(
     rt: &impl Abort,
     alloc: Global,
@@ -398,6 +419,7 @@ fn rules_of<O: RoleOrder + Drop>(rt: &impl Abort, alloc: Global) {
     roles_in_a_circle_inherit_one_another::<O>(rt, alloc);
     a_role_is_removed_with_its_pairs::<O>(rt, alloc);
     a_role_that_is_there_is_not_added::<O>(rt, alloc);
+    a_role_is_added_with_a_pair::<O>(rt, alloc);
     a_pair_that_is_not_declared_is_not_retracted::<O>(rt, alloc);
     a_copy_is_the_same_until_its_pairs_change::<O>(rt, alloc);
     the_last_role_takes_the_place_of_a_removed_one::<O>(rt, alloc);

@@ -54,7 +54,7 @@ impl Tables {
         Ok(())
     }
 
-    /// Adds a role, and declares a pair of roles of which it is one: in a copy of the hierarchy, which is put in place at the end.
+    /// Adds a role, and declares a pair of roles of which it is one.
     pub fn add_role_with_pair(
         &mut self,
         alloc: Global,
@@ -69,10 +69,8 @@ impl Tables {
         ensures unchanged { OnErr result (HaveSameSets self.new self.old) }
     {
         let roles = self.sets.plan(alloc, &[Change::AddRole { role }])?;
-        let mut hierarchy = self.hierarchy.copy()?;
-        hierarchy.add_role(alloc, role)?;
-        hierarchy.declare(alloc, ascendant, descendant)?;
-        self.hierarchy = hierarchy;
+        self.hierarchy
+            .add_role_with_pair(alloc, role, ascendant, descendant)?;
         self.sets.commit(roles);
         Ok(())
     }

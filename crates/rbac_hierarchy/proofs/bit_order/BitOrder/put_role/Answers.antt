@@ -4,7 +4,7 @@ use Rattle.sorted_keys.specs.Keys.{has, with_key}
 use Rattle.rbac_hierarchy.specs.Numbers.{roles_of, IsExact}
 use Rattle.rbac_hierarchy.proofs.ExactLemmas.{exact_added, exact_same, names_then, role_there, roles_then}
 use Rattle.rbac_hierarchy.proofs.NumberLemmas.{role_found, role_missing}
-use Rattle.rbac_hierarchy.proofs.bit_order.BitOrderRoleOrder.add_role.Goals as goal
+use Rattle.rbac_hierarchy.proofs.bit_order.BitOrder.put_role.Goals as goal
 
 pub returns-then-is_some-clause-ok : goal.returns-then-is_some-clause-ok
 returns-then-is_some-clause-ok c =

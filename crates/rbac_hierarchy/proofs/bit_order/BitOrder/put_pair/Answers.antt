@@ -4,20 +4,20 @@ use Rattle.sorted_keys.specs.Keys.{has}
 use Rattle.rbac_hierarchy.proofs.ExactLemmas.{exact_declared}
 use Rattle.rbac_hierarchy.proofs.NumberLemmas.{has_role}
 use Rattle.rbac_hierarchy.proofs.RangeLemmas.{ranges_more}
-use Rattle.rbac_hierarchy.proofs.bit_order.BitOrderRoleOrder.declare.Goals as goal
+use Rattle.rbac_hierarchy.proofs.bit_order.BitOrder.put_pair.Goals as goal
 
 pub number-above-requires : goal.number-above-requires
-number-above-requires c = sym (has_role c.self.inside.numbers.keys c.args.ascendant.now) ∙ rw (← ap (λ h. h.content) c.self.view_is) at c.requires.ascendant
+number-above-requires c = sym (has_role c.self.inside.numbers.keys c.args.pair.0) ∙ rw (← ap (λ h. h.content) c.self.view_is) at c.requires.ascendant
 
 pub number-below-requires : goal.number-below-requires
-number-below-requires c = sym (has_role c.self.inside.numbers.keys c.args.descendant.now) ∙ rw (← ap (λ h. h.content) c.self.view_is) at c.requires.descendant
+number-below-requires c = sym (has_role c.self.inside.numbers.keys c.args.pair.1) ∙ rw (← ap (λ h. h.content) c.self.view_is) at c.requires.descendant
 
-pub invariant_of-self-2 : goal.invariant_of-self-2
-invariant_of-self-2 c =
+pub invariant_of-self : goal.invariant_of-self
+invariant_of-self c =
     let inside = c.self.inside in
     let is_a = rw (← ap (λ h. h.content) c.self.view_is) at c.requires.ascendant in
     let is_d = rw (← ap (λ h. h.content) c.self.view_is) at c.requires.descendant in
-    let more = rw (c.in_ok-copy.ensures, c.in_ok-copy-2.ensures) at c.in_ok-insert.ensures.ok in
-    exact_declared inside.numbers.keys inside.declared.content c.insert.new.self.content inside.inherited c.join_above.new.self _ _ c.args.ascendant.now c.args.descendant.now c.self.invariant
+    let more = c.put.ensures.content in
+    exact_declared inside.numbers.keys inside.declared.content c.put.new.self.content inside.inherited c.join_above.new.self _ _ c.args.pair.0 c.args.pair.1 c.self.invariant
     c.number-above.ensures.in_range c.number-above.ensures.role c.number-below.ensures.in_range c.number-below.ensures.role
     is_a is_d (ranges_more _ _ _ _ _ c.self.invariant.ranges is_a is_d more) more c.join_above.ensures.count c.join_above.ensures.related
