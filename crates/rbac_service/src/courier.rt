@@ -1,5 +1,6 @@
 //! Hints between members: that a member has published messages. They may be lost, come twice or come in another order, since a
 //! member reads the sender's row and not the hint.
+ghost use Rattle.std.specs.Prelude.{◌≡◌, IfOk, vec_len};
 
 use crossbeam_channel::{Receiver, Sender, unbounded};
 use std::alloc::{AllocError, Global};
@@ -51,7 +52,10 @@ impl<R: Wait + Clock + Drop> ChannelCourier<R> {
     ///
     /// # Errors
     /// `AllocError` where they get no memory.
-    pub fn found(rt: R, alloc: Global, members: u32) -> Result<ChannelCourier<R>, AllocError> {
+    pub fn found(rt: R, alloc: Global, members: u32) -> Result<ChannelCourier<R>, AllocError>
+        ensures handle { IfOk result (λ courier. courier.rt ≡ rt) }
+        ensures channels { IfOk result (λ courier. vec_len courier.channels ≡ members) }
+    {
         let mut channels = Vec::with_capacity(alloc, members as usize)?;
         for _ in 0..members {
             let (sender, receiver) = unbounded(alloc)?;

@@ -101,6 +101,10 @@ impl<G: GroupName, K: Gate + Drop, C: Courier + Drop> Service<G, K, C> {
     ) -> Result<Service<G, K, C>, AllocError>
         requires names { (group ≡ G.group) × (vocabulary ≡ G.vocabulary) × (rows ≡ G.cells) }
         requires members { length rows.sent ≡ group.members }
+        ensures rows { IfOk result (λ service. service.rows ≡ rows) }
+        ensures members { IfOk result (λ service. vec_len service.slots ≡ group.members) }
+        ensures gate { IfOk result (λ service. service.gate ≡ gate) }
+        ensures courier { IfOk result (λ service. service.courier ≡ courier) }
     {
         group.invariants();
         let slots = found_slots(alloc, &rows, group, &vocabulary)?;
