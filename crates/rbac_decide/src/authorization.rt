@@ -117,6 +117,16 @@ pub fn fresh_roles(
     names_where(alloc, roles, &test)
 }
 
+// How many of the roles the role of one of the assignments inherits.
+fn count_inherited(hierarchy: &Hierarchy, assignments: &[(Name, Name)], roles: &[Name]) -> usize
+    ensures { let h = hierarchy.now.content in result ≡ count_by (λ role. list_any (λ pair. inherits h.roles h.declared pair.1 role) assignments.now) roles.now }
+{
+    roles
+        .iter()
+        .filter(|role| some_inherits(hierarchy, assignments, role))
+        .count()
+}
+
 /// How many of the roles the user is authorized for.
 pub fn count_authorized(
     sets: &RoleSets,
@@ -126,11 +136,7 @@ pub fn count_authorized(
 ) -> usize
     ensures { result ≡ count_by (is_authorized (state_of_roles sets.now.content hierarchy.now.content) user.now) roles.now }
 {
-    let assignments = sets.assignments_of(user);
-    roles
-        .iter()
-        .filter(|role| some_inherits(hierarchy, assignments, role))
-        .count()
+    count_inherited(hierarchy, sets.assignments_of(user), roles)
 }
 
 /// Whether each of the roles is there, and the owner of a session is authorized for it. Where the owner is, the role is there.
