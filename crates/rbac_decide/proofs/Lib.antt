@@ -1,5 +1,6 @@
 pub mod AffectedLemmas
 pub mod ApplyLemmas
+pub mod CheckLemmas
 pub mod CountingLemmas
 pub mod CountingSteps
 pub mod FreshLemmas

@@ -17,6 +17,7 @@ mod review;
 mod separation;
 mod violation;
 
+use crate::authorization::some_inherits_some;
 use crate::counting::{affected_pairs, recount_affected};
 use crate::policy::hindrance::Hindrance;
 use crate::tables::Tables;
@@ -109,8 +110,9 @@ impl Policy {
         ensures listed { IfOk result (λ granted. granted ≡ has pair_cmp (operation.now, object.now) (session_permissions self.now session.now)) }
     {
         self.invariants();
-        let session = self.checked_session(session, operation, object)?;
-        Ok(self.some_has_permission(session.active.names(), operation, object))
+        let grants = self.tables.sets.grants_of(operation, object);
+        let session = self.checked_session(session, operation, object, grants)?;
+        Ok(some_inherits_some(&self.tables.hierarchy, session.active.names(), grants))
     }
 
     /// Of each policy each set is in order and without repeats, references exist, counts are within their limits, the

@@ -1,3 +1,4 @@
 pub mod ListLemmas
 pub mod NameLemmas
+pub mod PrefixLemmas
 pub mod VocabularyLemmas

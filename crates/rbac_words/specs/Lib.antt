@@ -14,6 +14,7 @@ pub mod Members
 pub mod Message
 pub mod Name
 pub mod Play
+pub mod Prefix
 pub mod Relations
 pub mod Replay
 pub mod Reviews

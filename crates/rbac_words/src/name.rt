@@ -1,7 +1,8 @@
 //! Names: 1 to 64 bytes of a fixed alphabet.
-ghost use Rattle.std.specs.Prelude.{◌≡◌, ◌↔◌, IsTrue, IfOk, false};
+ghost use Rattle.std.specs.Prelude.{◌≡◌, ◌↔◌, IsTrue, IfOk, false, get_or};
 ghost use Rattle.std.specs.List.{list_all};
 ghost use Rattle.rbac_words.specs.Name.{is_name_byte as is_byte_of_a_name, is_name as is_a_name};
+ghost use Rattle.rbac_words.specs.Prefix.{first_bytes};
 
 use crate::limits::LONGEST_NAME;
 use smallvec::SmallVec;
@@ -19,18 +20,22 @@ type Bytes = SmallVec<u8, 16>;
 /// allocation.
 #[derive(Drop)]
 pub struct Name {
+    // The first eight bytes as one number, the first byte its greatest part, 0 where there is none: most names differ there or end
+    // there, and are compared without a look at their bytes.
+    prefix: u64,
     bytes: Arc<Bytes>,
 }
 
 impl Model for Name {
-    ghost use Rattle.std.specs.Prelude.{List, ℕ, IsTrue};
+    ghost use Rattle.std.specs.Prelude.{◌≡◌, List, ℕ, IsTrue};
     ghost use Rattle.rbac_words.specs.Name.{is_name};
+    ghost use Rattle.rbac_words.specs.Prefix.{first_bytes};
 
     ghost Value = { List ℕ };
 
     ghost view = { λ name. name.bytes.value.items };
 
-    ghost invariant = { λ name. IsTrue (is_name name.bytes.value.items) };
+    ghost invariant = { λ name. IsTrue (is_name name.bytes.value.items) × (name.prefix ≡ first_bytes 8 name.bytes.value.items) };
 }
 
 impl PartialEq for Name {
@@ -44,7 +49,7 @@ impl PartialEq for Name {
     ghost laws = { partial_equiv_from_equiv nat_list_eq_equiv };
 
     fn eq(&self, other: &Name) -> bool {
-        self.bytes.as_slice() == other.bytes.as_slice()
+        self.prefix == other.prefix && self.bytes.as_slice() == other.bytes.as_slice()
     }
 }
 
@@ -83,7 +88,12 @@ impl Ord for Name {
     ghost matches_eq = { Prim.search (comparing, rules) };
 
     fn cmp(&self, other: &Name) -> Ordering {
-        self.bytes.as_slice().cmp(other.bytes.as_slice())
+        match self.prefix.cmp(&other.prefix) {
+            // Names of fewer than eight bytes are all in their number.
+            Ordering::Equal if self.prefix % 256 == 0 => Ordering::Equal,
+            Ordering::Equal => self.bytes.as_slice().cmp(other.bytes.as_slice()),
+            unequal => unequal,
+        }
     }
 }
 
@@ -128,6 +138,29 @@ fn is_name(bytes: &[u8]) -> bool
     1 <= bytes.len() && bytes.len() <= LONGEST_NAME && are_name_bytes(bytes)
 }
 
+// The byte at a place, or 0 past the end.
+fn byte_at(bytes: &[u8], at: usize) -> u8
+    ensures { result ≡ get_or bytes.now at 0 }
+{
+    if at < bytes.len() { bytes[at] } else { 0 }
+}
+
+// The first eight bytes as one number.
+fn prefix(bytes: &[u8]) -> u64
+    ensures { result ≡ first_bytes 8 bytes.now }
+{
+    u64::from_be_bytes([
+        byte_at(bytes, 0),
+        byte_at(bytes, 1),
+        byte_at(bytes, 2),
+        byte_at(bytes, 3),
+        byte_at(bytes, 4),
+        byte_at(bytes, 5),
+        byte_at(bytes, 6),
+        byte_at(bytes, 7),
+    ])
+}
+
 // The bytes, to be shared.
 fn shared(alloc: Global, bytes: &[u8]) -> Result<Arc<Bytes>, AllocError>
     ensures { IfOk result (λ shared. shared.value.items ≡ bytes.now) }
@@ -147,7 +180,10 @@ impl Name {
             return Err(NameRefusal::BadName);
         }
         match shared(alloc, bytes) {
-            Ok(bytes) => Ok(Name { bytes }),
+            Ok(shared) => Ok(Name {
+                prefix: prefix(bytes),
+                bytes: shared,
+            }),
             Err(AllocError) => Err(NameRefusal::NoMemory),
         }
     }
@@ -165,6 +201,7 @@ impl Name {
         ensures { IfOk result (λ copy. copy ≡ self.now) }
     {
         Ok(Name {
+            prefix: self.prefix,
             bytes: self.bytes.clone()?,
         })
     }

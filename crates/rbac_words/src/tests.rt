@@ -102,7 +102,23 @@ fn names_are_ordered_by_bytes(rt: HostRuntime) {
     let rising = names(
         &rt,
         alloc,
-        &["-", ".", "0", "A", "B", "_", "a", "a-", "aa", "b"],
+        &[
+            "-",
+            ".",
+            "0",
+            "A",
+            "B",
+            "_",
+            "a",
+            "a-",
+            "aa",
+            "abcdefg",
+            "abcdefg-",
+            "abcdefgh",
+            "abcdefgh-",
+            "abcdefgha",
+            "b",
+        ],
     );
     for (first, second) in rising.iter().zip(rising.iter().skip(1)) {
         assert!(rt; first < second && first != second);

@@ -1,16 +1,16 @@
 //! Who is authorized for a role, and what a session may do.
 ghost use Rattle.std.specs.Prelude.{◌≡◌, length};
 ghost use Rattle.sorted_keys.specs.Keys.{has};
-ghost use Rattle.std.specs.List.{list_all, list_any};
+ghost use Rattle.std.specs.List.{list_all};
 ghost use Rattle.std.specs.Option.{option_copied};
 ghost use Rattle.std.specs.FinMap.Entries.{find};
 ghost use Rattle.rbac_words.specs.Name.{name_cmp};
-ghost use Rattle.rbac_words.specs.Authorization.{inherits_in, is_authorized as is_authorized_in, has_permission};
+ghost use Rattle.rbac_words.specs.Authorization.{inherits_in, is_authorized as is_authorized_in};
 ghost use Rattle.rbac_words.specs.Rows.{is_owner, is_active};
 ghost use Rattle.rbac_words.specs.Effect.{reply};
 ghost use Rattle.rbac_words.specs.declared.command.Command.TheVariants.{CheckAccess};
 
-use crate::authorization::{is_authorized, is_authorized_for_all, some_inherits_some};
+use crate::authorization::{is_authorized, is_authorized_for_all};
 use crate::policy::Policy;
 use rbac_hierarchy::RoleOrder;
 use rbac_sessions::Session;
@@ -70,19 +70,6 @@ impl Policy {
             Some(session) => session.active.contains(role),
             None => false,
         }
-    }
-
-    /// Whether the permission is granted to a role that one of these inherits.
-    pub(crate) fn some_has_permission(
-        &self,
-        roles: &[Name],
-        operation: &Name,
-        object: &Name,
-    ) -> bool
-        ensures { result ≡ list_any (has_permission self.now (operation.now, object.now)) roles.now }
-    {
-        let grants = self.tables.sets.grants_of(operation, object);
-        some_inherits_some(&self.tables.hierarchy, roles, grants)
     }
 
     /// The session of this name.

@@ -1,6 +1,7 @@
 //! What a member holds, and the serials that it counts.
 ghost use Rattle.std.specs.Prelude.{◌≡◌, ◌≢◌, [], OnOk, OnErr};
 ghost use Rattle.std.specs.List.{AllByRecursion};
+ghost use Rattle.std.specs.Result.{is_err};
 ghost use Rattle.rbac_words.specs.Stamp.{insert_all};
 ghost use Rattle.rbac_words.specs.Message.{submitted_at, submissions_of};
 ghost use Rattle.rbac_member.specs.Lists.{CanBeHeld};
@@ -16,6 +17,13 @@ pub(crate) fn next_serial(serials: &SortedMap<(u32, u32), u64>, member: u32, cal
     ensures { result ≡ counted_of member caller serials.now.content }
 {
     serials.get(&(member, caller)).copied().unwrap_or(0)
+}
+
+// Whether a command was handed back for want of memory. It is dropped here.
+fn is_handed_back(answer: Result<(), Held>) -> bool
+    ensures { result ≡ is_err answer }
+{
+    answer.is_err()
 }
 
 // Holds a copy of the command of a message, where it has one, and counts it for its caller.
@@ -47,7 +55,7 @@ pub(crate) fn hold(
                 serial: *serial,
                 command,
             };
-            if held.put(item).is_err() {
+            if is_handed_back(held.put(item)) {
                 return Err(AllocError);
             }
             serials.put((stamp.member, *caller), u64::from(*serial) + 1);

@@ -1,7 +1,9 @@
 //! The first failing precondition of each command about sessions, and of a check.
-ghost use Rattle.std.specs.Prelude.{◌≡◌, IfErr, IfOk, OnOk, Some, None};
+ghost use Rattle.std.specs.Prelude.{◌≡◌, IfErr, IfOk, OnOk, Ok, Err, Some, None, not, if◌then◌else◌, filter};
 ghost use Rattle.std.specs.FinMap.Entries.{find};
-ghost use Rattle.rbac_words.specs.Name.{name_cmp};
+ghost use Rattle.std.specs.Ordering.{eq_by_cmp};
+ghost use Rattle.sorted_keys.specs.Keys.{has};
+ghost use Rattle.rbac_words.specs.Name.{name_cmp, pair_cmp};
 ghost use Rattle.rbac_words.specs.Rows.{first_denial};
 ghost use Rattle.rbac_words.specs.declared.command.Command.TheVariants.{CreateSession, DeleteSession, AddActiveRole, DropActiveRole, CheckAccess};
 ghost use Rattle.rbac_decide.specs.Denying.{verdict, TellsDenial};
@@ -85,13 +87,37 @@ impl Policy {
         Ok(())
     }
 
-    /// The session that a check asks of, or the check's first failing precondition.
+    // Denies where the operation or the object is not known. Both are where something is granted of them, since what is granted is a
+    // permission: then neither is looked up.
+    fn deny_unknown(
+        &self,
+        operation: &Name,
+        object: &Name,
+        grants: &[((Name, Name), Name)],
+    ) -> Result<(), Denial>
+        requires { grants.now ≡ filter (λ grant. eq_by_cmp pair_cmp (operation.now, object.now) grant.0) self.now.granted }
+        ensures { result ≡ (if not (has name_cmp operation.now self.now.operations) then Err Denial.NoOperation else if not (has name_cmp object.now self.now.objects) then Err Denial.NoObject else Ok tt) }
+    {
+        if !grants.is_empty() {
+            self.invariants();
+            return Ok(());
+        }
+        deny_if(
+            !self.vocabulary.has_operation(operation),
+            Denial::NoOperation,
+        )?;
+        deny_if(!self.vocabulary.has_object(object), Denial::NoObject)
+    }
+
+    /// The session that a check asks of, or the check's first failing precondition. It takes the grants of the operation on the object.
     pub(crate) fn checked_session(
         &self,
         session: &Name,
         operation: &Name,
         object: &Name,
+        grants: &[((Name, Name), Name)],
     ) -> Result<&Session, Denial>
+        requires { grants.now ≡ filter (λ grant. eq_by_cmp pair_cmp (operation.now, object.now) grant.0) self.now.granted }
         ensures denied { IfErr result (λ denial. first_denial (CheckAccess session.now operation.now object.now) self.now ≡ Some denial) }
         ensures allowed { OnOk result (first_denial (CheckAccess session.now operation.now object.now) self.now ≡ None) }
         ensures found { IfOk result (λ found. find name_cmp session.now self.now.sessions ≡ Some found.now) }
@@ -99,11 +125,7 @@ impl Policy {
         let Some(found) = self.session(session) else {
             return Err(Denial::NoSession);
         };
-        deny_if(
-            !self.vocabulary.has_operation(operation),
-            Denial::NoOperation,
-        )?;
-        deny_if(!self.vocabulary.has_object(object), Denial::NoObject)?;
+        self.deny_unknown(operation, object, grants)?;
         Ok(found)
     }
 
@@ -116,7 +138,8 @@ impl Policy {
     ) -> Result<(), Denial>
         ensures { result ≡ verdict (CheckAccess session.now operation.now object.now) self.now }
     {
-        self.checked_session(session, operation, object)?;
+        let grants = self.tables.sets.grants_of(operation, object);
+        self.checked_session(session, operation, object, grants)?;
         Ok(())
     }
 }

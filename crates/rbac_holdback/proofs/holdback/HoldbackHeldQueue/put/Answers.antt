@@ -69,3 +69,19 @@ invariant_of-self-in-Err c = (refused c).0
 
 pub returns-in-Err-clause-unchanged : goal.returns-in-Err-clause-unchanged
 returns-in-Err-clause-unchanged c = (refused c).1
+
+pub invariant_of-self : goal.invariant_of-self
+invariant_of-self c =
+    let old = c.self.inside.queues in
+    let new = c.make_queues.new.queues in
+    let same : vec_len new ≡ vec_len old = search rules in
+    let of_old = lists-length old.items in
+    let of_new = lists-length new.items in
+    let counted_old = old.ok.0 in
+    let counted_new = new.ok.0 in
+    let kept : length (lists_of old.items) ≤ c.self.inside.members = c.self.invariant.within in
+    let within : length (lists_of new.items) ≤ c.self.inside.members = omega arith in
+    kept_widened c.self.inside.members c.self.inside.count (lists_of old.items) (lists_of new.items) c.self.invariant c.make_queues.ensures.made within
+
+pub returns-then-is_err-clause-unchanged : goal.returns-then-is_err-clause-unchanged
+returns-then-is_err-clause-unchanged c = held_widened (lists_of c.self.inside.queues.items) (lists_of c.make_queues.new.queues.items) c.make_queues.ensures.made ∙ ap (λ (h : Holdback). h.held) c.self.view_is
