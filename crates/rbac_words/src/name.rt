@@ -49,7 +49,7 @@ impl PartialEq for Name {
     ghost laws = { partial_equiv_from_equiv nat_list_eq_equiv };
 
     fn eq(&self, other: &Name) -> bool {
-        self.prefix == other.prefix && self.bytes.as_slice() == other.bytes.as_slice()
+        self.cmp(other).is_eq()
     }
 }
 
@@ -60,16 +60,20 @@ impl Eq for Name {
 }
 
 impl Hash for Name {
-    ghost use Rattle.std.specs.Hash as fed;
     ghost use Rattle.std.proofs.Common.{rules};
     ghost use Rattle.std.specs.Cmp.Rules.{hashing};
+    ghost use Rattle.rbac_words.specs.Prefix.{hashed};
 
-    ghost hash_input = { fed.slice fed.u8 };
+    ghost hash_input = { hashed };
 
     ghost respects_eq = { Prim.search (hashing, rules) };
 
     fn hash<H: Hasher>(&self, state: &mut H) {
-        self.bytes.as_slice().hash(state);
+        state.write_u64(self.prefix);
+        // Names of fewer than eight bytes are all in their number.
+        if self.prefix % 256 != 0 {
+            state.write(self.bytes.as_slice());
+        }
     }
 }
 
