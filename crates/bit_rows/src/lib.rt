@@ -6,6 +6,3 @@ mod row;
 mod rows;
 
 pub use relation::Relation;
-
-#[cfg(test)]
-mod tests;

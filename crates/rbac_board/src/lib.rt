@@ -12,6 +12,3 @@ mod sight;
 pub use mark::Mark;
 pub use refusal::SetRefusal;
 pub use row::Row;
-
-#[cfg(test)]
-mod tests;

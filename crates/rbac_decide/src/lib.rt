@@ -9,6 +9,3 @@ mod policy;
 mod tables;
 
 pub use policy::Policy;
-
-#[cfg(test)]
-mod tests;

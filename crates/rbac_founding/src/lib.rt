@@ -16,6 +16,3 @@ pub use founding::Founding;
 pub use reading::read_founding;
 pub use refusal::FoundingRefusal;
 pub use sample::sample_founding;
-
-#[cfg(test)]
-mod tests;

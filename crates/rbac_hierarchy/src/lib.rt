@@ -18,6 +18,3 @@ pub use order::RoleOrder;
 
 /// The hierarchy that a policy keeps.
 pub type Hierarchy = BitOrder;
-
-#[cfg(test)]
-mod tests;

@@ -11,6 +11,3 @@ pub use held_queue::HeldQueue;
 pub use holdback::Holdback;
 pub use list_held::ListHeld;
 pub use rbac_words::Submission as Held;
-
-#[cfg(test)]
-mod tests;

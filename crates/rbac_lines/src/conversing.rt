@@ -110,6 +110,3 @@ pub fn converse<R: Read, W: Write, D: Desk>(
 {
     run_lines::<Conversing<D>, R, W>(alloc, reader, writer, desk, MOST_READS)
 }
-
-#[cfg(test)]
-mod tests;

@@ -91,6 +91,3 @@ fn deliver(object: &Object) -> Result<Event, LineRefusal>
     only_keys(object, &["do", "at"])?;
     Ok(Event::Deliver { at })
 }
-
-#[cfg(test)]
-mod tests;

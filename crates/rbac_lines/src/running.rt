@@ -53,6 +53,3 @@ pub fn run<R: Read, W: Write>(
     world.right_histories();
     ended
 }
-
-#[cfg(test)]
-mod tests;

@@ -216,6 +216,3 @@ pub(crate) fn put_reply(
         Err(refusal) => put_refused_line(text, line, refusal.word()),
     }
 }
-
-#[cfg(test)]
-mod tests;

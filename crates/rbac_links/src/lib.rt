@@ -8,6 +8,3 @@ mod refusal;
 pub use inlinks::Inlinks;
 pub use outbox::Outbox;
 pub use refusal::{LinkRefusal, OutboxRefusal};
-
-#[cfg(test)]
-mod tests;

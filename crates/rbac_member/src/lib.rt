@@ -8,6 +8,3 @@ mod refusal;
 pub use member::Member;
 pub use rbac_words::Record;
 pub use refusal::{FoundRefusal, ReceiveRefusal, SubmitRefusal};
-
-#[cfg(test)]
-mod tests;

@@ -18,8 +18,3 @@ pub use pass::{Pass, Receipt, Ticket};
 pub use refusal::{MeetRefusal, NodeRefusal, PublishRefusal, ServiceRefusal};
 pub use report::{Audit, AuditRefusal};
 pub use rows::Rows;
-
-#[cfg(test)]
-mod pass_tests;
-#[cfg(test)]
-mod tests;

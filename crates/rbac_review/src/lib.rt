@@ -10,6 +10,3 @@ mod sets;
 mod users;
 
 pub use parts::Parts;
-
-#[cfg(test)]
-mod tests;

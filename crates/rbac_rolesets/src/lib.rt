@@ -11,6 +11,3 @@ pub use assigned::RolesOf;
 pub use change::Change;
 pub use plan::Plan;
 pub use role_sets::RoleSets;
-
-#[cfg(test)]
-mod tests;

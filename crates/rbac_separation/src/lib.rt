@@ -11,6 +11,3 @@ pub use counts::{CountChange, CountPlan, Counts};
 pub use role_set::RoleSet;
 pub use set_plan::{SetChange, SetPlan};
 pub use set_table::SetTable;
-
-#[cfg(test)]
-mod tests;

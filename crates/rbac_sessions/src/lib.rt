@@ -9,6 +9,3 @@ mod sessions;
 pub use plan::{Change, Plan};
 pub use session::Session;
 pub use sessions::{SessionTest, Sessions};
-
-#[cfg(test)]
-mod tests;

@@ -30,6 +30,3 @@ pub use review::Review;
 pub use separation::Separation;
 pub use stamp::Stamp;
 pub use vocabulary::{Vocabulary, VocabularyRefusal};
-
-#[cfg(test)]
-mod tests;

@@ -9,6 +9,3 @@ mod world;
 pub use playing::{Stopped, play};
 pub use rbac_words::{Event, Outcome, Refusal};
 pub use world::World;
-
-#[cfg(test)]
-mod tests;

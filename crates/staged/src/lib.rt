@@ -6,6 +6,3 @@ mod staged;
 
 pub use entries::EntryChange;
 pub use staged::{Plan, Staged, commit, make_plan};
-
-#[cfg(test)]
-mod tests;

@@ -39,6 +39,3 @@ fn client_of(alloc: Global, object: &Object) -> Result<(u32, Command), LineRefus
 pub fn kept_line_asks_the_same()
     ensures { (line : List ℕ) → client (clip line) ≡ client line }
 {}
-
-#[cfg(test)]
-mod tests;

@@ -1,0 +1,210 @@
+//! Members of `rbac_member`: what is submitted, received and refused. Members and messages end in `drop`, since the proof of a value that
+//! goes out of scope writes its drop out in place, a case for each variant.
+
+use rbac_member::{FoundRefusal, Member, ReceiveRefusal, SubmitRefusal};
+use rbac_words::{Answer, Command, Denial, Group, Message, Name, Stamp, Vocabulary};
+use std::alloc::Global;
+use std::process::Abort;
+
+fn add_user(rt: &impl Abort, alloc: Global) -> Command {
+    Command::AddUser {
+        user: Name::read(alloc, b"ann").expect(rt, "a name"),
+    }
+}
+
+fn stamp(clock: u64, member: u32) -> Stamp {
+    Stamp { clock, member }
+}
+
+// A command of caller 0 as another member sends it.
+fn call(rt: &impl Abort, alloc: Global, stamp: Stamp, serial: u32) -> Message {
+    Message::Call {
+        stamp,
+        caller: 0,
+        serial,
+        command: add_user(rt, alloc),
+    }
+}
+
+// Member 1 of a group of so many, whose clock starts here and which may send so much.
+fn first_of(rt: &impl Abort, alloc: Global, members: u32, clock: u64, sent_limit: u32) -> Member {
+    let group = Group::build(members, clock, sent_limit).expect(rt, "a group");
+    let vocabulary = Vocabulary::build(Vec::new(alloc), Vec::new(alloc), Vec::new(alloc));
+    Member::found(alloc, group, 1, vocabulary.expect(rt, "a vocabulary")).expect(rt, "a member")
+}
+
+// Submits that ann is added, and compares the answer.
+fn expect_submit(
+    rt: &impl Abort,
+    alloc: Global,
+    member: &mut Member,
+    serial: u32,
+    wanted: Result<Stamp, SubmitRefusal>,
+) {
+    let answer = member.submit(0, serial, add_user(rt, alloc));
+    assert_eq!(rt; answer, wanted);
+}
+
+// Receives a message, which is dropped here, and compares the answer.
+fn expect_receipt(
+    rt: &impl Abort,
+    member: &mut Member,
+    from: u32,
+    number: u32,
+    message: Message,
+    wanted: Result<Option<Stamp>, ReceiveRefusal>,
+) {
+    let answer = member.receive(from, number, &message);
+    assert_eq!(rt; answer, wanted);
+    drop(message);
+}
+
+// Receives an acknowledgement, and compares the answer.
+fn expect_ack(
+    rt: &impl Abort,
+    member: &mut Member,
+    number: u32,
+    stamp: Stamp,
+    wanted: Result<Option<Stamp>, ReceiveRefusal>,
+) {
+    let answer = member.receive(2, number, &Message::Ack { stamp });
+    assert_eq!(rt; answer, wanted);
+}
+
+// Delivers, and compares the place that it answers.
+fn expect_delivery(rt: &impl Abort, alloc: Global, member: &mut Member, wanted: Option<usize>) {
+    let place = member.deliver(alloc).expect(rt, "memory");
+    assert_eq!(rt; place, wanted);
+}
+
+// Compares a record of the history.
+fn expect_record(rt: &impl Abort, member: &Member, place: usize, wanted: Stamp, answer: Answer) {
+    let record = member.history().get(place).expect(rt, "a record");
+    assert_eq!(rt; record.stamp, wanted);
+    assert!(rt; record.answer.same(&answer));
+    drop(answer);
+}
+
+#[test]
+fn founds_a_member_with_no_past(rt: HostRuntime) {
+    let member = first_of(&rt, rt.alloc(), 2, 7, 5);
+    assert_eq!(rt;
+        (member.number(), member.clock(), member.read(2)),
+        (1, 7, 0)
+    );
+    assert!(rt; member.sent().is_empty() && member.history().is_empty());
+    member.invariants();
+    drop(member);
+}
+
+#[test]
+fn founds_no_stranger(rt: HostRuntime) {
+    let alloc = rt.alloc();
+    let group = Group::build(1, 0, 5).expect(&rt, "a group");
+    let vocabulary = Vocabulary::build(Vec::new(alloc), Vec::new(alloc), Vec::new(alloc));
+    let stranger = Member::found(alloc, group, 2, vocabulary.expect(&rt, "a vocabulary"));
+    assert!(rt; matches!(stranger, Err(FoundRefusal::UnknownMember)));
+}
+
+#[test]
+fn submits_in_turn(rt: HostRuntime) {
+    let alloc = rt.alloc();
+    let mut member = first_of(&rt, alloc, 1, 0, 2);
+    let next = SubmitRefusal::BadSerial { next: 0 };
+    expect_submit(&rt, alloc, &mut member, 1, Err(next));
+    expect_submit(&rt, alloc, &mut member, 0, Ok(stamp(1, 1)));
+    expect_submit(&rt, alloc, &mut member, 1, Ok(stamp(2, 1)));
+    expect_submit(&rt, alloc, &mut member, 9, Err(SubmitRefusal::SentFull));
+    let last = member.sent().last().expect(&rt, "a message");
+    assert_eq!(rt; last.stamp(), stamp(2, 1));
+    drop(member);
+}
+
+#[test]
+fn submits_a_copy(rt: HostRuntime) {
+    let alloc = rt.alloc();
+    let mut member = first_of(&rt, alloc, 1, 0, 5);
+    let command = add_user(&rt, alloc);
+    let copied = member.submit_copy(7, 0, &command);
+    drop(command);
+    assert_eq!(rt; copied, Ok(stamp(1, 1)));
+    expect_delivery(&rt, alloc, &mut member, Some(0));
+    expect_record(&rt, &member, 0, stamp(1, 1), Answer::Done);
+    drop(member);
+}
+
+#[test]
+fn names_a_full_clock_first(rt: HostRuntime) {
+    let alloc = rt.alloc();
+    let mut late = first_of(&rt, alloc, 2, 9_007_199_254_740_990, 1);
+    let last = stamp(9_007_199_254_740_991, 1);
+    expect_submit(&rt, alloc, &mut late, 0, Ok(last));
+    expect_submit(&rt, alloc, &mut late, 9, Err(SubmitRefusal::ClockFull));
+    let wanted = Err(ReceiveRefusal::ClockFull);
+    expect_ack(&rt, &mut late, 1, stamp(1, 2), wanted);
+    drop(late);
+}
+
+#[test]
+fn receives_acknowledgements_that_rise(rt: HostRuntime) {
+    let mut member = first_of(&rt, rt.alloc(), 2, 0, 5);
+    let falls = Err(ReceiveRefusal::StampNotRising);
+    expect_ack(&rt, &mut member, 1, stamp(5, 2), Ok(None));
+    expect_ack(&rt, &mut member, 2, stamp(5, 2), falls);
+    expect_ack(&rt, &mut member, 2, stamp(6, 3), falls);
+    expect_ack(&rt, &mut member, 2, stamp(7, 2), Ok(None));
+    assert_eq!(rt; (member.clock(), member.read(2), member.read(1)), (8, 2, 0));
+    drop(member);
+}
+
+#[test]
+fn receives_the_next_number_of_another_member(rt: HostRuntime) {
+    let mut member = first_of(&rt, rt.alloc(), 2, 0, 5);
+    let gap = ReceiveRefusal::Gap { expected: 1 };
+    expect_ack(&rt, &mut member, 2, stamp(5, 2), Err(gap));
+    expect_ack(&rt, &mut member, 1, stamp(5, 2), Ok(None));
+    let repeat = ReceiveRefusal::Repeat { expected: 2 };
+    expect_ack(&rt, &mut member, 1, stamp(5, 2), Err(repeat));
+    for (from, wanted) in [
+        (1, ReceiveRefusal::FromSelf),
+        (3, ReceiveRefusal::UnknownMember),
+    ] {
+        let message = Message::Ack { stamp: stamp(9, 2) };
+        expect_receipt(&rt, &mut member, from, 2, message, Err(wanted));
+    }
+    drop(member);
+}
+
+#[test]
+fn acknowledges_a_command_and_holds_it(rt: HostRuntime) {
+    let alloc = rt.alloc();
+    let mut member = first_of(&rt, alloc, 2, 0, 5);
+    let first = call(&rt, alloc, stamp(9, 2), 1);
+    let next = ReceiveRefusal::BadSerial { next: 0 };
+    expect_receipt(&rt, &mut member, 2, 1, first, Err(next));
+    let first = call(&rt, alloc, stamp(9, 2), 0);
+    expect_receipt(&rt, &mut member, 2, 1, first, Ok(Some(stamp(11, 1))));
+    expect_delivery(&rt, alloc, &mut member, Some(0));
+    expect_record(&rt, &member, 0, stamp(9, 2), Answer::Done);
+    let again = call(&rt, alloc, stamp(12, 2), 0);
+    let next = ReceiveRefusal::BadSerial { next: 1 };
+    expect_receipt(&rt, &mut member, 2, 2, again, Err(next));
+    drop(member);
+}
+
+#[test]
+fn delivers_in_stamp_order_when_all_have_passed(rt: HostRuntime) {
+    let alloc = rt.alloc();
+    let mut member = first_of(&rt, alloc, 2, 0, 5);
+    expect_submit(&rt, alloc, &mut member, 0, Ok(stamp(1, 1)));
+    expect_delivery(&rt, alloc, &mut member, None);
+    let theirs = call(&rt, alloc, stamp(1, 2), 0);
+    expect_receipt(&rt, &mut member, 2, 1, theirs, Ok(Some(stamp(3, 1))));
+    expect_delivery(&rt, alloc, &mut member, Some(0));
+    expect_delivery(&rt, alloc, &mut member, Some(1));
+    expect_delivery(&rt, alloc, &mut member, None);
+    let denied = Answer::Denied(Denial::UserExists);
+    expect_record(&rt, &member, 0, stamp(1, 1), Answer::Done);
+    expect_record(&rt, &member, 1, stamp(1, 2), denied);
+    drop(member);
+}

@@ -1,0 +1,53 @@
+//! What `rbac_lines` reads lines of a schedule as; the refusals are in the goldens, but for bytes that a golden cannot show.
+
+use rbac_lines::{LineRefusal, read_line};
+use rbac_words::{Command, Event};
+use std::alloc::Global;
+use std::process::Abort;
+
+/// Whether it is this submit.
+fn submits_ann(event: &Event) -> bool {
+    match event {
+        Event::Submit {
+            at: 4,
+            caller: 5,
+            serial: 6,
+            command: Command::AddUser { user },
+        } => user.as_bytes() == b"ann".as_slice(),
+        _ => false,
+    }
+}
+
+#[test]
+fn a_submit(rt: HostRuntime) {
+    let line =
+        br#"{"command":{"user":"ann","name":"AddUser"},"serial":6,"caller":5,"at":4,"do":"submit"}"#;
+    let Ok(event) = read_line(rt.alloc(), line) else {
+        panic!(rt);
+    };
+    assert!(rt; submits_ann(&event));
+    drop(event);
+}
+
+/// Whether the line is refused as no JSON.
+fn is_no_json(alloc: Global, line: &[u8]) -> bool {
+    read_line(alloc, line).err() == Some(LineRefusal::NotJson)
+}
+
+/// So many arrays, one in another.
+fn nested_arrays(rt: &impl Abort, alloc: Global, levels: usize) -> Vec<u8> {
+    let mut line = Vec::new(alloc);
+    line.resize(levels, b'[').expect(rt, "memory");
+    for _ in 0..levels {
+        line.push(b']').expect(rt, "memory");
+    }
+    line
+}
+
+#[test]
+fn bytes_that_are_no_json(rt: HostRuntime) {
+    assert!(rt; is_no_json(rt.alloc(), b"\xef\xbb\xbf{\"do\":\"deliver\",\"at\":1}"));
+    assert!(rt; is_no_json(rt.alloc(), b"{\"do\":\"deliver\",\"at\":1,\"\xff\":0}"));
+    assert!(rt; is_no_json(rt.alloc(), &nested_arrays(&rt, rt.alloc(), 128)));
+    assert!(rt; !is_no_json(rt.alloc(), &nested_arrays(&rt, rt.alloc(), 127)));
+}
