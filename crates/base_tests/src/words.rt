@@ -1,11 +1,9 @@
-//! Each public call of `rbac_words` with ample memory. What is expected was written by hand.
+//! Each public call of `rbac_terms` with ample memory. What is expected was written by hand.
 ghost use Rattle.std.specs.Prelude.{◌≡◌};
 ghost use Rattle.std.specs.Ordering.{eq_by_cmp};
-ghost use Rattle.rbac_words.specs.Name.{name_cmp};
+ghost use Rattle.rbac_terms.specs.Name.{name_cmp};
 
-use rbac_words::{
-    Denial, Group, GroupRefusal, Name, NameRefusal, NameSet, Stamp, Vocabulary, VocabularyRefusal,
-};
+use rbac_terms::{Denial, Name, NameRefusal, NameSet, Vocabulary, VocabularyRefusal};
 use sorted_keys::{KeyTest, Same};
 use std::alloc::Global;
 use std::process::Abort;
@@ -187,33 +185,6 @@ fn denials_have_numbers_and_words(rt: HostRuntime) {
         (Denial::NoObject, 28, "NoObject"),
     ] {
         expect_denial(&rt, denial, number, word);
-    }
-}
-
-fn expect_group(rt: &impl Abort, members: u32, clock: u64, sent_limit: u32) {
-    let group = Group::build(members, clock, sent_limit).expect(rt, "a group");
-    assert_eq!(rt; group.members(), members);
-    assert_eq!(rt; group.clock(), clock);
-    assert_eq!(rt; group.sent_limit(), sent_limit);
-}
-
-#[test]
-fn groups_are_within_limits(rt: HostRuntime) {
-    let last = 9_007_199_254_740_991;
-    expect_group(&rt, 1, 0, 1);
-    expect_group(&rt, 8, last, 65_536);
-    expect_group(&rt, 3, 17, 100);
-    for (members, clock, sent_limit, refusal) in [
-        (0, 0, 1, GroupRefusal::BadMembers),
-        (9, 0, 1, GroupRefusal::BadMembers),
-        (9, last + 1, 0, GroupRefusal::BadMembers),
-        (8, last + 1, 1, GroupRefusal::BadClock),
-        (1, last + 1, 65_537, GroupRefusal::BadClock),
-        (1, last, 0, GroupRefusal::BadSentLimit),
-        (8, 0, 65_537, GroupRefusal::BadSentLimit),
-    ] {
-        let refused = Group::build(members, clock, sent_limit);
-        assert!(rt; refused.err() == Some(refusal));
     }
 }
 
@@ -406,21 +377,6 @@ fn a_vocabulary_and_its_copy(rt: HostRuntime) {
     expect_small(&rt, rt.alloc(), &copy);
     drop(copy);
     drop(vocabulary);
-}
-
-fn stamp(clock: u64, member: u32) -> Stamp {
-    Stamp { clock, member }
-}
-
-#[test]
-fn stamps_are_ordered_by_clock_and_member(rt: HostRuntime) {
-    let rising = [(1, 2), (1, 3), (2, 1), (2, 2), (10, 1)];
-    for (i, (clock, member)) in rising.into_iter().enumerate() {
-        for (j, (other_clock, other_member)) in rising.into_iter().enumerate() {
-            let other = stamp(other_clock, other_member);
-            assert!(rt; stamp(clock, member).is_before(other) == (i < j));
-        }
-    }
 }
 
 // Whether a copy of the name is the same.

@@ -22,4 +22,6 @@ mod schedule_lines;
 #[cfg(test)]
 mod schedules;
 #[cfg(test)]
+mod words;
+#[cfg(test)]
 mod worlds;

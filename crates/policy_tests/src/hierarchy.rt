@@ -2,7 +2,7 @@
 use crate::named::{After, assert_names, name};
 use rbac_hierarchy::laws::run_order;
 use rbac_hierarchy::{BitOrder, Change, ListOrder, RoleOrder};
-use rbac_words::{Name, NameSet};
+use rbac_terms::{Name, NameSet};
 use std::alloc::{AllocError, Global};
 use std::process::Abort;
 use std::test::Fail;

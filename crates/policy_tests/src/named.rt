@@ -1,8 +1,8 @@
 //! What the tests of a policy and of its parts share: names that are read, compared and tested.
 ghost use Rattle.std.specs.Ordering.{is_lt};
-ghost use Rattle.rbac_words.specs.Name.{name_cmp};
+ghost use Rattle.rbac_terms.specs.Name.{name_cmp};
 
-use rbac_words::{Name, NameSet};
+use rbac_terms::{Name, NameSet};
 use sorted_keys::KeyTest;
 use std::alloc::Global;
 use std::process::Abort;

@@ -2,7 +2,7 @@
 
 use crate::named::{name, name_set, names};
 use rbac_decide::Policy;
-use rbac_words::{Answer, Command, Denial, Review, Separation, Vocabulary};
+use rbac_terms::{Answer, Command, Denial, Review, Separation, Vocabulary};
 use std::alloc::Global;
 use std::process::Abort;
 

@@ -5,7 +5,7 @@ use rbac_review::Parts;
 use rbac_rolesets::RoleSets;
 use rbac_separation::SetTable;
 use rbac_sessions::Sessions;
-use rbac_words::{PermissionSet, Separation, Vocabulary};
+use rbac_terms::{PermissionSet, Separation, Vocabulary};
 use std::alloc::Global;
 use std::process::Abort;
 use std::test::Fail;

@@ -3,7 +3,7 @@ ghost use Rattle.std.specs.Prelude.{◌≤◌, length};
 
 use crate::named::{After, assert_names, name};
 use rbac_rolesets::{Change, Plan, RoleSets};
-use rbac_words::Name;
+use rbac_terms::Name;
 use std::alloc::Global;
 use std::process::Abort;
 

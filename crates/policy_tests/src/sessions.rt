@@ -1,11 +1,11 @@
 //! Each public call of `rbac_sessions` with ample memory. What is expected was written by hand.
 ghost use Rattle.std.specs.Prelude.{◌≤◌, length};
 ghost use Rattle.std.specs.Ordering.{eq_by_cmp};
-ghost use Rattle.rbac_words.specs.Name.{name_cmp};
+ghost use Rattle.rbac_terms.specs.Name.{name_cmp};
 
 use crate::named::{name, name_set};
 use rbac_sessions::{Change, Plan, Session, SessionTest, Sessions};
-use rbac_words::{Name, NameSet};
+use rbac_terms::{Name, NameSet};
 use sorted_keys::{Duplicate, Same};
 use std::alloc::Global;
 use std::process::Abort;

@@ -5,14 +5,15 @@ use Rattle.std.specs.List.{list_any}
 use Rattle.std.specs.Ordering.{eq_by_cmp}
 use Rattle.std.specs.FinMap.Entries.{find}
 use Rattle.sorted_keys.specs.Keys.{has}
-use Rattle.rbac_words.specs.Name.{Name, name_cmp, pair_cmp}
-use Rattle.rbac_words.specs.Separation.{RoleSet}
-use Rattle.rbac_words.specs.State.{State}
-use Rattle.rbac_words.specs.declared.command.Command.{Command}
-use Rattle.rbac_words.specs.declared.command.Command.TheVariants.{DeleteUser, DeleteRole, AssignUser, DeassignUser, AddInheritance, DeleteInheritance, CreateSet, DeleteSet, AddRoleMember, DeleteRoleMember}
-use Rattle.rbac_words.specs.declared.separation.Separation.{Separation}
-use Rattle.rbac_words.specs.declared.separation.Separation.TheVariants.{Static, Dynamic}
-use Rattle.rbac_words.proofs.NameLemmas.{names_total, names_exact, pairs_total, one_key, ties_itself, ties_flip, ties-pair}
+use Rattle.rbac_terms.specs.Name.{Name, name_cmp, pair_cmp}
+use Rattle.rbac_terms.specs.Separation.{RoleSet}
+use Rattle.rbac_terms.specs.State.{State}
+use Rattle.rbac_terms.specs.declared.command.Command.{Command}
+use Rattle.rbac_terms.specs.declared.command.Command.TheVariants.{DeleteUser, DeleteRole, AssignUser, DeassignUser, AddInheritance, DeleteInheritance, CreateSet, DeleteSet, AddRoleMember, DeleteRoleMember}
+use Rattle.rbac_terms.specs.declared.separation.Separation.{Separation}
+use Rattle.rbac_terms.specs.declared.separation.Separation.TheVariants.{Static, Dynamic}
+use Rattle.sorted_keys.proofs.Ties.{one_key, ties_itself, ties_flip, ties-pair}
+use Rattle.rbac_terms.proofs.NameLemmas.{names_total, names_exact, pairs_total}
 use Rattle.rbac_rules.proofs.SoundSeparation.{is_false}
 use Rattle.rbac_hierarchy.proofs.Kept.{any-append}
 use Rattle.rbac_hierarchy.proofs.LoopLemmas.{any_one_more}

@@ -1,14 +1,14 @@
 -- What a command that is not denied answers and leaves.
 use Rattle.std.proofs.Common.{◌≡◌, false, true≢false, Option, Some, None, Err, refl, sym, ap, ◌∙◌, subst}
-use Rattle.rbac_words.specs.State.{State}
-use Rattle.rbac_words.specs.Rows.{first_denial}
-use Rattle.rbac_words.specs.Sound.{IsSound, BringsASet}
-use Rattle.rbac_words.specs.Change.{change}
-use Rattle.rbac_words.specs.Effect.{effect, effect_unless, answer, reply, reply_unless}
-use Rattle.rbac_words.specs.declared.command.Command.{Command}
-use Rattle.rbac_words.specs.declared.command.Command.TheVariants.{CheckAccess, Review as ReviewCommand}
-use Rattle.rbac_words.specs.declared.answer.Answer.TheVariants.{Done, Denied}
-use Rattle.rbac_words.specs.declared.answer.Denial.{Denial}
+use Rattle.rbac_terms.specs.State.{State}
+use Rattle.rbac_terms.specs.Rows.{first_denial}
+use Rattle.rbac_terms.specs.Sound.{IsSound, BringsASet}
+use Rattle.rbac_terms.specs.Change.{change}
+use Rattle.rbac_terms.specs.Effect.{effect, effect_unless, answer, reply, reply_unless}
+use Rattle.rbac_terms.specs.declared.command.Command.{Command}
+use Rattle.rbac_terms.specs.declared.command.Command.TheVariants.{CheckAccess, Review as ReviewCommand}
+use Rattle.rbac_terms.specs.declared.answer.Answer.TheVariants.{Done, Denied}
+use Rattle.rbac_terms.specs.declared.answer.Denial.{Denial}
 use Rattle.rbac_rules.proofs.SoundLemmas.{sound_effect}
 use Rattle.rbac_decide.specs.Asking.{is_question}
 use Rattle.rbac_decide.specs.Denying.{unless_denied}

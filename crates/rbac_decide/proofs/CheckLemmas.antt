@@ -4,13 +4,14 @@ use Rattle.std.proofs.lemmas.Bool.{and_parts, or_left}
 use Rattle.std.specs.List.{list_any, filter}
 use Rattle.std.specs.Ordering.{eq_by_cmp}
 use Rattle.sorted_keys.specs.Keys.{has}
-use Rattle.rbac_words.specs.Name.{Name, Permission, Grant, name_cmp, pair_cmp, grant_cmp}
-use Rattle.rbac_words.specs.Founding.{is_listed}
-use Rattle.rbac_words.specs.State.{State}
-use Rattle.rbac_words.specs.Authorization.{inherits_in, has_permission}
-use Rattle.rbac_words.specs.Sound.{IsSound}
-use Rattle.rbac_words.proofs.NameLemmas.{pairs_exact, pairs_total, grants_total, grants_exact, one_key, ties_itself, all_member}
-use Rattle.rbac_rules.proofs.SoundParts.{was_kept}
+use Rattle.rbac_terms.specs.Name.{Name, Permission, Grant, name_cmp, pair_cmp, grant_cmp}
+use Rattle.rbac_terms.specs.Vocabulary.{is_listed}
+use Rattle.rbac_terms.specs.State.{State}
+use Rattle.rbac_terms.specs.Authorization.{inherits_in, has_permission}
+use Rattle.rbac_terms.specs.Sound.{IsSound}
+use Rattle.sorted_keys.proofs.Ties.{one_key, ties_itself, all_member}
+use Rattle.rbac_terms.proofs.NameLemmas.{pairs_exact, pairs_total, grants_total, grants_exact}
+use Rattle.sorted_keys.proofs.Kept.{was_kept}
 use Rattle.rbac_review.proofs.ReviewLemmas.{any-same, any-filter}
 
 abbrev pub grants_in : State → Permission → List Grant
@@ -18,7 +19,7 @@ grants_in s permission = filter (λ grant. eq_by_cmp pair_cmp permission grant.0
 
 -- of what something is granted, operation and object are known
 pub granted_is_known : (s : State) (permission : Permission) (grants : List Grant) → IsSound s → grants ≡ grants_in s permission → grants ≢ []
-    → (has name_cmp permission.0 s.operations ≡ true) × (has name_cmp permission.1 s.objects ≡ true)
+    → (has name_cmp permission.0 s.vocabulary.operations ≡ true) × (has name_cmp permission.1 s.vocabulary.objects ≡ true)
 granted_is_known s permission [] h are some = absurd (some refl)
 granted_is_known s permission (grant ∷ grants) h are some = and_parts _ _ listed where
   among : has grant_cmp grant (grant ∷ grants) ≡ true
@@ -30,11 +31,11 @@ granted_is_known s permission (grant ∷ grants) h are some = and_parts _ _ list
   is : permission ≡ grant.0
   is = one_key pairs_exact permission grant.0 kept.0
 
-  permitted : has pair_cmp permission s.permissions ≡ true
-  permitted = subst (λ permission. has pair_cmp permission s.permissions ≡ true) (sym is) (h.references.granted grant.0 grant.1 kept.1).0
+  permitted : has pair_cmp permission s.vocabulary.permissions ≡ true
+  permitted = subst (λ permission. has pair_cmp permission s.vocabulary.permissions ≡ true) (sym is) (h.references.granted grant.0 grant.1 kept.1).0
 
-  listed : is_listed s.operations s.objects permission ≡ true
-  listed = all_member pairs_total pairs_exact (is_listed s.operations s.objects) s.permissions permission h.vocabulary.listed permitted
+  listed : is_listed s.vocabulary.operations s.vocabulary.objects permission ≡ true
+  listed = all_member pairs_total pairs_exact (is_listed s.vocabulary.operations s.vocabulary.objects) s.vocabulary.permissions permission h.vocabulary.listed permitted
 
 -- whether one of the roles has the permission, by the grants of it
 pub has_by_grants : (s : State) (permission : Permission) (roles : List Name)

@@ -11,9 +11,10 @@ use Rattle.std.specs.Ordering.{is_eq}
 use Rattle.std.specs.FinMap.Entries.{find}
 use Rattle.sorted_keys.specs.Keys.{has, by_key}
 use Rattle.sorted_keys.proofs.Order.{IsBelowAll, greater}
-use Rattle.rbac_words.specs.Name.{Name, name_cmp}
-use Rattle.rbac_words.specs.Separation.{RoleSet, is_broken_by}
-use Rattle.rbac_words.proofs.NameLemmas.{names_total, ties_itself}
+use Rattle.rbac_terms.specs.Name.{Name, name_cmp}
+use Rattle.rbac_terms.specs.Separation.{RoleSet, is_broken_by}
+use Rattle.sorted_keys.proofs.Ties.{ties_itself}
+use Rattle.rbac_terms.proofs.NameLemmas.{names_total}
 use Rattle.rbac_separation.specs.Counts.{is_over, first_over}
 use Rattle.rbac_decide.specs.Counting.{count_in}
 

@@ -8,24 +8,26 @@ use Rattle.std.specs.FinMap.Entries.{find, put, find-put}
 use Rattle.sorted_keys.specs.Keys.{has, with_key, without, without_key, updated}
 use Rattle.sorted_keys.proofs.Members.{has-with_key, has-without}
 use Rattle.sorted_keys.proofs.Lookups.{find-without_key, find-updated}
-use Rattle.rbac_words.specs.Name.{Name, name_cmp, pair_cmp}
-use Rattle.rbac_words.specs.State.{State}
-use Rattle.rbac_words.specs.Separation.{RoleSet, is_broken_by}
-use Rattle.rbac_words.specs.Relations.{begins_with, ends_with, without_user, without_role, without_pairs_of}
-use Rattle.rbac_words.specs.Inheritance.{IsChain, Inherits, juniors}
-use Rattle.rbac_words.specs.Authorization.{IsAuthorized, is_authorized}
-use Rattle.rbac_words.specs.Constraints.{sets_of, with_sets}
-use Rattle.rbac_words.specs.Change.{change, with_member, without_member, with_cardinality}
-use Rattle.rbac_words.specs.Rows.{first_denial, preconditions}
-use Rattle.rbac_words.specs.Sound.{IsSound, IsRoleSet}
-use Rattle.rbac_words.specs.declared.command.Command.{Command}
-use Rattle.rbac_words.specs.declared.command.Command.TheVariants.{DeleteUser, AddRole, DeleteRole, AssignUser, DeassignUser, AddInheritance, DeleteInheritance, AddAscendant, AddDescendant, CreateSet, DeleteSet, AddRoleMember, DeleteRoleMember, SetCardinality}
-use Rattle.rbac_words.specs.declared.separation.Separation.{Separation}
-use Rattle.rbac_words.specs.declared.separation.Separation.TheVariants.{Static, Dynamic}
-use Rattle.rbac_words.proofs.NameLemmas.{names_total, names_exact, pairs_total, pairs_exact, one_key, ties_itself, ties_flip, same_bits, member_any}
+use Rattle.rbac_terms.specs.Name.{Name, name_cmp, pair_cmp}
+use Rattle.rbac_terms.specs.State.{State}
+use Rattle.rbac_terms.specs.Separation.{RoleSet, is_broken_by}
+use Rattle.rbac_terms.specs.Relations.{begins_with, ends_with, without_user, without_role, without_pairs_of}
+use Rattle.rbac_terms.specs.Inheritance.{IsChain, Inherits, juniors}
+use Rattle.rbac_terms.specs.Authorization.{IsAuthorized, is_authorized}
+use Rattle.rbac_terms.specs.Constraints.{sets_of, with_sets}
+use Rattle.rbac_terms.specs.Change.{change, with_member, without_member, with_cardinality}
+use Rattle.rbac_terms.specs.Rows.{first_denial, preconditions}
+use Rattle.rbac_terms.specs.Sound.{IsSound, IsRoleSet}
+use Rattle.rbac_terms.specs.declared.command.Command.{Command}
+use Rattle.rbac_terms.specs.declared.command.Command.TheVariants.{DeleteUser, AddRole, DeleteRole, AssignUser, DeassignUser, AddInheritance, DeleteInheritance, AddAscendant, AddDescendant, CreateSet, DeleteSet, AddRoleMember, DeleteRoleMember, SetCardinality}
+use Rattle.rbac_terms.specs.declared.separation.Separation.{Separation}
+use Rattle.rbac_terms.specs.declared.separation.Separation.TheVariants.{Static, Dynamic}
+use Rattle.sorted_keys.proofs.Ties.{one_key, ties_itself, ties_flip, same_bits, member_any}
+use Rattle.rbac_terms.proofs.NameLemmas.{names_total, names_exact, pairs_total, pairs_exact}
 use Rattle.rbac_rules.proofs.InheritanceLemmas.{joined, chain_role, inherits_iff, inherits_still, inherits_over}
 use Rattle.rbac_rules.proofs.AuthorizationLemmas.{is_authorized_iff}
-use Rattle.rbac_rules.proofs.SoundParts.{none_fails, still, was_kept, is_kept, each_found}
+use Rattle.sorted_keys.proofs.Kept.{still, was_kept, is_kept, each_found}
+use Rattle.rbac_rules.proofs.SoundParts.{none_fails}
 use Rattle.rbac_rules.proofs.SoundSeparation.{is_false}
 use Rattle.rbac_rules.proofs.SoundRoles.{authorized_still, authorized_before_role, authorized_before_ascendant, authorized_before_descendant}
 use Rattle.rbac_hierarchy.proofs.JuniorLemmas.{has_juniors}

@@ -7,14 +7,15 @@ use Rattle.std.specs.FinMap.Entries.{find}
 use Rattle.std.specs.Ordering.{eq_by_cmp}
 use Rattle.sorted_keys.specs.Keys.{has, with_key}
 use Rattle.sorted_keys.proofs.Members.{has-with_key}
-use Rattle.rbac_words.specs.Name.{Name, name_cmp}
-use Rattle.rbac_words.specs.State.{State}
-use Rattle.rbac_words.specs.Separation.{RoleSet, is_broken_by, is_constrained}
-use Rattle.rbac_words.specs.Inheritance.{juniors}
-use Rattle.rbac_words.specs.Authorization.{inherits_in, is_authorized}
-use Rattle.rbac_words.specs.Sound.{IsSound}
-use Rattle.rbac_words.proofs.NameLemmas.{names_total, names_exact, one_key, ties_itself}
-use Rattle.rbac_words.proofs.ListLemmas.{Each-weaker}
+use Rattle.rbac_terms.specs.Name.{Name, name_cmp}
+use Rattle.rbac_terms.specs.State.{State}
+use Rattle.rbac_terms.specs.Separation.{RoleSet, is_broken_by, is_constrained}
+use Rattle.rbac_terms.specs.Inheritance.{juniors}
+use Rattle.rbac_terms.specs.Authorization.{inherits_in, is_authorized}
+use Rattle.rbac_terms.specs.Sound.{IsSound}
+use Rattle.sorted_keys.proofs.Ties.{one_key, ties_itself}
+use Rattle.rbac_terms.proofs.NameLemmas.{names_total, names_exact}
+use Rattle.sorted_keys.proofs.Lists.{Each-weaker}
 use Rattle.rbac_hierarchy.proofs.JuniorLemmas.{has_juniors}
 use Rattle.rbac_separation.specs.Counts.{first_over}
 use Rattle.rbac_decide.specs.Breaking.{breaks_with, breaks_below, is_constrained_junior}

@@ -9,22 +9,23 @@ use Rattle.std.specs.Option.{option_map_or}
 use Rattle.std.specs.FinMap.Entries.{find, put, by_order}
 use Rattle.sorted_keys.specs.Keys.{has, with_key, updated}
 use Rattle.sorted_keys.proofs.Members.{has-with_key}
-use Rattle.rbac_words.specs.Name.{Name, name_cmp, pair_cmp}
-use Rattle.rbac_words.specs.State.{State, Session}
-use Rattle.rbac_words.specs.Separation.{RoleSet, is_well_sized, is_broken_by, is_broken, first_broken}
-use Rattle.rbac_words.specs.Inheritance.{Inherits}
-use Rattle.rbac_words.specs.Authorization.{is_authorized, inherits_in}
-use Rattle.rbac_words.specs.Constraints.{sets_of, with_sets, breaks_static, breaks_dynamic, is_violated, is_badly_sized}
-use Rattle.rbac_words.specs.Change.{change, with_active}
-use Rattle.rbac_words.specs.Rows.{found_and}
-use Rattle.rbac_words.specs.Sound.{IsSound, IsRoleSet}
-use Rattle.rbac_words.specs.declared.separation.Separation.{Separation}
-use Rattle.rbac_words.specs.declared.separation.Separation.TheVariants.{Static, Dynamic}
-use Rattle.rbac_words.specs.declared.command.Command.TheVariants.{AssignUser, AddInheritance, CreateSession, AddActiveRole}
-use Rattle.rbac_words.proofs.NameLemmas.{names_total, names_exact, pairs_total, pairs_exact, one_key, ties_itself, same_bits, any_member, member_any}
+use Rattle.rbac_terms.specs.Name.{Name, name_cmp, pair_cmp}
+use Rattle.rbac_terms.specs.State.{State, Session}
+use Rattle.rbac_terms.specs.Separation.{RoleSet, is_well_sized, is_broken_by, is_broken, first_broken}
+use Rattle.rbac_terms.specs.Inheritance.{Inherits}
+use Rattle.rbac_terms.specs.Authorization.{is_authorized, inherits_in}
+use Rattle.rbac_terms.specs.Constraints.{sets_of, with_sets, breaks_static, breaks_dynamic, is_violated, is_badly_sized}
+use Rattle.rbac_terms.specs.Change.{change, with_active}
+use Rattle.rbac_terms.specs.Rows.{found_and}
+use Rattle.rbac_terms.specs.Sound.{IsSound, IsRoleSet}
+use Rattle.rbac_terms.specs.declared.separation.Separation.{Separation}
+use Rattle.rbac_terms.specs.declared.separation.Separation.TheVariants.{Static, Dynamic}
+use Rattle.rbac_terms.specs.declared.command.Command.TheVariants.{AssignUser, AddInheritance, CreateSession, AddActiveRole}
+use Rattle.sorted_keys.proofs.Ties.{one_key, ties_itself, same_bits, any_member, member_any}
+use Rattle.rbac_terms.proofs.NameLemmas.{names_total, names_exact, pairs_total, pairs_exact}
 use Rattle.rbac_rules.proofs.InheritanceLemmas.{joined, inherits_iff, inherits_still, inherits_over}
 use Rattle.rbac_rules.proofs.AuthorizationLemmas.{is_authorized_iff}
-use Rattle.rbac_rules.proofs.SoundParts.{still}
+use Rattle.sorted_keys.proofs.Kept.{still}
 use Rattle.rbac_rules.proofs.SoundSeparation.{is_false}
 use Rattle.rbac_decide.specs.Breaking.{breaks_with, breaks_below, breaks_set}
 

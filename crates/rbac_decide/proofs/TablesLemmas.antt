@@ -1,9 +1,9 @@
 -- What a change of one table is to the state, and tables with the same sets.
 use Rattle.std.proofs.Common.{◌≡◌, ap, sym, ◌∙◌}
 use Rattle.std.specs.FinMap.Entries.{find}
-use Rattle.rbac_words.specs.Name.{name_cmp}
-use Rattle.rbac_words.specs.Founding.{Vocabulary}
-use Rattle.rbac_words.specs.Authorization.{is_authorized}
+use Rattle.rbac_terms.specs.Name.{name_cmp}
+use Rattle.rbac_terms.specs.Vocabulary.{Vocabulary}
+use Rattle.rbac_terms.specs.Authorization.{is_authorized}
 use Rattle.rbac_hierarchy.specs.Order.{Order}
 use Rattle.rbac_rolesets.specs.Sets.{Sets}
 use Rattle.rbac_separation.specs.Counts.{Counts, numbers_of}
@@ -22,9 +22,7 @@ module _ (t other : Tables) (same : HaveSameSets t other) where
     static_sets = same.static_sets i;
     dynamic_sets = same.dynamic_sets i;
     sessions = same.sessions i;
-    operations = v.operations;
-    objects = v.objects;
-    permissions = v.permissions;
+    vocabulary = v;
   }
 
   pub roles_stay_same : HasSameRoles other → HasSameRoles t

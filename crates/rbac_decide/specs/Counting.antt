@@ -4,19 +4,19 @@ use Rattle.std.specs.FinMap.Entries.{find}
 use Rattle.std.specs.List.{list_any, filter}
 use Rattle.std.specs.Ordering.{eq_by_cmp}
 use Rattle.sorted_keys.specs.Keys.{has}
-use Rattle.rbac_words.specs.Name.{Name, name_cmp, pair_cmp}
-use Rattle.rbac_words.specs.Founding.{Vocabulary}
-use Rattle.rbac_words.specs.Separation.{RoleSet, is_broken_by}
-use Rattle.rbac_words.specs.State.{State}
-use Rattle.rbac_words.specs.Inheritance.{juniors}
-use Rattle.rbac_words.specs.Authorization.{is_authorized}
-use Rattle.rbac_words.specs.Change.{change}
-use Rattle.rbac_words.specs.Rows.{first_denial}
-use Rattle.rbac_words.specs.Sound.{IsSound}
-use Rattle.rbac_words.specs.declared.separation.Separation.{Separation}
-use Rattle.rbac_words.specs.declared.separation.Separation.TheVariants.{Static, Dynamic}
-use Rattle.rbac_words.specs.declared.command.Command.{Command}
-use Rattle.rbac_words.specs.declared.command.Command.TheVariants.{DeleteUser, DeleteRole, AssignUser, DeassignUser, AddInheritance, DeleteInheritance, CreateSet, DeleteSet, AddRoleMember, DeleteRoleMember}
+use Rattle.rbac_terms.specs.Name.{Name, name_cmp, pair_cmp}
+use Rattle.rbac_terms.specs.Vocabulary.{Vocabulary}
+use Rattle.rbac_terms.specs.Separation.{RoleSet, is_broken_by}
+use Rattle.rbac_terms.specs.State.{State}
+use Rattle.rbac_terms.specs.Inheritance.{juniors}
+use Rattle.rbac_terms.specs.Authorization.{is_authorized}
+use Rattle.rbac_terms.specs.Change.{change}
+use Rattle.rbac_terms.specs.Rows.{first_denial}
+use Rattle.rbac_terms.specs.Sound.{IsSound}
+use Rattle.rbac_terms.specs.declared.separation.Separation.{Separation}
+use Rattle.rbac_terms.specs.declared.separation.Separation.TheVariants.{Static, Dynamic}
+use Rattle.rbac_terms.specs.declared.command.Command.{Command}
+use Rattle.rbac_terms.specs.declared.command.Command.TheVariants.{DeleteUser, DeleteRole, AssignUser, DeassignUser, AddInheritance, DeleteInheritance, CreateSet, DeleteSet, AddRoleMember, DeleteRoleMember}
 use Rattle.rbac_separation.specs.Counts.{Counts, numbers_of, without_set, without_user}
 use Rattle.rbac_decide.specs.declared.tables.Tables.{Tables}
 use Rattle.rbac_decide.specs.Tables.{state_of, state_of_roles}

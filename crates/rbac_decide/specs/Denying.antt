@@ -1,9 +1,9 @@
 -- What the tests of preconditions answer.
 use Rattle.std.specs.Prelude.{⊤, ◌≡◌, Option, Some, None, Result, Ok, Err}
-use Rattle.rbac_words.specs.State.{State}
-use Rattle.rbac_words.specs.Rows.{first_denial}
-use Rattle.rbac_words.specs.declared.command.Command.{Command}
-use Rattle.rbac_words.specs.declared.answer.Denial.{Denial}
+use Rattle.rbac_terms.specs.State.{State}
+use Rattle.rbac_terms.specs.Rows.{first_denial}
+use Rattle.rbac_terms.specs.declared.command.Command.{Command}
+use Rattle.rbac_terms.specs.declared.answer.Denial.{Denial}
 use Rattle.rbac_decide.specs.declared.policy.hindrance.Hindrance.{Hindrance}
 use Rattle.rbac_decide.specs.declared.policy.hindrance.Hindrance.TheVariants.{Denied, NoMemory}
 

@@ -1,9 +1,9 @@
 -- The sets that commands change, with a vocabulary, as the state of a policy.
 use Rattle.std.specs.Prelude.{[], ◌≡◌, None}
-use Rattle.rbac_words.specs.Founding.{Vocabulary}
-use Rattle.rbac_words.specs.State.{State}
-use Rattle.rbac_words.specs.Rows.{first_denial}
-use Rattle.rbac_words.specs.declared.command.Command.{Command}
+use Rattle.rbac_terms.specs.Vocabulary.{Vocabulary, no_vocabulary}
+use Rattle.rbac_terms.specs.State.{State}
+use Rattle.rbac_terms.specs.Rows.{first_denial}
+use Rattle.rbac_terms.specs.declared.command.Command.{Command}
 use Rattle.rbac_rolesets.specs.Sets.{Sets}
 use Rattle.rbac_hierarchy.specs.Order.{Order}
 use Rattle.rbac_decide.specs.declared.tables.Tables.{Tables}
@@ -18,9 +18,7 @@ state_of t v = record {
   static_sets = t.static_sets.content;
   dynamic_sets = t.dynamic_sets.content;
   sessions = t.sessions.content;
-  operations = v.operations;
-  objects = v.objects;
-  permissions = v.permissions;
+  vocabulary = v;
 }
 
 -- a state with these sets alone: who is authorized for a role is a matter of nothing else
@@ -34,9 +32,7 @@ state_of_roles s h = record {
   static_sets = [];
   dynamic_sets = [];
   sessions = [];
-  operations = [];
-  objects = [];
-  permissions = [];
+  vocabulary = no_vocabulary;
 }
 
 -- the hierarchy has the roles of the role sets

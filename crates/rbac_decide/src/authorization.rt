@@ -1,15 +1,15 @@
 //! Who is authorized for a role, and which roles have a permission, by the sets of a policy.
 ghost use Rattle.std.specs.Prelude.{◌≡◌, ◌&&◌, not, count_by, IfOk};
 ghost use Rattle.sorted_keys.specs.Keys.{has};
-ghost use Rattle.rbac_words.specs.Name.{Name as NameValue, name_cmp};
+ghost use Rattle.rbac_terms.specs.Name.{Name as NameValue, name_cmp};
 ghost use Rattle.std.specs.List.{list_all, list_any};
-ghost use Rattle.rbac_words.specs.Inheritance.{inherits};
-ghost use Rattle.rbac_words.specs.Authorization.{is_authorized, is_entitled};
+ghost use Rattle.rbac_terms.specs.Inheritance.{inherits};
+ghost use Rattle.rbac_terms.specs.Authorization.{is_authorized, is_entitled};
 ghost use Rattle.rbac_decide.specs.Tables.{state_of_roles};
 
 use rbac_hierarchy::{Hierarchy, RoleOrder};
 use rbac_rolesets::RoleSets;
-use rbac_words::{Name, NameSet};
+use rbac_terms::{Name, NameSet};
 use sorted_keys::KeyTest;
 use std::alloc::{AllocError, Global};
 

@@ -1,11 +1,11 @@
 //! Which sessions would break a dynamic set.
 ghost use Rattle.std.specs.Prelude.{◌≡◌, count_by};
 ghost use Rattle.sorted_keys.specs.Keys.{has};
-ghost use Rattle.rbac_words.specs.Name.{name_cmp};
-ghost use Rattle.rbac_words.specs.Separation.{is_broken};
+ghost use Rattle.rbac_terms.specs.Name.{name_cmp};
+ghost use Rattle.rbac_terms.specs.Separation.{is_broken};
 
 use rbac_sessions::SessionTest;
-use rbac_words::{Name, NameSet};
+use rbac_terms::{Name, NameSet};
 
 // How many of the roles are among these.
 fn count_among(roles: &[Name], active: &NameSet) -> usize

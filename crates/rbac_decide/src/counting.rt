@@ -3,8 +3,8 @@
 ghost use Rattle.std.specs.Prelude.{◌≡◌, ◌≤◌, true, false, if◌then◌else◌, length, count_by};
 ghost use Rattle.std.specs.List.{list_any};
 ghost use Rattle.sorted_keys.specs.Keys.{has};
-ghost use Rattle.rbac_words.specs.Name.{Name as NameValue, name_cmp, pair_cmp};
-ghost use Rattle.rbac_words.specs.Separation.{is_broken_by};
+ghost use Rattle.rbac_terms.specs.Name.{Name as NameValue, name_cmp, pair_cmp};
+ghost use Rattle.rbac_terms.specs.Separation.{is_broken_by};
 ghost use Rattle.rbac_separation.specs.Counts.{numbers_of};
 ghost use Rattle.rbac_decide.specs.Counting.{authorized_by, count_by_tables, breaks_some, AreCountsBy, IsPrepared, without_static, remaining};
 
@@ -14,7 +14,7 @@ use crate::authorization::count_authorized;
 use crate::tables::Tables;
 pub use affected::affected_pairs;
 use rbac_separation::{Counts, RoleSet};
-use rbac_words::{Command, Name, Separation};
+use rbac_terms::{Command, Name, Separation};
 
 // For how many roles of a set the user is authorized: fewer than its number, so that the count fits.
 fn count_in(tables: &Tables, roles: &RoleSet, user: &Name) -> u32

@@ -2,15 +2,15 @@
 ghost use Rattle.std.specs.Prelude.{◌≡◌, ◌&&◌, not};
 ghost use Rattle.std.specs.Ordering.{eq_by_cmp};
 ghost use Rattle.sorted_keys.specs.Keys.{has};
-ghost use Rattle.rbac_words.specs.Name.{name_cmp};
-ghost use Rattle.rbac_words.specs.Authorization.{is_entitled as is_entitled_in};
+ghost use Rattle.rbac_terms.specs.Name.{name_cmp};
+ghost use Rattle.rbac_terms.specs.Authorization.{is_entitled as is_entitled_in};
 ghost use Rattle.rbac_decide.specs.Tables.{state_of_roles};
 
 use crate::authorization::is_entitled;
 use rbac_hierarchy::Hierarchy;
 use rbac_rolesets::RoleSets;
 use rbac_sessions::SessionTest;
-use rbac_words::{Name, NameSet};
+use rbac_terms::{Name, NameSet};
 
 /// The sessions of a user.
 #[derive(Drop)]

@@ -2,12 +2,12 @@
 ghost use Rattle.std.specs.Prelude.{◌≡◌, ◌↔◌, false, IsTrue, IfOk, IfErr, OnOk, OnErr, Some, None};
 ghost use Rattle.std.specs.FinMap.Entries.{find};
 ghost use Rattle.sorted_keys.specs.Keys.{has};
-ghost use Rattle.rbac_words.specs.Name.{name_cmp, pair_cmp};
-ghost use Rattle.rbac_words.specs.State.{founding_state};
-ghost use Rattle.rbac_words.specs.Rows.{first_denial};
-ghost use Rattle.rbac_words.specs.Effect.{effect, reply, session_holds};
-ghost use Rattle.rbac_words.specs.Reviews.{session_permissions};
-ghost use Rattle.rbac_words.specs.Sound.{IsSound};
+ghost use Rattle.rbac_terms.specs.Name.{name_cmp, pair_cmp};
+ghost use Rattle.rbac_terms.specs.State.{founding_state};
+ghost use Rattle.rbac_terms.specs.Rows.{first_denial};
+ghost use Rattle.rbac_terms.specs.Effect.{effect, reply, session_holds};
+ghost use Rattle.rbac_terms.specs.Reviews.{session_permissions};
+ghost use Rattle.rbac_terms.specs.Sound.{IsSound};
 ghost use Rattle.rbac_decide.specs.Counting.{AreCounts};
 
 mod access;
@@ -22,7 +22,7 @@ use crate::counting::{affected_pairs, recount_affected};
 use crate::policy::hindrance::Hindrance;
 use crate::tables::Tables;
 use rbac_separation::Counts;
-use rbac_words::{Answer, Command, Denial, Name, Vocabulary};
+use rbac_terms::{Answer, Command, Denial, Name, Vocabulary};
 use std::alloc::{AllocError, Global};
 use std::marker::Model;
 
@@ -35,7 +35,7 @@ pub struct Policy {
 }
 
 impl Model for Policy {
-    ghost use Rattle.rbac_words.specs.State.{State};
+    ghost use Rattle.rbac_terms.specs.State.{State};
     ghost use Rattle.rbac_decide.specs.Tables.{state_of};
     ghost use Rattle.rbac_decide.specs.Policy.{IsPolicy};
 

@@ -1,18 +1,18 @@
 //! The sets that commands change.
 ghost use Rattle.std.specs.Prelude.{◌≡◌, ◌↔◌, IsTrue, IfOk, OnOk, OnErr};
 ghost use Rattle.sorted_keys.specs.Keys.{has};
-ghost use Rattle.rbac_words.specs.Name.{name_cmp};
-ghost use Rattle.rbac_words.specs.Authorization.{purge};
-ghost use Rattle.rbac_words.specs.Change.{change};
-ghost use Rattle.rbac_words.specs.Founding.{Vocabulary as VocabularyValue};
-ghost use Rattle.rbac_words.specs.State.{founding_state};
+ghost use Rattle.rbac_terms.specs.Name.{name_cmp};
+ghost use Rattle.rbac_terms.specs.Authorization.{purge};
+ghost use Rattle.rbac_terms.specs.Change.{change};
+ghost use Rattle.rbac_terms.specs.Vocabulary.{Vocabulary as VocabularyValue};
+ghost use Rattle.rbac_terms.specs.State.{founding_state};
 
 use crate::ending::{OwnedBy, OwnedWithActive, Unentitled, WithActive};
 use rbac_hierarchy::{Hierarchy, RoleOrder};
 use rbac_rolesets::RoleSets;
 use rbac_separation::SetTable;
 use rbac_sessions::Sessions;
-use rbac_words::{Command, Name};
+use rbac_terms::{Command, Name};
 use std::alloc::{AllocError, Global};
 
 mod roles;

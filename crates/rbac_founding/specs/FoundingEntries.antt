@@ -4,7 +4,7 @@ use Rattle.std.specs.List.{list_all}
 use Rattle.toml.specs.Data.{as_str}
 use Rattle.toml.specs.View.{view}
 use Rattle.toml.specs.declared.value.Value.{Value}
-use Rattle.rbac_words.specs.Name.{Name, Permission, is_name}
+use Rattle.rbac_terms.specs.Name.{Name, Permission, is_name}
 use Rattle.rbac_founding.specs.FoundingFile.{Reading, Entries, as_permission}
 use Rattle.rbac_founding.specs.declared.values.Entries.{Entries as EntriesHeld}
 use Rattle.rbac_founding.specs.declared.refusal.FoundingRefusal.TheVariants.{BadName}

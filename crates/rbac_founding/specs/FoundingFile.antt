@@ -6,9 +6,11 @@ use Rattle.std.specs.List.{list_all}
 use Rattle.toml.specs.Data.{Data, integer, Items, no_items, item, Members, no_members, member, get_member, as_str, as_integer, as_array}
 use Rattle.toml.specs.Parse.{parse_document}
 use Rattle.sorted_keys.specs.Keys.{set_of, repeats}
-use Rattle.rbac_words.specs.Limits.{most_members, most_operations, most_objects, most_permissions, last_clock, most_sent}
-use Rattle.rbac_words.specs.Name.{Permission, is_name, name_cmp, pair_cmp}
-use Rattle.rbac_words.specs.Founding.{Group, Vocabulary, is_listed}
+use Rattle.rbac_terms.specs.Limits.{most_operations, most_objects, most_permissions}
+use Rattle.rbac_words.specs.Limits.{most_members, last_clock, most_sent}
+use Rattle.rbac_terms.specs.Name.{Permission, is_name, name_cmp, pair_cmp}
+use Rattle.rbac_terms.specs.Vocabulary.{Vocabulary, is_listed}
+use Rattle.rbac_words.specs.Group.{Group}
 use Rattle.rbac_founding.specs.Keys.{is_one_of}
 use Rattle.rbac_founding.specs.Steps.{◌>>=◌, ◌>>◌, provided, ReadsBut}
 use Rattle.rbac_founding.specs.declared.founding.Founding.{Founding}

@@ -1,6 +1,7 @@
 -- The sample founding: one member, and a small vocabulary of bookkeeping.
 use Rattle.std.specs.Prelude.{[], ◌∷◌, codes}
-use Rattle.rbac_words.specs.Founding.{Group, Vocabulary}
+use Rattle.rbac_terms.specs.Vocabulary.{Vocabulary}
+use Rattle.rbac_words.specs.Group.{Group}
 
 abbrev pub sample_group : Group
 sample_group = record { members = 1; clock = 0; sent_limit = 65536 }

@@ -9,9 +9,8 @@ use crate::founding::Founding;
 use crate::names::{names_of, permissions_of};
 use crate::refusal::FoundingRefusal;
 use crate::values::Entries;
-use rbac_words::limits::{
-    LAST_CLOCK, MOST_MEMBERS, MOST_OBJECTS, MOST_OPERATIONS, MOST_PERMISSIONS, MOST_SENT,
-};
+use rbac_terms::limits::{MOST_OBJECTS, MOST_OPERATIONS, MOST_PERMISSIONS};
+use rbac_words::limits::{LAST_CLOCK, MOST_MEMBERS, MOST_SENT};
 use rbac_words::{Group, Vocabulary, VocabularyRefusal};
 use std::alloc::Global;
 

@@ -1,6 +1,6 @@
 //! The founding of a world that is given none.
 ghost use Rattle.std.specs.Prelude.{◌≡◌, IfOk, IsTrue, ◌∷◌, [], ◌++◌};
-ghost use Rattle.rbac_words.specs.Name.{is_name};
+ghost use Rattle.rbac_terms.specs.Name.{is_name};
 ghost use Rattle.rbac_founding.specs.Sample.{sample_group, sample_vocabulary};
 
 use crate::founding::Founding;

@@ -2,9 +2,9 @@
 use Rattle.std.proofs.Common.{ℕ, ◌≡◌, ◌<◌, ◌+◌, Bool, true, false, not, ◌&&◌, List, [], ◌∷◌, ◌++◌, length, get_or, take, refl, sym, ap, ◌∙◌}
 use Rattle.std.proofs.lemmas.List.{take_more}
 use Rattle.sorted_keys.specs.Keys.{has}
-use Rattle.rbac_words.specs.Inheritance.{inherits}
-use Rattle.rbac_words.specs.Name.{Name, name_cmp}
-use Rattle.rbac_words.proofs.NameLemmas.{same_bits}
+use Rattle.rbac_terms.specs.Inheritance.{inherits}
+use Rattle.rbac_terms.specs.Name.{Name, name_cmp}
+use Rattle.sorted_keys.proofs.Ties.{same_bits}
 use Rattle.rbac_rules.proofs.InheritanceLemmas.{inherits_iff}
 use Rattle.rbac_hierarchy.specs.Changes.{after, after_one}
 use Rattle.rbac_hierarchy.specs.Order.{Order}

@@ -13,7 +13,7 @@ use Rattle.sorted_keys.specs.Keys.{has, with_key, without, without_key, by_key}
 use Rattle.sorted_keys.proofs.Order.{IsBelowAll}
 use Rattle.sorted_keys.proofs.KeyPlace.{sorted_with_key}
 use Rattle.sorted_keys.proofs.Members.{has-with_key, same_keys}
-use Rattle.rbac_words.proofs.NameLemmas.{one_key, ties_itself}
+use Rattle.sorted_keys.proofs.Ties.{one_key, ties_itself}
 
 -- entries whose values are a function of their keys
 module _ {K X : Type 0} (g : K → X) where

@@ -10,9 +10,10 @@ use Rattle.sorted_keys.specs.Keys.{has, with_key}
 use Rattle.sorted_keys.proofs.Members.{has-with_key, same_keys}
 use Rattle.sorted_keys.proofs.Gathered.{sorted_set_of}
 use Rattle.sorted_keys.proofs.KeyPlace.{sorted_with_key}
-use Rattle.rbac_words.specs.Name.{Name, name_cmp, pair_cmp}
-use Rattle.rbac_words.specs.Inheritance.{IsChain, Inherits, inherits}
-use Rattle.rbac_words.proofs.NameLemmas.{names_total, names_exact, pairs_total, same_bits, ties_itself, one_key}
+use Rattle.rbac_terms.specs.Name.{Name, name_cmp, pair_cmp}
+use Rattle.rbac_terms.specs.Inheritance.{IsChain, Inherits, inherits}
+use Rattle.sorted_keys.proofs.Ties.{same_bits, ties_itself, one_key}
+use Rattle.rbac_terms.proofs.NameLemmas.{names_total, names_exact, pairs_total}
 use Rattle.rbac_rules.proofs.InheritanceLemmas.{chain_role, joined, inherits_iff, inherits_still, inherits_over}
 use Rattle.bit_rows.specs.Bits.{Rows, AreJoined, count, first_of, related, second_of}
 use Rattle.rbac_hierarchy.specs.Numbers.{role_at, roles_of, AreNumbered, ArePairsAbove, IsExact}

@@ -10,9 +10,10 @@ use Rattle.std.proofs.lemmas.List.Kept.{IsStrictlySortedBy-filter}
 use Rattle.sorted_keys.specs.Keys.{has, without}
 use Rattle.sorted_keys.proofs.Gathered.{sorted_set_of}
 use Rattle.sorted_keys.proofs.Members.{has-without, same_keys}
-use Rattle.rbac_words.specs.Name.{Name, name_cmp, pair_cmp}
-use Rattle.rbac_words.specs.Inheritance.{inherits}
-use Rattle.rbac_words.proofs.NameLemmas.{names_total, names_exact, one_key, same_bits, ties_itself}
+use Rattle.rbac_terms.specs.Name.{Name, name_cmp, pair_cmp}
+use Rattle.rbac_terms.specs.Inheritance.{inherits}
+use Rattle.sorted_keys.proofs.Ties.{one_key, same_bits, ties_itself}
+use Rattle.rbac_terms.proofs.NameLemmas.{names_total, names_exact}
 use Rattle.bit_rows.specs.Bits.{Rows, count, moved, related}
 use Rattle.rbac_hierarchy.specs.Numbers.{role_at, roles_of, AreNumbered, IsExact}
 use Rattle.rbac_hierarchy.specs.Rows.{RangesOver}

@@ -4,8 +4,9 @@ use Rattle.std.specs.Ordering.{eq_by_cmp}
 use Rattle.std.proofs.lemmas.List.{take_more, take_all}
 use Rattle.sorted_keys.specs.Keys.{has, with_key}
 use Rattle.sorted_keys.proofs.Members.{has-with_key}
-use Rattle.rbac_words.specs.Name.{Name, name_cmp}
-use Rattle.rbac_words.proofs.NameLemmas.{names_total, names_exact, one_key}
+use Rattle.rbac_terms.specs.Name.{Name, name_cmp}
+use Rattle.sorted_keys.proofs.Ties.{one_key}
+use Rattle.rbac_terms.proofs.NameLemmas.{names_total, names_exact}
 use Rattle.rbac_hierarchy.specs.Numbers.{role_at}
 use Rattle.rbac_hierarchy.proofs.Kept.{any-append}
 

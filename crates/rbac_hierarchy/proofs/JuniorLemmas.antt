@@ -8,10 +8,11 @@ use Rattle.sorted_keys.specs.Keys.{has, with_key}
 use Rattle.sorted_keys.proofs.Order.{sorted_none}
 use Rattle.sorted_keys.proofs.KeyPlace.{sorted_with_key}
 use Rattle.sorted_keys.proofs.Members.{has-filter, has-with_key, same_keys}
-use Rattle.rbac_words.specs.Name.{Name, name_cmp}
-use Rattle.rbac_words.specs.Inheritance.{IsChain, Inherits, inherits, juniors}
+use Rattle.rbac_terms.specs.Name.{Name, name_cmp}
+use Rattle.rbac_terms.specs.Inheritance.{IsChain, Inherits, inherits, juniors}
 use Rattle.rbac_rules.proofs.InheritanceLemmas.{inherits_iff}
-use Rattle.rbac_words.proofs.NameLemmas.{names_total, names_exact, one_key, ties_itself, same_bits}
+use Rattle.sorted_keys.proofs.Ties.{one_key, ties_itself, same_bits}
+use Rattle.rbac_terms.proofs.NameLemmas.{names_total, names_exact}
 use Rattle.rbac_hierarchy.specs.Rows.{RangesOver}
 use Rattle.rbac_hierarchy.proofs.Kept.{keeps_none}
 

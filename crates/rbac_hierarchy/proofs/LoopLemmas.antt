@@ -5,8 +5,8 @@ use Rattle.std.specs.Ordering.{eq_by_cmp}
 use Rattle.std.proofs.lemmas.List.{take_all}
 use Rattle.sorted_keys.specs.Keys.{has, with_key}
 use Rattle.sorted_keys.proofs.Members.{has-with_key}
-use Rattle.rbac_words.specs.Name.{Name, name_cmp}
-use Rattle.rbac_words.proofs.NameLemmas.{names_total}
+use Rattle.rbac_terms.specs.Name.{Name, name_cmp}
+use Rattle.rbac_terms.proofs.NameLemmas.{names_total}
 use Rattle.rbac_hierarchy.proofs.Kept.{any-append, one_more}
 
 pub or_nothing : (b : Bool) → b ≡ (b || false)

@@ -9,8 +9,9 @@ use Rattle.std.proofs.lemmas.List.Quantifiers.{position-Some}
 use Rattle.sorted_keys.specs.Keys.{has}
 use Rattle.sorted_keys.proofs.Gathered.{has-set_of, sorted_set_of}
 use Rattle.sorted_keys.proofs.Members.{same_keys}
-use Rattle.rbac_words.specs.Name.{Name, name_cmp}
-use Rattle.rbac_words.proofs.NameLemmas.{names_total, names_exact, one_key, same_bits, ties_itself}
+use Rattle.rbac_terms.specs.Name.{Name, name_cmp}
+use Rattle.sorted_keys.proofs.Ties.{one_key, same_bits, ties_itself}
+use Rattle.rbac_terms.proofs.NameLemmas.{names_total, names_exact}
 use Rattle.rbac_hierarchy.specs.Numbers.{role_at, roles_of}
 
 -- `==` of names is their order's

@@ -7,10 +7,11 @@ use Rattle.std.proofs.lemmas.List.{append-nil, get_or_append_left, take_more}
 use Rattle.std.proofs.lemmas.List.Elements.{filter-append}
 use Rattle.sorted_keys.specs.Keys.{has, without}
 use Rattle.sorted_keys.proofs.Members.{has-filter}
-use Rattle.rbac_words.specs.Name.{Name, name_cmp, pair_cmp}
-use Rattle.rbac_words.specs.Relations.{begins_with, ends_with, without_pairs_of}
-use Rattle.rbac_words.specs.Inheritance.{inherits}
-use Rattle.rbac_words.proofs.NameLemmas.{names_total, names_exact, pairs_total, pairs_exact, one_key, ties_itself}
+use Rattle.rbac_terms.specs.Name.{Name, name_cmp, pair_cmp}
+use Rattle.rbac_terms.specs.Relations.{begins_with, ends_with, without_pairs_of}
+use Rattle.rbac_terms.specs.Inheritance.{inherits}
+use Rattle.sorted_keys.proofs.Ties.{one_key, ties_itself}
+use Rattle.rbac_terms.proofs.NameLemmas.{names_total, names_exact, pairs_total, pairs_exact}
 use Rattle.rbac_rules.proofs.InheritanceLemmas.{inherits_iff}
 use Rattle.bit_rows.specs.Bits.{Rows, AreBelow, first_of, related, second_of}
 use Rattle.rbac_hierarchy.specs.Numbers.{role_at, roles_of, ArePairsAbove, AreNumbered, IsExact}

@@ -4,9 +4,10 @@ use Rattle.std.specs.Ordering.{eq_by_cmp}
 use Rattle.std.proofs.lemmas.Bool.{and_parts, and_from, not-true, or_parts}
 use Rattle.sorted_keys.specs.Keys.{has, with_key, without}
 use Rattle.sorted_keys.proofs.Members.{has-with_key, has-without, has-filter}
-use Rattle.rbac_words.specs.Name.{Name, name_cmp, pair_cmp}
-use Rattle.rbac_words.specs.Relations.{begins_with, ends_with, without_pairs_of}
-use Rattle.rbac_words.proofs.NameLemmas.{names_exact, pairs_total, pairs_exact, one_key}
+use Rattle.rbac_terms.specs.Name.{Name, name_cmp, pair_cmp}
+use Rattle.rbac_terms.specs.Relations.{begins_with, ends_with, without_pairs_of}
+use Rattle.sorted_keys.proofs.Ties.{one_key}
+use Rattle.rbac_terms.proofs.NameLemmas.{names_exact, pairs_total, pairs_exact}
 use Rattle.rbac_hierarchy.specs.Rows.{RangesOver}
 
 -- more roles are ranged over as well

@@ -10,10 +10,11 @@ use Rattle.sorted_keys.specs.Keys.{has, with_key, without, without_key, by_key}
 use Rattle.sorted_keys.proofs.Order.{sorted_none}
 use Rattle.sorted_keys.proofs.KeyPlace.{sorted_with_key}
 use Rattle.sorted_keys.proofs.Members.{has-with_key, has-without}
-use Rattle.rbac_words.specs.Name.{Name, name_cmp}
-use Rattle.rbac_words.specs.Relations.{without_pairs_of}
-use Rattle.rbac_words.specs.Inheritance.{inherits, juniors}
-use Rattle.rbac_words.proofs.NameLemmas.{names_total, names_exact, ties_itself}
+use Rattle.rbac_terms.specs.Name.{Name, name_cmp}
+use Rattle.rbac_terms.specs.Relations.{without_pairs_of}
+use Rattle.rbac_terms.specs.Inheritance.{inherits, juniors}
+use Rattle.sorted_keys.proofs.Ties.{ties_itself}
+use Rattle.rbac_terms.proofs.NameLemmas.{names_total, names_exact}
 use Rattle.rbac_hierarchy.specs.Order.{Order}
 use Rattle.rbac_hierarchy.specs.Rows.{RangesOver, roles_in, rows_over, AreRows}
 use Rattle.rbac_hierarchy.proofs.Kept.{keeps_all, key_kept, key_passed}

@@ -8,11 +8,12 @@ use Rattle.sorted_keys.specs.Keys.{has, with_key}
 use Rattle.sorted_keys.proofs.Order.{sorted_none}
 use Rattle.sorted_keys.proofs.KeyPlace.{sorted_with_key}
 use Rattle.sorted_keys.proofs.Members.{has-filter, has-with_key}
-use Rattle.rbac_words.specs.Name.{Name, name_cmp, pair_cmp}
-use Rattle.rbac_words.specs.Relations.{begins_with}
-use Rattle.rbac_words.specs.Inheritance.{IsChain, Inherits}
+use Rattle.rbac_terms.specs.Name.{Name, name_cmp, pair_cmp}
+use Rattle.rbac_terms.specs.Relations.{begins_with}
+use Rattle.rbac_terms.specs.Inheritance.{IsChain, Inherits}
 use Rattle.rbac_rules.proofs.InheritanceLemmas.{joined}
-use Rattle.rbac_words.proofs.NameLemmas.{names_total, names_exact, pairs_total, pairs_exact, one_key, ties_itself}
+use Rattle.sorted_keys.proofs.Ties.{one_key, ties_itself}
+use Rattle.rbac_terms.proofs.NameLemmas.{names_total, names_exact, pairs_total, pairs_exact}
 use Rattle.rbac_hierarchy.specs.Rows.{RangesOver}
 use Rattle.rbac_hierarchy.specs.Walk.{AreJuniors, FindsDescendants, unfound}
 use Rattle.rbac_hierarchy.proofs.Kept.{any-append, keeps_less}

@@ -1,9 +1,9 @@
 -- A role hierarchy after changes (ANSI INCITS 359-2004, 6.1.1 and 6.2.1.1: AddRole, DeleteRole, AddInheritance, DeleteInheritance).
 use Rattle.std.specs.Prelude.{List, [], ◌∷◌, not, ◌&&◌, if◌then◌else◌}
 use Rattle.sorted_keys.specs.Keys.{has, with_key, without}
-use Rattle.rbac_words.specs.Inheritance.{inherits}
-use Rattle.rbac_words.specs.Name.{Name, name_cmp, pair_cmp}
-use Rattle.rbac_words.specs.Relations.{without_pairs_of}
+use Rattle.rbac_terms.specs.Inheritance.{inherits}
+use Rattle.rbac_terms.specs.Name.{Name, name_cmp, pair_cmp}
+use Rattle.rbac_terms.specs.Relations.{without_pairs_of}
 use Rattle.rbac_hierarchy.specs.declared.change.Change.{Change}
 use Rattle.rbac_hierarchy.specs.declared.change.Change.TheVariants.{AddRole, RemoveRole, Declare, Retract}
 use Rattle.rbac_hierarchy.specs.Order.{Order}

@@ -1,8 +1,8 @@
 -- Roles by numbers: the number of a role is its place in a list of names.
 use Rattle.std.specs.Prelude.{ℕ, ◌≡◌, ◌<◌, IsTrue, List, [], length, get_or}
 use Rattle.sorted_keys.specs.Keys.{has, set_of}
-use Rattle.rbac_words.specs.Name.{Name, name_cmp, pair_cmp}
-use Rattle.rbac_words.specs.Inheritance.{inherits}
+use Rattle.rbac_terms.specs.Name.{Name, name_cmp, pair_cmp}
+use Rattle.rbac_terms.specs.Inheritance.{inherits}
 use Rattle.bit_rows.specs.Bits.{Rows, AreBelow, count, first_of, related, second_of}
 use Rattle.rbac_hierarchy.specs.Rows.{RangesOver}
 

@@ -1,6 +1,6 @@
 -- What a role hierarchy is seen as.
 use Rattle.std.specs.Prelude.{ℕ, List, []}
-use Rattle.rbac_words.specs.Name.{Name}
+use Rattle.rbac_terms.specs.Name.{Name}
 
 -- the roles, and the declared pairs of an ascendant and a descendant (RH), each sorted and without repeats
 pub record Order : Type 0 where

@@ -1,7 +1,7 @@
 -- Rows that are made anew: what they have in common with those before, and with the pairs.
 use Rattle.std.specs.Prelude.{ℕ, ◌≡◌, ◌<◌, ◌≤◌, Bool, IsTrue, List, length, nat_eq, if◌then◌else◌}
 use Rattle.sorted_keys.specs.Keys.{has}
-use Rattle.rbac_words.specs.Name.{Name, pair_cmp}
+use Rattle.rbac_terms.specs.Name.{Name, pair_cmp}
 use Rattle.bit_rows.specs.Bits.{Rows, AreJoined, count, first_of, related, second_of}
 use Rattle.rbac_hierarchy.specs.Numbers.{role_at}
 

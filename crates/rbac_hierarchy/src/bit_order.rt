@@ -1,7 +1,7 @@
 //! A hierarchy as a row of bits for each role.
 ghost use Rattle.std.specs.Prelude.{◌≡◌, ◌<◌, ◌≤◌, IsTrue, OnOk, OnErr};
 ghost use Rattle.sorted_keys.specs.Keys.{has, with_key};
-ghost use Rattle.rbac_words.specs.Name.{name_cmp, pair_cmp};
+ghost use Rattle.rbac_terms.specs.Name.{name_cmp, pair_cmp};
 
 mod numbers;
 mod renewal;
@@ -11,7 +11,7 @@ use crate::removal::{OtherPair, OtherPairs};
 use bit_rows::Relation;
 use indexmap::IndexSet;
 use numbers::{ByName, JuniorsOf, number, number_of, same_roles, with_roles_where};
-use rbac_words::{Name, NameSet};
+use rbac_terms::{Name, NameSet};
 use renewal::{pairs_above, renew};
 use sorted_keys::{KeyTest, PairProbe, SortedSet};
 use std::alloc::{AllocError, Global};

@@ -1,5 +1,5 @@
 //! Changes of a role hierarchy.
-use rbac_words::Name;
+use rbac_terms::Name;
 
 /// One change of a role hierarchy, with its names.
 #[derive(Drop)]

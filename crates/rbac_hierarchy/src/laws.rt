@@ -1,11 +1,11 @@
 //! A law that holds however a hierarchy is kept.
 ghost use Rattle.std.specs.Prelude.{◌≡◌, ◌≤◌, ◌&&◌, ℕ, OnOk, OnErr, length, not, take};
-ghost use Rattle.rbac_words.specs.Inheritance.{inherits};
+ghost use Rattle.rbac_terms.specs.Inheritance.{inherits};
 ghost use Rattle.rbac_hierarchy.specs.Changes.{after, after_one};
 
 use crate::change::Change;
 use crate::order::RoleOrder;
-use rbac_words::Name;
+use rbac_terms::Name;
 use std::alloc::{AllocError, Global};
 
 // Whether both are roles and the descendant does not inherit the ascendant.

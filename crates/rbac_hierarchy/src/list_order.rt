@@ -2,16 +2,16 @@
 ghost use Rattle.std.specs.Prelude.{◌≡◌, ◌↔◌, ◌||◌, IsTrue, IfOk, OnOk, OnErr, filter};
 ghost use Rattle.std.specs.List.Sorted.{IsStrictlySortedBy};
 ghost use Rattle.sorted_keys.specs.Keys.{has, with_key, without};
-ghost use Rattle.rbac_words.specs.Inheritance.{inherits};
-ghost use Rattle.rbac_words.specs.Name.{Name as NameValue, name_cmp, pair_cmp};
-ghost use Rattle.rbac_words.specs.Relations.{without_pairs_of};
+ghost use Rattle.rbac_terms.specs.Inheritance.{inherits};
+ghost use Rattle.rbac_terms.specs.Name.{Name as NameValue, name_cmp, pair_cmp};
+ghost use Rattle.rbac_terms.specs.Relations.{without_pairs_of};
 ghost use Rattle.rbac_hierarchy.specs.Order.{no_order};
 ghost use Rattle.rbac_hierarchy.specs.Rows.{RangesOver};
 
 use crate::order::RoleOrder;
 use crate::removal::OtherPairs;
 use crate::rows::{lone_row, renewed_rows, roles_where};
-use rbac_words::{Name, NameSet};
+use rbac_terms::{Name, NameSet};
 use sorted_keys::{KeyTest, PairProbe, SortedMap, SortedSet};
 use std::alloc::{AllocError, Global};
 use std::marker::Model;

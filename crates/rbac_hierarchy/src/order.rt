@@ -3,13 +3,13 @@ ghost use Rattle.std.specs.Prelude.{◌≡◌, ◌↔◌, ◌||◌, IsTrue, IfOk
 ghost use Rattle.std.specs.List.{list_any};
 ghost use Rattle.std.specs.List.Sorted.{IsStrictlySortedBy};
 ghost use Rattle.sorted_keys.specs.Keys.{has, with_key, without};
-ghost use Rattle.rbac_words.specs.Inheritance.{Inherits, inherits, juniors, seniors};
-ghost use Rattle.rbac_words.specs.Name.{Name as NameValue, name_cmp, pair_cmp};
-ghost use Rattle.rbac_words.specs.Relations.{without_pairs_of};
+ghost use Rattle.rbac_terms.specs.Inheritance.{Inherits, inherits, juniors, seniors};
+ghost use Rattle.rbac_terms.specs.Name.{Name as NameValue, name_cmp, pair_cmp};
+ghost use Rattle.rbac_terms.specs.Relations.{without_pairs_of};
 ghost use Rattle.rbac_hierarchy.specs.Order.{Order, no_order};
 
 use crate::seniors::SeniorsOf;
-use rbac_words::{Name, NameSet};
+use rbac_terms::{Name, NameSet};
 use sorted_keys::KeyTest;
 use std::alloc::{AllocError, Global};
 

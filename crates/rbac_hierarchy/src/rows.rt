@@ -2,11 +2,11 @@
 ghost use Rattle.std.specs.Prelude.{◌≡◌, ◌∷◌, [], filter, IfOk};
 ghost use Rattle.std.specs.List.Sorted.{IsStrictlySortedBy};
 ghost use Rattle.sorted_keys.specs.Keys.{by_key};
-ghost use Rattle.rbac_words.specs.Name.{name_cmp};
+ghost use Rattle.rbac_terms.specs.Name.{name_cmp};
 ghost use Rattle.rbac_hierarchy.specs.Rows.{RangesOver, roles_in, rows_over};
 
 use crate::walk::walk;
-use rbac_words::{Name, NameSet};
+use rbac_terms::{Name, NameSet};
 use sorted_keys::{KeyTest, SortedMap, SortedSet};
 use std::alloc::{AllocError, Global};
 

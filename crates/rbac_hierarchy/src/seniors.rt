@@ -1,9 +1,9 @@
 //! Which roles inherit a role.
 ghost use Rattle.std.specs.Prelude.{◌≡◌};
-ghost use Rattle.rbac_words.specs.Inheritance.{inherits};
+ghost use Rattle.rbac_terms.specs.Inheritance.{inherits};
 
 use crate::order::RoleOrder;
-use rbac_words::Name;
+use rbac_terms::Name;
 use sorted_keys::KeyTest;
 
 /// The roles that inherit a role.

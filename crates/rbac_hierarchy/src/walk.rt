@@ -2,7 +2,7 @@
 ghost use Rattle.std.specs.Prelude.{IfOk, OnOk};
 ghost use Rattle.rbac_hierarchy.specs.Walk.{AreJuniors, FindsDescendants};
 
-use rbac_words::{Name, NameSet};
+use rbac_terms::{Name, NameSet};
 use sorted_keys::SortedSet;
 use std::alloc::{AllocError, Global};
 

@@ -10,7 +10,7 @@ use Rattle.rbac_words.specs.Stamp.{IsBefore, is_before, insert_by_stamp, sort_by
 use Rattle.rbac_words.specs.World.{least}
 use Rattle.rbac_words.specs.Front.{is_of}
 use Rattle.rbac_words.specs.declared.message.Submission.{Submission}
-use Rattle.rbac_words.proofs.ListLemmas.{Each-append, Each-weaker, Each-both, Each-filter, filter-yes, filter-no}
+use Rattle.sorted_keys.proofs.Lists.{Each-append, Each-weaker, Each-both, Each-filter, filter-yes, filter-no}
 use Rattle.rbac_order.proofs.StampLemmas.{Rising-push}
 use Rattle.rbac_order.proofs.SenderLemmas.{of, Rising, decide, is_of-yes, is_of-no, of-insert_last, of-insert_other}
 use Rattle.rbac_holdback.specs.Queues.{lists_of, held_in, IsQueue, AreQueues, AreKept, IsWidened}

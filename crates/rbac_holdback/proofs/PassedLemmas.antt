@@ -2,7 +2,7 @@
 use Rattle.std.proofs.Common.{ℕ, suc, add-one, Bool, ◌||◌, ◌&&◌, ◌==◌, ◌≡◌, ◌<◌, ◌+◌, ◌-◌, arith, sym, subst, ap, ◌∙◌, List, ◌∷◌, length, Option, None, get_or}
 use Rattle.std.specs.List.{list_all}
 use Rattle.rbac_words.specs.declared.stamp.Stamp.{Stamp}
-use Rattle.rbac_words.specs.Member.{numbers}
+use Rattle.rbac_words.specs.Keeping.Member.{numbers}
 use Rattle.rbac_words.specs.Stamp.{has_passed}
 
 -- whether member k need not be waited for

@@ -6,7 +6,7 @@ use Rattle.rbac_words.specs.Message.{submitted_at}
 use Rattle.rbac_words.specs.Stamp.{sort_by_stamp}
 use Rattle.rbac_words.specs.Front.{is_of}
 use Rattle.rbac_words.specs.declared.message.Submission.{Submission}
-use Rattle.rbac_words.proofs.ListLemmas.{Each-append, Each-weaker}
+use Rattle.sorted_keys.proofs.Lists.{Each-append, Each-weaker}
 use Rattle.rbac_order.proofs.StampLemmas.{Each-insert}
 use Rattle.rbac_order.proofs.SenderLemmas.{of, Rising, of-none, of-all, decide, AreSameOfEach, same_from_each, AreRisingOfEach, of-sort, Rising-sort}
 use Rattle.rbac_holdback.specs.Holdback.{IsHoldback}

@@ -3,7 +3,7 @@ ghost use Rattle.std.specs.Prelude.{◌≡◌, ◌≤◌, ◌↔◌, IsTrue, [],
 ghost use Rattle.std.specs.List.{AllByRecursion};
 ghost use Rattle.rbac_words.specs.Message.{submitted_at};
 ghost use Rattle.rbac_words.specs.Stamp.{IsBefore, insert_by_stamp};
-ghost use Rattle.rbac_words.specs.Member.{is_least_passed};
+ghost use Rattle.rbac_words.specs.Keeping.Member.{is_least_passed};
 ghost use Rattle.rbac_words.specs.World.{least as least_of};
 ghost use Rattle.rbac_holdback.specs.Holdback.{Holdback as HoldbackValue, IsHoldback};
 

@@ -1,7 +1,7 @@
 //! When a command is passed by the members of a group.
 ghost use Rattle.std.specs.Prelude.{◌≡◌, ◌==◌, ◌||◌, length};
 ghost use Rattle.rbac_words.specs.Stamp.{has_passed};
-ghost use Rattle.rbac_words.specs.Member.{is_passed};
+ghost use Rattle.rbac_words.specs.Keeping.Member.{is_passed};
 
 use rbac_words::{Stamp, Submission as Held};
 

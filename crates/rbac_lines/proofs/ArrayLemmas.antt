@@ -12,8 +12,8 @@ use Rattle.sorted_keys.proofs.Order.{sorted_none}
 use Rattle.sorted_keys.proofs.KeyPlace.{sorted_with_key}
 use Rattle.sorted_keys.proofs.Members.{has-with_key, same_keys}
 use Rattle.sorted_keys.proofs.Gathered.{has-set_of, sorted_set_of}
-use Rattle.rbac_words.specs.Name.{Name, is_name, name_cmp}
-use Rattle.rbac_words.proofs.NameLemmas.{names_total, names_exact}
+use Rattle.rbac_terms.specs.Name.{Name, is_name, name_cmp}
+use Rattle.rbac_terms.proofs.NameLemmas.{names_total, names_exact}
 use Rattle.rbac_founding.specs.Steps.{◌>>=◌}
 use Rattle.rbac_founding.proofs.ReadingLemmas.{of_kind_more}
 use Rattle.rbac_lines.specs.Fields.{Reading, name_of, names_of, texts_of}

@@ -1,7 +1,7 @@
 -- What a desk's reply is to a conversation.
 use Rattle.std.proofs.Common.{◌≡◌, ◌≢◌, ◌⊎◌, ℕ, List, Bool, Result, Ok, Err, inl, inr, refl, sym, subst}
 use Rattle.std.specs.Result.{OnErr, is_err}
-use Rattle.rbac_words.specs.declared.command.Command.{Command}
+use Rattle.rbac_terms.specs.declared.command.Command.{Command}
 use Rattle.rbac_lines.specs.declared.refusal.DeskRefusal.TheVariants.{NoMemory}
 use Rattle.rbac_lines.specs.Fields.{Reading}
 use Rattle.rbac_lines.specs.Text.{Reply, reply_text}

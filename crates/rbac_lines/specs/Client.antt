@@ -3,7 +3,7 @@
 use Rattle.std.specs.Prelude.{ℕ, List, [], ◌∷◌, codes, ok_or, Ok}
 use Rattle.serde_json.specs.Data.{Members}
 use Rattle.serde_json.specs.Find.{as_object}
-use Rattle.rbac_words.specs.declared.command.Command.{Command}
+use Rattle.rbac_terms.specs.declared.command.Command.{Command}
 use Rattle.rbac_lines.specs.declared.refusal.LineRefusal.TheVariants.{NotObject}
 use Rattle.rbac_founding.specs.Steps.{◌>>=◌, ◌>>◌}
 use Rattle.rbac_lines.specs.Fields.{Reading, whole_in, object_in, only_keys}

@@ -1,13 +1,13 @@
 -- What command an object stands for: its name, then the fields that belong to that from left to right, then no other key.
 use Rattle.std.specs.Prelude.{ℕ, List, [], ◌∷◌, codes, Ok}
 use Rattle.serde_json.specs.Data.{Members}
-use Rattle.rbac_words.specs.Name.{Name}
-use Rattle.rbac_words.specs.declared.separation.Separation.{Separation}
-use Rattle.rbac_words.specs.declared.separation.Separation.TheVariants.{Static, Dynamic}
-use Rattle.rbac_words.specs.declared.review.Review.{Review}
-use Rattle.rbac_words.specs.declared.review.Review.TheVariants.{AssignedUsers, AssignedRoles, AuthorizedUsers, AuthorizedRoles, RolePermissions, UserPermissions, SessionRoles, SessionPermissions, RoleOperationsOnObject, UserOperationsOnObject, RoleSets, RoleSetRoles, RoleSetCardinality}
-use Rattle.rbac_words.specs.declared.command.Command.{Command}
-use Rattle.rbac_words.specs.declared.command.Command.TheVariants.{AddUser, DeleteUser, AddRole, DeleteRole, AssignUser, DeassignUser, GrantPermission, RevokePermission, AddInheritance, DeleteInheritance, AddAscendant, AddDescendant, CreateSet, DeleteSet, AddRoleMember, DeleteRoleMember, SetCardinality, CreateSession, DeleteSession, AddActiveRole, DropActiveRole, CheckAccess, Review as ReviewCommand}
+use Rattle.rbac_terms.specs.Name.{Name}
+use Rattle.rbac_terms.specs.declared.separation.Separation.{Separation}
+use Rattle.rbac_terms.specs.declared.separation.Separation.TheVariants.{Static, Dynamic}
+use Rattle.rbac_terms.specs.declared.review.Review.{Review}
+use Rattle.rbac_terms.specs.declared.review.Review.TheVariants.{AssignedUsers, AssignedRoles, AuthorizedUsers, AuthorizedRoles, RolePermissions, UserPermissions, SessionRoles, SessionPermissions, RoleOperationsOnObject, UserOperationsOnObject, RoleSets, RoleSetRoles, RoleSetCardinality}
+use Rattle.rbac_terms.specs.declared.command.Command.{Command}
+use Rattle.rbac_terms.specs.declared.command.Command.TheVariants.{AddUser, DeleteUser, AddRole, DeleteRole, AssignUser, DeassignUser, GrantPermission, RevokePermission, AddInheritance, DeleteInheritance, AddAscendant, AddDescendant, CreateSet, DeleteSet, AddRoleMember, DeleteRoleMember, SetCardinality, CreateSession, DeleteSession, AddActiveRole, DropActiveRole, CheckAccess, Review as ReviewCommand}
 use Rattle.rbac_founding.specs.Steps.{◌>>=◌, ◌>>◌}
 use Rattle.rbac_lines.specs.Fields.{Reading, whole_in, text_in, name_in, names_in, only_keys, by_word, unknown}
 

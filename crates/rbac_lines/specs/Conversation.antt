@@ -1,7 +1,7 @@
 -- A conversation with a desk: each line its answer, in order.
 use Rattle.std.specs.Prelude.{◌≡◌, ◌≢◌, ◌⊎◌, ℕ, List, Bool, true, Ok, Err, is_err}
 use Rattle.line_engine.specs.Runs.{TakesAll}
-use Rattle.rbac_words.specs.declared.command.Command.{Command}
+use Rattle.rbac_terms.specs.declared.command.Command.{Command}
 use Rattle.rbac_lines.specs.declared.refusal.DeskRefusal.TheVariants.{NoMemory}
 use Rattle.rbac_lines.specs.Fields.{Reading}
 use Rattle.rbac_lines.specs.Client.{client}

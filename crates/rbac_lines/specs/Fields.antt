@@ -7,7 +7,7 @@ use Rattle.std.specs.List.{list_all}
 use Rattle.serde_json.specs.Data.{Data, Items, no_items, item, Members, no_members, member}
 use Rattle.serde_json.specs.Find.{get_member, as_str, as_number, as_u64, as_array, as_object}
 use Rattle.sorted_keys.specs.Keys.{set_of}
-use Rattle.rbac_words.specs.Name.{Name, is_name, name_cmp}
+use Rattle.rbac_terms.specs.Name.{Name, is_name, name_cmp}
 use Rattle.rbac_founding.specs.Keys.{is_one_of}
 use Rattle.rbac_founding.specs.Steps.{◌>>=◌, ReadsBut}
 use Rattle.rbac_lines.specs.declared.refusal.LineRefusal.{LineRefusal}

@@ -1,13 +1,13 @@
 -- What a line is answered with: compact JSON without blanks, its keys in the order of their bytes, and a line feed.
 use Rattle.std.specs.Prelude.{ℕ, List, ◌++◌, codes, decimal, Option, Some, None, Result, Ok, Err}
 use Rattle.std.specs.List.{join_by}
-use Rattle.rbac_words.specs.Name.{Name, Permission}
-use Rattle.rbac_words.specs.Denials.{denial_word, denial_number}
+use Rattle.rbac_terms.specs.Name.{Name, Permission}
+use Rattle.rbac_terms.specs.Denials.{denial_word, denial_number}
 use Rattle.rbac_words.specs.declared.stamp.Stamp.{Stamp}
 use Rattle.rbac_words.specs.declared.record.Record.{Record}
-use Rattle.rbac_words.specs.declared.answer.Denial.{Denial}
-use Rattle.rbac_words.specs.declared.answer.Answer.{Answer}
-use Rattle.rbac_words.specs.declared.answer.Answer.TheVariants.{Done, Granted, Refused, Names, Permissions, Count, Denied}
+use Rattle.rbac_terms.specs.declared.answer.Denial.{Denial}
+use Rattle.rbac_terms.specs.declared.answer.Answer.{Answer}
+use Rattle.rbac_terms.specs.declared.answer.Answer.TheVariants.{Done, Granted, Refused, Names, Permissions, Count, Denied}
 use Rattle.rbac_words.specs.declared.event.Outcome.{Outcome}
 use Rattle.rbac_words.specs.declared.event.Outcome.TheVariants.{Submitted, Received, Delivered}
 use Rattle.rbac_words.specs.declared.event.Refusal.{Refusal}

@@ -3,7 +3,7 @@ use Rattle.std.proofs.Common.{ℕ, ◌≡◌, ◌≤◌, ◌<◌, ◌-◌, List,
 use Rattle.std.proofs.lemmas.Grind.{common_steps}
 use Rattle.std.proofs.lemmas.List.{length-take}
 use Rattle.std.proofs.Math.Seq.{take-set-lt}
-use Rattle.rbac_words.specs.Links.{Links, next_of, link_refusal, taken_from}
+use Rattle.rbac_words.specs.Keeping.Links.{Links, next_of, link_refusal, taken_from}
 use Rattle.rbac_words.specs.declared.stamp.Stamp.{Stamp}
 use Rattle.rbac_links.specs.Inside.{links_of}
 use Rattle.rbac_links.specs.declared.inlinks.Inlinks.TheInside.{Inside}

@@ -1,7 +1,7 @@
 -- The fields of a member's links as what they stand for.
 use Rattle.std.specs.Prelude.{◌≡◌, ◌≤◌, length, take}
 use Rattle.rbac_words.specs.Limits.{most_members}
-use Rattle.rbac_words.specs.Links.{Links}
+use Rattle.rbac_words.specs.Keeping.Links.{Links}
 use Rattle.rbac_links.specs.declared.inlinks.Inlinks.TheInside.{Inside}
 
 -- the links of the group's members; the arrays have places for more

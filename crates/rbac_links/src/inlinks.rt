@@ -2,7 +2,7 @@
 ghost use Rattle.std.specs.Prelude.{◌≡◌, ◌≤◌, ◌-◌, min, None, Some, length, slice_index, if◌then◌else◌, IfErr, OnOk, OnErr};
 ghost use Rattle.rbac_words.specs.Stamp.{is_after};
 ghost use Rattle.rbac_words.specs.Limits.{most_members};
-ghost use Rattle.rbac_words.specs.Links.{founded_links, has_link, next_of, link_refusal, taken_from};
+ghost use Rattle.rbac_words.specs.Keeping.Links.{founded_links, has_link, next_of, link_refusal, taken_from};
 ghost use Rattle.rbac_links.specs.Refusals.{link_refused};
 
 use crate::refusal::LinkRefusal;
@@ -22,7 +22,7 @@ pub struct Inlinks {
 }
 
 impl Model for Inlinks {
-    ghost use Rattle.rbac_words.specs.Links.{Links};
+    ghost use Rattle.rbac_words.specs.Keeping.Links.{Links};
 
     ghost Value = { Links };
 

@@ -1,30 +1,29 @@
 -- What a delivery leaves, in the words of the definitions.
 use Rattle.std.proofs.Common.{Bool, true, false, cond, ◌≡◌, List, [], ◌∷◌, ◌++◌, drop, refl, sym, ap, ◌∙◌, Option, Some, None, is_some, true≢false}
-use Rattle.rbac_words.specs.State.{State}
-use Rattle.rbac_words.specs.Rows.{first_denial}
-use Rattle.rbac_words.specs.Change.{change}
-use Rattle.rbac_words.specs.Constraints.{with_sets}
-use Rattle.rbac_words.specs.Separation.{RoleSet}
-use Rattle.rbac_words.specs.Name.{Name}
-use Rattle.rbac_words.specs.declared.separation.Separation.{Separation}
-use Rattle.rbac_words.specs.declared.separation.Separation.TheVariants.{Static, Dynamic}
-use Rattle.rbac_words.specs.Effect.{effect, effect_unless, reply}
+use Rattle.rbac_terms.specs.State.{State}
+use Rattle.rbac_terms.specs.Rows.{first_denial}
+use Rattle.rbac_terms.specs.Change.{change}
+use Rattle.rbac_terms.specs.Constraints.{with_sets}
+use Rattle.rbac_terms.specs.Separation.{RoleSet}
+use Rattle.rbac_terms.specs.Name.{Name}
+use Rattle.rbac_terms.specs.declared.separation.Separation.{Separation}
+use Rattle.rbac_terms.specs.declared.separation.Separation.TheVariants.{Static, Dynamic}
+use Rattle.rbac_terms.specs.Effect.{effect, effect_unless, reply}
 use Rattle.rbac_words.specs.World.{least}
-use Rattle.rbac_words.specs.declared.answer.Answer.{Answer}
-use Rattle.rbac_words.specs.declared.answer.Denial.{Denial}
-use Rattle.rbac_words.specs.declared.command.Command.{Command}
-use Rattle.rbac_words.specs.declared.command.Command.TheVariants.{AddUser, DeleteUser, AddRole, DeleteRole, AssignUser, DeassignUser, GrantPermission, RevokePermission, AddInheritance, DeleteInheritance, AddAscendant, AddDescendant, CreateSet, DeleteSet, AddRoleMember, DeleteRoleMember, SetCardinality, CreateSession, DeleteSession, AddActiveRole, DropActiveRole, CheckAccess, Review as ReviewCommand}
+use Rattle.rbac_terms.specs.declared.answer.Answer.{Answer}
+use Rattle.rbac_terms.specs.declared.answer.Denial.{Denial}
+use Rattle.rbac_terms.specs.declared.command.Command.{Command}
+use Rattle.rbac_terms.specs.declared.command.Command.TheVariants.{AddUser, DeleteUser, AddRole, DeleteRole, AssignUser, DeassignUser, GrantPermission, RevokePermission, AddInheritance, DeleteInheritance, AddAscendant, AddDescendant, CreateSet, DeleteSet, AddRoleMember, DeleteRoleMember, SetCardinality, CreateSession, DeleteSession, AddActiveRole, DropActiveRole, CheckAccess, Review as ReviewCommand}
 use Rattle.rbac_words.specs.declared.message.Submission.{Submission}
 use Rattle.rbac_words.specs.declared.record.Record.{Record}
-use Rattle.rbac_member.specs.Inside.{vocabulary_of}
 use Rattle.rbac_member.specs.Lists.{TakesOver}
-use Rattle.rbac_words.specs.Member.{Member, delivery, delivered, due_at, if_passed, is_passed_by_all, is_least_passed}
+use Rattle.rbac_words.specs.Keeping.Member.{Member, delivery, delivered, due_at, if_passed, is_passed_by_all, is_least_passed}
 
-vocabulary-sets : (kind : Separation) (sets : List (Name × RoleSet)) (s : State) → vocabulary_of (with_sets kind sets s) ≡ vocabulary_of s
+vocabulary-sets : (kind : Separation) (sets : List (Name × RoleSet)) (s : State) → (with_sets kind sets s).vocabulary ≡ s.vocabulary
 vocabulary-sets Static sets s = refl
 vocabulary-sets Dynamic sets s = refl
 
-vocabulary-change : (c : Command) (s : State) → vocabulary_of (change c s) ≡ vocabulary_of s
+vocabulary-change : (c : Command) (s : State) → (change c s).vocabulary ≡ s.vocabulary
 vocabulary-change (AddUser user) s = refl
 vocabulary-change (DeleteUser user) s = refl
 vocabulary-change (AddRole role) s = refl
@@ -50,10 +49,10 @@ vocabulary-change (CheckAccess session operation object) s = refl
 vocabulary-change (ReviewCommand review) s = refl
 
 -- no command changes the vocabulary
-vocabulary-effect : (c : Command) (s : State) → vocabulary_of (effect c s) ≡ vocabulary_of s
+vocabulary-effect : (c : Command) (s : State) → (effect c s).vocabulary ≡ s.vocabulary
 vocabulary-effect c s = go (first_denial c s)
   where
-    go : (o : Option Denial) → vocabulary_of (effect_unless o c s) ≡ vocabulary_of s
+    go : (o : Option Denial) → (effect_unless o c s).vocabulary ≡ s.vocabulary
     go None = vocabulary-change c s
     go (Some d) = refl
 
@@ -63,11 +62,11 @@ same_first xs ys next first e f = let g : Some next ≡ Some first = sym e ∙ a
 
 -- the least held command is taken over with its reply
 pub delivered_is : (v : Member) (policy : State) (history before : List Record) (held : List Submission) (next : Submission) (answer : Answer) (over : TakesOver answer v.held before held history)
-    → before ≡ v.history → next ≡ over.first → policy ≡ effect next.command v.policy → answer ≡ reply next.command v.policy → vocabulary_of v.policy ≡ v.vocabulary
-    → (let m : Member = record v { vocabulary = vocabulary_of policy; held = held; history = history; policy = policy } in m) ≡ delivered v over.first
+    → before ≡ v.history → next ≡ over.first → policy ≡ effect next.command v.policy → answer ≡ reply next.command v.policy → v.policy.vocabulary ≡ v.vocabulary
+    → (let m : Member = record v { vocabulary = policy.vocabulary; held = held; history = history; policy = policy } in m) ≡ delivered v over.first
 delivered_is v policy history before held next answer over same first changed replied known =
     let by_policy : policy ≡ effect over.first.command v.policy = changed ∙ ap (λ (x : Submission). effect x.command v.policy) first in
-    let by_vocabulary : vocabulary_of policy ≡ v.vocabulary = ap vocabulary_of by_policy ∙ vocabulary-effect over.first.command v.policy ∙ known in
+    let by_vocabulary : policy.vocabulary ≡ v.vocabulary = ap (λ (s : State). s.vocabulary) by_policy ∙ vocabulary-effect over.first.command v.policy ∙ known in
     let by_answer : answer ≡ reply over.first.command v.policy = replied ∙ ap (λ (x : Submission). reply x.command v.policy) first in
     let by_history : history ≡ v.history ++ delivery v over.first ∷ [] =
     over.history_is ∙ ap (λ (l : List Record). l ++ (record { stamp = over.first.stamp; caller = over.first.caller; serial = over.first.serial; command = over.first.command; answer = answer }) ∷ []) same

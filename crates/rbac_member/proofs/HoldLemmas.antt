@@ -4,16 +4,16 @@ use Rattle.std.specs.List.{AllByRecursion as Each, filter}
 use Rattle.rbac_words.specs.Stamp.{IsBefore, IsAfter, insert_by_stamp, insert_all}
 use Rattle.rbac_words.specs.Message.{stamp_of, submitted_at, submissions_of, commands_of, next_serial}
 use Rattle.rbac_words.specs.Front.{is_of}
-use Rattle.rbac_words.specs.Links.{Links}
+use Rattle.rbac_words.specs.Keeping.Links.{Links}
 use Rattle.rbac_words.specs.World.{stamp, clock_after, acknowledgement, acks}
-use Rattle.rbac_words.specs.Member.{Member, node_of, latest_of, known, submission, submitted, received, serial_refusal, IsCovered, IsMember, IsNext}
-use Rattle.rbac_words.specs.declared.command.Command.{Command}
+use Rattle.rbac_words.specs.Keeping.Member.{Member, node_of, latest_of, known, submission, submitted, received, serial_refusal, IsCovered, IsMember, IsNext}
+use Rattle.rbac_terms.specs.declared.command.Command.{Command}
 use Rattle.rbac_words.specs.declared.event.Refusal.TheVariants.{BadSerial}
 use Rattle.rbac_words.specs.declared.message.Message.{Message}
 use Rattle.rbac_words.specs.declared.message.Message.TheVariants.{Call, Ack}
 use Rattle.rbac_words.specs.declared.message.Submission.{Submission}
 use Rattle.rbac_words.specs.declared.stamp.Stamp.{Stamp}
-use Rattle.rbac_words.proofs.ListLemmas.{Each-right, Each-weaker}
+use Rattle.sorted_keys.proofs.Lists.{Each-right, Each-weaker}
 use Rattle.rbac_order.proofs.StampLemmas.{insert_above}
 use Rattle.rbac_order.proofs.MessageLemmas.{own_stamps}
 use Rattle.rbac_order.proofs.StepLemmas.{unless_none}

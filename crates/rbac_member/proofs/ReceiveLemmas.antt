@@ -5,9 +5,9 @@ use Rattle.std.proofs.lemmas.Bool.Decides.{nat_tests}
 use Rattle.rbac_words.specs.Stamp.{IsAfter, is_after}
 use Rattle.rbac_words.specs.Message.{stamp_of, submissions_of, is_by, next_serial, CountsFrom}
 use Rattle.rbac_words.specs.Front.{is_of}
-use Rattle.rbac_words.specs.Links.{Links, has_link, next_of, is_rising_of, link_refusal}
+use Rattle.rbac_words.specs.Keeping.Links.{Links, has_link, next_of, is_rising_of, link_refusal}
 use Rattle.rbac_words.specs.World.{room_refusal}
-use Rattle.rbac_words.specs.Member.{Member, node_of, links_of, latest_of, known, or_else, serial_refusal, message_refusal, IsMember, IsNext}
+use Rattle.rbac_words.specs.Keeping.Member.{Member, node_of, links_of, latest_of, known, or_else, serial_refusal, message_refusal, IsMember, IsNext}
 use Rattle.rbac_words.specs.declared.event.Refusal.{Refusal}
 use Rattle.rbac_words.specs.declared.event.Refusal.TheVariants.{UnknownMember, FromSelf, Repeat, Gap, StampNotRising, BadSerial}
 use Rattle.rbac_words.specs.declared.message.Message.{Message}

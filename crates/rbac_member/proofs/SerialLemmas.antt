@@ -11,7 +11,7 @@ use Rattle.rbac_words.specs.Stamp.{is_before, insert_by_stamp}
 use Rattle.rbac_words.specs.Message.{is_by, submitted_at, next_serial}
 use Rattle.rbac_words.specs.Front.{is_of}
 use Rattle.rbac_words.specs.declared.message.Submission.{Submission}
-use Rattle.rbac_words.proofs.NameLemmas.{ties-pair}
+use Rattle.sorted_keys.proofs.Ties.{ties-pair}
 use Rattle.rbac_member.specs.Serials.{caller_cmp, counted, AreCounted}
 
 -- ---- How many commands of a caller of a member there are

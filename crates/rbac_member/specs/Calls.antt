@@ -1,8 +1,8 @@
 -- What a member's calls answer.
 use Rattle.std.specs.Prelude.{ℕ, ◌==◌, if◌then◌else◌, Option, Some, None}
-use Rattle.rbac_words.specs.Links.{has_link}
+use Rattle.rbac_words.specs.Keeping.Links.{has_link}
 use Rattle.rbac_words.specs.World.{read_of}
-use Rattle.rbac_words.specs.Member.{Member, node_of, links_of}
+use Rattle.rbac_words.specs.Keeping.Member.{Member, node_of, links_of}
 use Rattle.rbac_words.specs.declared.event.Refusal.{Refusal}
 use Rattle.rbac_words.specs.declared.event.Refusal.TheVariants as refused
 use Rattle.rbac_links.specs.declared.refusal.LinkRefusal.{LinkRefusal}

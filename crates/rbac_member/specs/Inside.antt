@@ -1,19 +1,13 @@
 -- A member's fields as what they stand for.
 use Rattle.std.specs.Prelude.{◌≡◌}
-use Rattle.rbac_words.specs.Founding.{Vocabulary}
-use Rattle.rbac_words.specs.State.{State}
-use Rattle.rbac_words.specs.Member.{Member, IsMember, known}
+use Rattle.rbac_words.specs.Keeping.Member.{Member, IsMember, known}
 use Rattle.rbac_member.specs.Serials.{AreCounted}
 use Rattle.rbac_member.specs.declared.member.Member.TheInside.{Inside}
-
--- the vocabulary that a state was founded with: no command changes it
-abbrev pub vocabulary_of : State → Vocabulary
-vocabulary_of s = record { operations = s.operations; objects = s.objects; permissions = s.permissions }
 
 abbrev pub member_of : Inside → Member
 member_of a = record {
   group = a.group;
-  vocabulary = vocabulary_of a.policy;
+  vocabulary = a.policy.vocabulary;
   number = a.number;
   clock = a.clock;
   sent = a.outbox.sent;

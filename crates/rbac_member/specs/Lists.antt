@@ -2,7 +2,7 @@
 use Rattle.std.specs.Prelude.{◌≡◌, ◌≤◌, List, [], ◌∷◌, ◌++◌}
 use Rattle.std.specs.List.{AllByRecursion}
 use Rattle.rbac_words.specs.Stamp.{IsBefore}
-use Rattle.rbac_words.specs.declared.answer.Answer.{Answer}
+use Rattle.rbac_terms.specs.declared.answer.Answer.{Answer}
 use Rattle.rbac_words.specs.declared.message.Submission.{Submission}
 use Rattle.rbac_words.specs.declared.record.Record.{Record}
 use Rattle.rbac_holdback.specs.Holdback.{Holdback}

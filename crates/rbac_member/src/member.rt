@@ -31,7 +31,7 @@ pub struct Member {
 }
 
 impl Model for Member {
-    ghost use Rattle.rbac_words.specs.Member.{Member as MemberValue};
+    ghost use Rattle.rbac_words.specs.Keeping.Member.{Member as MemberValue};
 
     ghost Value = { MemberValue };
 
@@ -43,7 +43,7 @@ impl Model for Member {
 }
 
 impl Member {
-    ghost use Rattle.rbac_words.specs.Member.{IsMember, founded};
+    ghost use Rattle.rbac_words.specs.Keeping.Member.{IsMember, founded};
     ghost use Rattle.rbac_member.specs.Calls.{taken_of};
 
     /// The member of this number, with nothing sent, received, held or delivered. It takes no memory.

@@ -2,9 +2,10 @@
 use Rattle.std.proofs.Common.{ℕ, ◌≡◌, ◌≢◌, ◌<◌, ◌+◌, List, length, get_or, sym, subst, ◌∙◌, arith}
 use Rattle.std.proofs.Math.ListN.{get_or-map}
 use Rattle.std.proofs.lemmas.List.{length-map, get_or_default}
-use Rattle.rbac_words.specs.Founding.{Group, Vocabulary}
-use Rattle.rbac_words.specs.Member.{Member, IsMember}
-use Rattle.rbac_words.specs.Members.{AreMembers, HasRead, member_at}
+use Rattle.rbac_terms.specs.Vocabulary.{Vocabulary}
+use Rattle.rbac_words.specs.Group.{Group}
+use Rattle.rbac_words.specs.Keeping.Member.{Member, IsMember}
+use Rattle.rbac_words.specs.Keeping.Members.{AreMembers, HasRead, member_at}
 use Rattle.rbac_node.specs.Node.{NodeState, IsNode, AreNodes, members_of, no_node, node_at}
 
 -- the node that a loop has come to

@@ -2,7 +2,7 @@
 use Rattle.std.proofs.Common.{ℕ, suc, true, ◌≡◌, ◌+◌, length, refl, sym, ap, ◌∙◌, arith, Option, None, Some, is_some}
 use Rattle.std.proofs.lemmas.List.{length_push}
 use Rattle.rbac_words.specs.World.{place_of}
-use Rattle.rbac_words.specs.Member.{Member, node_of, due_at, delivery, deliver_due}
+use Rattle.rbac_words.specs.Keeping.Member.{Member, node_of, due_at, delivery, deliver_due}
 use Rattle.rbac_words.specs.declared.message.Submission.{Submission}
 use Rattle.rbac_node.specs.Node.{NodeState, with_member, AreDeliveries}
 

@@ -4,16 +4,16 @@ use Rattle.std.specs.List.{filter}
 use Rattle.std.proofs.lemmas.List.{map-append, take-append-drop}
 use Rattle.std.proofs.lemmas.List.Elements.{filter-append}
 use Rattle.std.proofs.lemmas.Bool.Decides.{nat_tests}
-use Rattle.rbac_words.specs.State.{State}
-use Rattle.rbac_words.specs.Effect.{effect, reply}
-use Rattle.rbac_words.specs.Replay.{replies}
+use Rattle.rbac_terms.specs.State.{State}
+use Rattle.rbac_terms.specs.Effect.{effect, reply}
+use Rattle.rbac_terms.specs.Replay.{replies}
 use Rattle.rbac_words.specs.Stamp.{IsRising}
 use Rattle.rbac_words.specs.Message.{submitted_at, submission_of, commands_of, is_by, CountsFrom}
 use Rattle.rbac_words.specs.Front.{IsLegalFront, command_of, is_of}
 use Rattle.rbac_words.specs.Play.{IsPrefixOf}
-use Rattle.rbac_words.specs.declared.answer.Answer.{Answer}
+use Rattle.rbac_terms.specs.declared.answer.Answer.{Answer}
 use Rattle.rbac_words.specs.declared.record.Record.{Record}
-use Rattle.rbac_words.proofs.ListLemmas.{cons_head, cons_tail, filter-yes}
+use Rattle.sorted_keys.proofs.Lists.{cons_head, cons_tail, filter-yes}
 use Rattle.rbac_order.proofs.StampLemmas.{Rising-left}
 use Rattle.rbac_order.proofs.MessageLemmas.{CountsFrom-left, CountsFrom-next}
 use Rattle.rbac_order.proofs.SenderLemmas.{is_of-yes}

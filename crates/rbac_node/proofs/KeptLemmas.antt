@@ -3,12 +3,12 @@ use Rattle.std.proofs.Common.{ℕ, Bool, true, false, cond, nat_le, ◌≡◌, �
 use Rattle.std.specs.List.{slice_get}
 use Rattle.std.proofs.lemmas.Bool.Decides.{nat_tests}
 use Rattle.std.proofs.lemmas.List.{get_or_past}
-use Rattle.rbac_words.specs.Founding.{Group}
-use Rattle.rbac_words.specs.Links.{has_link}
+use Rattle.rbac_words.specs.Group.{Group}
+use Rattle.rbac_words.specs.Keeping.Links.{has_link}
 use Rattle.rbac_words.specs.World.{read_of}
 use Rattle.rbac_words.specs.Play.{IsPrefixOf}
-use Rattle.rbac_words.specs.Member.{Member, IsMember, node_of, links_of, submitted, due_at, deliver_due}
-use Rattle.rbac_words.specs.declared.command.Command.{Command}
+use Rattle.rbac_words.specs.Keeping.Member.{Member, IsMember, node_of, links_of, submitted, due_at, deliver_due}
+use Rattle.rbac_terms.specs.declared.command.Command.{Command}
 use Rattle.rbac_words.specs.declared.message.Message.{Message}
 use Rattle.rbac_words.specs.declared.message.Submission.{Submission}
 use Rattle.rbac_words.specs.declared.stamp.Stamp.{Stamp}

@@ -3,8 +3,8 @@ use Rattle.std.proofs.Common.{ℕ, ◌≡◌, ◌≤◌, List, ◌++◌, length,
 use Rattle.std.proofs.lemmas.List.{take_at, take-take, take-append-drop}
 use Rattle.rbac_words.specs.World.{read_of}
 use Rattle.rbac_words.specs.Play.{IsPrefixOf}
-use Rattle.rbac_words.specs.Member.{node_of}
-use Rattle.rbac_words.specs.Members.{HasReadOf, HasRead}
+use Rattle.rbac_words.specs.Keeping.Member.{node_of}
+use Rattle.rbac_words.specs.Keeping.Members.{HasReadOf, HasRead}
 use Rattle.rbac_words.specs.declared.message.Message.{Message}
 use Rattle.rbac_board.specs.Known.{Agree}
 use Rattle.rbac_node.specs.Node.{NodeState, seen_of}

@@ -4,7 +4,7 @@ use Rattle.std.specs.List.{filter}
 use Rattle.std.proofs.lemmas.List.Sums.{length-filter, count_by-le-length}
 use Rattle.rbac_words.specs.Message.{submissions, is_by, next_serial}
 use Rattle.rbac_words.specs.World.{submit_refusal}
-use Rattle.rbac_words.specs.Member.{Member, IsMember, node_of}
+use Rattle.rbac_words.specs.Keeping.Member.{Member, IsMember, node_of}
 use Rattle.rbac_words.specs.declared.message.Message.{Message}
 use Rattle.rbac_words.specs.declared.message.Message.TheVariants.{Call, Ack}
 use Rattle.rbac_order.proofs.MemberLemmas.{passed_submit}

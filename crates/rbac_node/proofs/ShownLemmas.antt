@@ -7,15 +7,15 @@ use Rattle.rbac_words.specs.Message.{stamp_of, submissions}
 use Rattle.rbac_words.specs.Front.{is_of}
 use Rattle.rbac_words.specs.World.{read_of, stamp, acknowledgement, acks}
 use Rattle.rbac_words.specs.Play.{IsPrefixOf}
-use Rattle.rbac_words.specs.Member.{Member, IsMember, IsNext, node_of, known, submission, submitted, received, due_at, delivery, delivered, deliver_due}
-use Rattle.rbac_words.specs.Members.{HasReadOf}
-use Rattle.rbac_words.specs.declared.command.Command.{Command}
+use Rattle.rbac_words.specs.Keeping.Member.{Member, IsMember, IsNext, node_of, known, submission, submitted, received, due_at, delivery, delivered, deliver_due}
+use Rattle.rbac_words.specs.Keeping.Members.{HasReadOf}
+use Rattle.rbac_terms.specs.declared.command.Command.{Command}
 use Rattle.rbac_words.specs.declared.message.Message.{Message}
 use Rattle.rbac_words.specs.declared.message.Message.TheVariants.{Call}
 use Rattle.rbac_words.specs.declared.message.Submission.{Submission}
 use Rattle.rbac_words.specs.declared.record.Record.{Record}
 use Rattle.rbac_words.specs.declared.stamp.Stamp.{Stamp}
-use Rattle.rbac_words.proofs.ListLemmas.{Each-append}
+use Rattle.sorted_keys.proofs.Lists.{Each-append}
 use Rattle.rbac_order.proofs.MessageLemmas.{submissions-append}
 use Rattle.rbac_order.proofs.SenderLemmas.{of, decide, is_of-no}
 use Rattle.rbac_order.proofs.MemberLemmas.{none, known_submitted, due_is, known_delivered, of-received_other}

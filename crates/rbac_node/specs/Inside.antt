@@ -1,7 +1,8 @@
 -- How a node's fields make its value, and what they keep.
 use Rattle.std.specs.Prelude.{ℕ, Bool, ◌≡◌, ◌≤◌, ◌-◌, List, length, map, slice_index_or}
-use Rattle.rbac_words.specs.Founding.{Group, Vocabulary}
-use Rattle.rbac_words.specs.Member.{Member}
+use Rattle.rbac_terms.specs.Vocabulary.{Vocabulary}
+use Rattle.rbac_words.specs.Group.{Group}
+use Rattle.rbac_words.specs.Keeping.Member.{Member}
 use Rattle.rbac_words.specs.declared.message.Message.{Message}
 use Rattle.rbac_words.specs.declared.record.Record.{Record}
 use Rattle.rbac_board.specs.Known.{Known, IsOf}

@@ -2,12 +2,13 @@
 -- one of its member (Member.antt of rbac_words); to publish a message or a record is no event of the world.
 use Rattle.std.specs.Prelude.{ℕ, zero, suc, Bool, true, false, ◌≡◌, ◌≢◌, ◌≤◌, ◌<◌, ◌+◌, ◌-◌, ◌==◌, ◌||◌, min, nat_le, List, [], length, map, replicate, Option, Some, None, is_some, slice_get, slice_index_or}
 use Rattle.std.specs.List.{AllByRecursion}
-use Rattle.rbac_words.specs.Founding.{Group, Vocabulary}
+use Rattle.rbac_terms.specs.Vocabulary.{Vocabulary}
+use Rattle.rbac_words.specs.Group.{Group}
 use Rattle.rbac_words.specs.Message.{submissions}
 use Rattle.rbac_words.specs.World.{read_of, acknowledgement}
 use Rattle.rbac_words.specs.Play.{IsPrefixOf}
-use Rattle.rbac_words.specs.Member.{Member, IsMember, IsNumber, node_of, founded, received, message_refusal, due_at, deliver_due}
-use Rattle.rbac_words.specs.Members.{HasReadOf, no_member}
+use Rattle.rbac_words.specs.Keeping.Member.{Member, IsMember, IsNumber, node_of, founded, received, message_refusal, due_at, deliver_due}
+use Rattle.rbac_words.specs.Keeping.Members.{HasReadOf, no_member}
 use Rattle.rbac_words.specs.declared.message.Message.{Message}
 use Rattle.rbac_words.specs.declared.message.Submission.{Submission}
 use Rattle.rbac_words.specs.declared.record.Record.{Record}

@@ -1,7 +1,7 @@
 -- Why a node does not receive a message.
 use Rattle.std.specs.Prelude.{ℕ, ◌≡◌, ◌≢◌, ⊤, List, Some, None, slice_get}
 use Rattle.rbac_words.specs.World.{read_of}
-use Rattle.rbac_words.specs.Member.{Member, node_of, message_refusal}
+use Rattle.rbac_words.specs.Keeping.Member.{Member, node_of, message_refusal}
 use Rattle.rbac_words.specs.declared.message.Message.{Message}
 use Rattle.rbac_member.specs.Calls.{receipt_refused, rule_of}
 use Rattle.rbac_member.specs.declared.refusal.ReceiveRefusal.TheVariants as receipt

@@ -2,8 +2,8 @@
 ghost use Rattle.std.specs.Prelude.{ℕ, ◌≡◌, ◌≢◌, ◌≤◌, ◌<◌, ◌+◌, ◌↔◌, true, length, map, IfOk, IfErr, OnOk, OnErr, IsTrue};
 ghost use Rattle.rbac_words.specs.World.{read_of};
 ghost use Rattle.rbac_words.specs.Right.{AreHistoriesRight};
-ghost use Rattle.rbac_words.specs.Member.{node_of};
-ghost use Rattle.rbac_words.specs.Members.{AreMembers, HasRead, world_of};
+ghost use Rattle.rbac_words.specs.Keeping.Member.{node_of};
+ghost use Rattle.rbac_words.specs.Keeping.Members.{AreMembers, HasRead, world_of};
 ghost use Rattle.rbac_node.specs.Node.{IsNode, AreNodes, node_at, members_of, is_within};
 
 use crate::group_name::GroupName;

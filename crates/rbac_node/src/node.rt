@@ -1,6 +1,6 @@
 //! What lies under a member's lock.
 ghost use Rattle.std.specs.Prelude.{◌≡◌, ◌≤◌, ◌<◌, ◌+◌, nat_lt, true, [], length, map, replicate, IfOk, OnOk, OnErr, IfSome, IfNone, OnSome};
-ghost use Rattle.rbac_words.specs.Member.{IsNumber};
+ghost use Rattle.rbac_words.specs.Keeping.Member.{IsNumber};
 ghost use Rattle.rbac_node.specs.Inside.{AreReads};
 
 mod confirming;

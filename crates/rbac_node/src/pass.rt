@@ -30,7 +30,7 @@ pub struct Pass<G: GroupName> {
 
 impl<G: GroupName> Model for Pass<G> {
     ghost use Rattle.rbac_board.specs.Known.{IsOf};
-    ghost use Rattle.rbac_words.specs.State.{founding_state};
+    ghost use Rattle.rbac_terms.specs.State.{founding_state};
     ghost use Rattle.rbac_words.specs.Front.{IsLegalFront};
     ghost use Rattle.rbac_node.specs.Cells.{history_cells};
     ghost use Rattle.rbac_node.specs.Pass.{PassState};
@@ -63,10 +63,10 @@ fn catch_up(mark: &mut Mark<Record>, other: &mut Mark<Record>) -> Result<(), All
 }
 
 impl<G: GroupName> Pass<G> {
-    ghost use Rattle.rbac_words.specs.State.{founding_state};
+    ghost use Rattle.rbac_terms.specs.State.{founding_state};
     ghost use Rattle.rbac_words.specs.Front.{IsLegalFront};
     ghost use Rattle.rbac_words.specs.World.{submit_refusal};
-    ghost use Rattle.rbac_words.specs.Member.{node_of, submission, submitted};
+    ghost use Rattle.rbac_words.specs.Keeping.Member.{node_of, submission, submitted};
     ghost use Rattle.rbac_node.specs.Node.{with_member};
     ghost use Rattle.rbac_node.specs.Told.{if_told};
     ghost use Rattle.rbac_node.specs.Pass.{PassState, Owns, pass_refusal};

@@ -3,18 +3,19 @@ use Rattle.std.proofs.Common.{ℕ, zero, suc, Bool, true, false, not, cond, ◌�
 use Rattle.std.specs.List.{AllByRecursion as Each, filter, list_all}
 use Rattle.std.proofs.lemmas.Bool.Decides.{nat_tests}
 use Rattle.std.proofs.lemmas.List.{length-map}
-use Rattle.rbac_words.specs.Founding.{Group, Vocabulary}
-use Rattle.rbac_words.specs.State.{State, founding_state}
-use Rattle.rbac_words.specs.Effect.{effect, reply}
-use Rattle.rbac_words.specs.Replay.{replies}
+use Rattle.rbac_terms.specs.Vocabulary.{Vocabulary}
+use Rattle.rbac_words.specs.Group.{Group}
+use Rattle.rbac_terms.specs.State.{State, founding_state}
+use Rattle.rbac_terms.specs.Effect.{effect, reply}
+use Rattle.rbac_terms.specs.Replay.{replies}
 use Rattle.rbac_words.specs.Stamp.{IsBefore, is_before, last_stamp, up_to, has_passed}
 use Rattle.rbac_words.specs.Message.{stamp_of, submitted_at, submissions, submission_of, commands_of, has_later}
 use Rattle.rbac_words.specs.Front.{is_of, command_of}
 use Rattle.rbac_words.specs.World.{World, Node, node, is_member, read_of, least, due, place_of, answer_unless, step_outcome}
 use Rattle.rbac_words.specs.Right.{all_commands}
 use Rattle.rbac_words.specs.Play.{IsPrefixOf, IsReadToEnd}
-use Rattle.rbac_words.specs.Member.{Member, node_of, latest_of, known, numbers, is_passed_by_all, if_passed, IsNumber}
-use Rattle.rbac_words.specs.Members.{member_at, AreMembers, world_of}
+use Rattle.rbac_words.specs.Keeping.Member.{Member, node_of, latest_of, known, numbers, is_passed_by_all, if_passed, IsNumber}
+use Rattle.rbac_words.specs.Keeping.Members.{member_at, AreMembers, world_of}
 use Rattle.rbac_words.specs.declared.event.Event.TheVariants.{Deliver}
 use Rattle.rbac_words.specs.declared.event.Outcome.TheVariants.{Delivered}
 use Rattle.rbac_words.specs.declared.event.Refusal.TheVariants.{UnknownMember}
@@ -22,7 +23,7 @@ use Rattle.rbac_words.specs.declared.message.Message.{Message}
 use Rattle.rbac_words.specs.declared.message.Submission.{Submission}
 use Rattle.rbac_words.specs.declared.record.Record.{Record}
 use Rattle.rbac_words.specs.declared.stamp.Stamp.{Stamp}
-use Rattle.rbac_words.proofs.ListLemmas.{Each-right, Each-weaker, Each-filter, Each-from_filter, filter-none, cons_head, cons_tail}
+use Rattle.sorted_keys.proofs.Lists.{Each-right, Each-weaker, Each-filter, Each-from_filter, filter-none, cons_head, cons_tail}
 use Rattle.rbac_order.proofs.StampLemmas.{before_trans, before_true, true_before, passed_by_one, Rising-left}
 use Rattle.rbac_order.proofs.SenderLemmas.{of, Rising, decide, is_of-yes}
 use Rattle.rbac_order.proofs.HistoryLemmas.{Rising-all, all_of_each}

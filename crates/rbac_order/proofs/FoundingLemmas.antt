@@ -1,6 +1,7 @@
 -- The founding world.
 use Rattle.std.proofs.Common.{ℕ, zero, suc, [], ◌≡◌, refl, get_or}
-use Rattle.rbac_words.specs.Founding.{Group, Vocabulary}
+use Rattle.rbac_terms.specs.Vocabulary.{Vocabulary}
+use Rattle.rbac_words.specs.Group.{Group}
 use Rattle.rbac_words.specs.World.{World, Node, nobody}
 use Rattle.rbac_words.specs.Right.{IsRight, AreHistoriesRight, founded_nodes, founding_world}
 

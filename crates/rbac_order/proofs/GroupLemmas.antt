@@ -5,20 +5,21 @@ use Rattle.std.proofs.lemmas.Bool.{or_left, or_right}
 use Rattle.std.proofs.lemmas.Bool.Decides.{nat_tests}
 use Rattle.std.proofs.lemmas.List.{length-map}
 use Rattle.std.proofs.lemmas.List.Elements.{filter-append}
-use Rattle.rbac_words.specs.Founding.{Group, Vocabulary}
-use Rattle.rbac_words.specs.State.{founding_state}
-use Rattle.rbac_words.specs.Replay.{replies}
+use Rattle.rbac_terms.specs.Vocabulary.{Vocabulary}
+use Rattle.rbac_words.specs.Group.{Group}
+use Rattle.rbac_terms.specs.State.{founding_state}
+use Rattle.rbac_terms.specs.Replay.{replies}
 use Rattle.rbac_words.specs.Stamp.{IsBefore, is_same_stamp, last_stamp, up_to, has_passed}
 use Rattle.rbac_words.specs.Message.{stamp_of, submitted_at, submissions, commands_of, has_later, IsLawful}
 use Rattle.rbac_words.specs.Front.{command_of}
 use Rattle.rbac_words.specs.World.{World, Node, nobody, heard_of, heard_commands, is_delivered, is_stable, least, if_stable, due}
 use Rattle.rbac_words.specs.Right.{all_commands, IsRight, AreHistoriesRight}
-use Rattle.rbac_words.specs.Member.{Member, node_of, latest_of, known, numbers, is_passed_by_all, if_passed, due_at, IsNumber, IsMember}
-use Rattle.rbac_words.specs.Members.{HasRead, member_at, AreMembers, world_of, IsLawfulWorld}
+use Rattle.rbac_words.specs.Keeping.Member.{Member, node_of, latest_of, known, numbers, is_passed_by_all, if_passed, due_at, IsNumber, IsMember}
+use Rattle.rbac_words.specs.Keeping.Members.{HasRead, member_at, AreMembers, world_of, IsLawfulWorld}
 use Rattle.rbac_words.specs.declared.message.Message.{Message}
 use Rattle.rbac_words.specs.declared.message.Submission.{Submission}
 use Rattle.rbac_words.specs.declared.record.Record.{Record}
-use Rattle.rbac_words.proofs.ListLemmas.{Each-left, Each-weaker, filter-all, filter-none}
+use Rattle.sorted_keys.proofs.Lists.{Each-left, Each-weaker, filter-all, filter-none}
 use Rattle.rbac_order.proofs.StampLemmas.{same_stamp_itself, same_stamp_below, passed_by_one, Rising-left, Rising-across}
 use Rattle.rbac_order.proofs.MessageLemmas.{Each-submissions, Rising-submissions, Lawful-left}
 use Rattle.rbac_order.proofs.SenderLemmas.{of, Rising, decide}

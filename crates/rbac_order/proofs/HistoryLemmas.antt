@@ -3,19 +3,19 @@ use Rattle.std.proofs.Common.{ℕ, zero, suc, Bool, true, false, not, ◌≡◌,
 use Rattle.std.specs.List.{AllByRecursion as Each, filter, flat_map}
 use Rattle.std.proofs.lemmas.Bool.Decides.{nat_tests}
 use Rattle.std.proofs.lemmas.List.Elements.{filter-append}
-use Rattle.rbac_words.specs.Founding.{Group}
-use Rattle.rbac_words.specs.State.{founding_state}
+use Rattle.rbac_words.specs.Group.{Group}
+use Rattle.rbac_terms.specs.State.{founding_state}
 use Rattle.rbac_words.specs.Stamp.{IsBefore, is_before, IsAfter, last_stamp, up_to, sort_by_stamp}
 use Rattle.rbac_words.specs.Message.{stamp_of, submitted_at, submissions, commands_of, IsLawful}
 use Rattle.rbac_words.specs.Front.{IsLegalFront, is_of}
 use Rattle.rbac_words.specs.World.{World, Node, nobody}
 use Rattle.rbac_words.specs.Right.{all_commands, IsRight}
-use Rattle.rbac_words.specs.Member.{Member, latest_of, IsNumber, IsCovered, IsMember}
-use Rattle.rbac_words.specs.Members.{HasTaken, HasRead, IsLawfulWorld}
+use Rattle.rbac_words.specs.Keeping.Member.{Member, latest_of, IsNumber, IsCovered, IsMember}
+use Rattle.rbac_words.specs.Keeping.Members.{HasTaken, HasRead, IsLawfulWorld}
 use Rattle.rbac_words.specs.declared.message.Message.{Message}
 use Rattle.rbac_words.specs.declared.message.Submission.{Submission}
 use Rattle.rbac_words.specs.declared.stamp.Stamp.{Stamp}
-use Rattle.rbac_words.proofs.ListLemmas.{Each-append, Each-right, Each-weaker, Each-both, Each-filter, filter-all, filter-none, filter-filter}
+use Rattle.sorted_keys.proofs.Lists.{Each-append, Each-right, Each-weaker, Each-both, Each-filter, filter-all, filter-none, filter-filter}
 use Rattle.rbac_order.proofs.StampLemmas.{true_before, after_last, last_none, up_to-all, last_below_each, Rising-left, Rising-filter, Rising-across, Each-swap}
 use Rattle.rbac_order.proofs.MessageLemmas.{submissions-append, Each-submissions, Rising-submissions}
 use Rattle.rbac_order.proofs.SenderLemmas.{of, Rising, of-none, of-all, same_from_each, AreRisingOfEach, of-sort, Rising-sort}

@@ -7,24 +7,25 @@ use Rattle.std.proofs.lemmas.List.{length-replicate}
 use Rattle.std.proofs.lemmas.List.Elements.{filter-append}
 use Rattle.std.proofs.lemmas.List.Folds.{list_any-append}
 use Rattle.rbac_words.specs.Limits.{last_clock}
-use Rattle.rbac_words.specs.Founding.{Group, Vocabulary, IsGroup}
-use Rattle.rbac_words.specs.State.{State, founding_state}
-use Rattle.rbac_words.specs.Effect.{effect, reply}
-use Rattle.rbac_words.specs.Replay.{state_after, replies}
+use Rattle.rbac_terms.specs.Vocabulary.{Vocabulary}
+use Rattle.rbac_words.specs.Group.{Group, IsGroup}
+use Rattle.rbac_terms.specs.State.{State, founding_state}
+use Rattle.rbac_terms.specs.Effect.{effect, reply}
+use Rattle.rbac_terms.specs.Replay.{state_after, replies}
 use Rattle.rbac_words.specs.Stamp.{IsBefore, is_before, IsAfter, has_passed, insert_all, last_stamp}
 use Rattle.rbac_words.specs.Message.{stamp_of, submitted_at, submissions_of, submissions, submission_of, commands_of, has_later, is_by, next_serial, CountsFrom, IsLawful}
 use Rattle.rbac_words.specs.Front.{command_of, is_of, IsLegalFront}
 use Rattle.rbac_words.specs.World.{stamp, read_of, submit_refusal, least, must_acknowledge, acks, room_refusal, is_sent_full}
-use Rattle.rbac_words.specs.Member.{Member, node_of, founded, latest_of, known, submission, submitted, received, numbers, is_passed_by_all, if_passed, due_at, delivery, delivered, deliver_due, IsNumber, IsCovered, IsClockAbove, IsMember, IsNext}
+use Rattle.rbac_words.specs.Keeping.Member.{Member, node_of, founded, latest_of, known, submission, submitted, received, numbers, is_passed_by_all, if_passed, due_at, delivery, delivered, deliver_due, IsNumber, IsCovered, IsClockAbove, IsMember, IsNext}
 use Rattle.rbac_words.specs.declared.event.Refusal.{Refusal}
 use Rattle.rbac_words.specs.declared.event.Refusal.TheVariants.{ClockFull, SentFull, BadSerial}
-use Rattle.rbac_words.specs.declared.command.Command.{Command}
+use Rattle.rbac_terms.specs.declared.command.Command.{Command}
 use Rattle.rbac_words.specs.declared.message.Message.{Message}
 use Rattle.rbac_words.specs.declared.message.Message.TheVariants.{Call, Ack}
 use Rattle.rbac_words.specs.declared.message.Submission.{Submission}
 use Rattle.rbac_words.specs.declared.record.Record.{Record}
 use Rattle.rbac_words.specs.declared.stamp.Stamp.{Stamp}
-use Rattle.rbac_words.proofs.ListLemmas.{Each-append, Each-left, Each-weaker, Each-both, Each-filter, map-push}
+use Rattle.sorted_keys.proofs.Lists.{Each-append, Each-left, Each-weaker, Each-both, Each-filter, map-push}
 use Rattle.rbac_order.proofs.StampLemmas.{before_trans, before_true, true_before, Rising-push, Rising-left, insert_all_above, Each-insert_all, last_has, after_last}
 use Rattle.rbac_order.proofs.MessageLemmas.{submissions-append, CountsFrom-left, serials_go_on, own_stamps, own_rising}
 use Rattle.rbac_order.proofs.ReplayLemmas.{state_after-push, replies-push}

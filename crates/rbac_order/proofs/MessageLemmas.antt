@@ -8,11 +8,11 @@ use Rattle.rbac_words.specs.declared.message.Message.{Message}
 use Rattle.rbac_words.specs.declared.message.Message.TheVariants.{Call, Ack}
 use Rattle.rbac_words.specs.declared.stamp.Stamp.{Stamp}
 use Rattle.rbac_words.specs.Limits.{last_clock}
-use Rattle.rbac_words.specs.Founding.{Group}
+use Rattle.rbac_words.specs.Group.{Group}
 use Rattle.rbac_words.specs.Stamp.{IsBefore, IsRising}
 use Rattle.rbac_words.specs.declared.message.Submission.{Submission}
 use Rattle.rbac_words.specs.Message.{stamp_of, submitted_at, submissions_of, submissions, is_by, next_serial, CountsFrom, AreSerialsInOrder, IsLawful}
-use Rattle.rbac_words.proofs.ListLemmas.{Each-left}
+use Rattle.sorted_keys.proofs.Lists.{Each-left}
 use Rattle.rbac_order.proofs.StampLemmas.{Rising-left}
 
 pub submissions-append : (ms ns : List Message) → submissions (ms ++ ns) ≡ submissions ms ++ submissions ns

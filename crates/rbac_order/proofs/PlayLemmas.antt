@@ -1,12 +1,13 @@
 -- What holds of a world after any list of events.
 use Rattle.std.proofs.Common.{ℕ, suc, ◌≡◌, ◌<◌, ◌⊎◌, List, [], ◌∷◌, ◌++◌, length, map, get_or, refl, sym, ap, subst, None, Ok}
-use Rattle.rbac_words.specs.Founding.{Group, Vocabulary, IsGroup}
+use Rattle.rbac_terms.specs.Vocabulary.{Vocabulary}
+use Rattle.rbac_words.specs.Group.{Group, IsGroup}
 use Rattle.rbac_words.specs.Message.{commands_of}
 use Rattle.rbac_words.specs.World.{World, Node, nobody, node, step, step_outcome}
 use Rattle.rbac_words.specs.Right.{all_commands, AreHistoriesRight, founding_world}
 use Rattle.rbac_words.specs.Play.{world_after, outcomes, IsReadToEnd, IsPrefixOf}
-use Rattle.rbac_words.specs.Member.{Member, node_of}
-use Rattle.rbac_words.specs.Members.{member_at, AreMembers, world_of, HasMembers}
+use Rattle.rbac_words.specs.Keeping.Member.{Member, node_of}
+use Rattle.rbac_words.specs.Keeping.Members.{member_at, AreMembers, world_of, HasMembers}
 use Rattle.rbac_words.specs.declared.event.Event.{Event}
 use Rattle.rbac_words.specs.declared.event.Event.TheVariants.{Deliver}
 use Rattle.rbac_words.specs.declared.event.Outcome.TheVariants.{Delivered}

@@ -1,9 +1,9 @@
 -- Commands that are replayed, and one more.
 use Rattle.std.proofs.Common.{◌≡◌, List, [], ◌∷◌, ◌++◌, refl, ap}
-use Rattle.rbac_words.specs.State.{State}
-use Rattle.rbac_words.specs.Effect.{effect, reply}
-use Rattle.rbac_words.specs.Replay.{state_after, replies}
-use Rattle.rbac_words.specs.declared.command.Command.{Command}
+use Rattle.rbac_terms.specs.State.{State}
+use Rattle.rbac_terms.specs.Effect.{effect, reply}
+use Rattle.rbac_terms.specs.Replay.{state_after, replies}
+use Rattle.rbac_terms.specs.declared.command.Command.{Command}
 
 pub state_after-push : (s : State) (cs : List Command) (c : Command) → state_after s (cs ++ c ∷ []) ≡ effect c (state_after s cs)
 state_after-push s [] c = refl

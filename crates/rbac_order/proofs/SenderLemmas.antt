@@ -7,7 +7,7 @@ use Rattle.rbac_words.specs.Message.{submitted_at}
 use Rattle.rbac_words.specs.Front.{is_of}
 use Rattle.rbac_words.specs.declared.message.Submission.{Submission}
 use Rattle.rbac_words.specs.declared.stamp.Stamp.{Stamp}
-use Rattle.rbac_words.proofs.ListLemmas.{Each-append, Each-weaker, Each-both, Each-filter, Each-from_filter, filter-all, filter-none, filter-yes, filter-no, cons_head, cons_tail}
+use Rattle.sorted_keys.proofs.Lists.{Each-append, Each-weaker, Each-both, Each-filter, Each-from_filter, filter-all, filter-none, filter-yes, filter-no, cons_head, cons_tail}
 use Rattle.rbac_order.proofs.StampLemmas.{before_irrefl, before_asym, before_true, true_before, tie, Rising-insert, IsApart, first_below}
 
 -- the commands of member k

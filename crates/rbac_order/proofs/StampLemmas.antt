@@ -6,7 +6,7 @@ use Rattle.std.proofs.lemmas.Bool.Decides.{nat_tests}
 use Rattle.std.proofs.lemmas.Bool.{or_left}
 use Rattle.std.proofs.lemmas.List.Elements.{filter-append}
 use Rattle.std.proofs.lemmas.List.Sorted.{IsPermutation-refl, IsPermutation-cons, IsPermutation-middle, IsPermutation-trans}
-use Rattle.rbac_words.proofs.ListLemmas.{Each-append, Each-left, Each-right, Each-weaker, Each-always, Each-filter, filter-all, filter-none}
+use Rattle.sorted_keys.proofs.Lists.{Each-append, Each-left, Each-right, Each-weaker, Each-always, Each-filter, filter-all, filter-none}
 use Rattle.rbac_words.specs.declared.stamp.Stamp.{Stamp}
 use Rattle.rbac_words.specs.Stamp.{IsBefore, is_before, is_same_stamp, IsRising, IsInStampOrder, insert_by_stamp, insert_all, sort_by_stamp, last_stamp, up_to, IsAfter, has_passed}
 

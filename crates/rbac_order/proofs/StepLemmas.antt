@@ -3,19 +3,20 @@ use Rattle.std.proofs.Common.{ℕ, zero, suc, Bool, true, false, cond, ◌≡◌
 use Rattle.std.specs.List.{AllByRecursion as Each, filter}
 use Rattle.std.proofs.lemmas.Bool.Decides.{nat_tests}
 use Rattle.std.proofs.lemmas.List.{length-map, map-set}
-use Rattle.rbac_words.specs.Founding.{Group, Vocabulary, IsGroup}
-use Rattle.rbac_words.specs.State.{State, founding_state}
-use Rattle.rbac_words.specs.Effect.{reply}
-use Rattle.rbac_words.specs.Replay.{state_after}
+use Rattle.rbac_terms.specs.Vocabulary.{Vocabulary}
+use Rattle.rbac_words.specs.Group.{Group, IsGroup}
+use Rattle.rbac_terms.specs.State.{State, founding_state}
+use Rattle.rbac_terms.specs.Effect.{reply}
+use Rattle.rbac_terms.specs.Replay.{state_after}
 use Rattle.rbac_words.specs.Stamp.{IsAfter, last_stamp}
 use Rattle.rbac_words.specs.Message.{stamp_of, submissions_of, submissions, commands_of, is_by, CountsFrom, IsLawful}
 use Rattle.rbac_words.specs.Front.{is_of, command_of}
 use Rattle.rbac_words.specs.World.{World, Node, node, is_member, read_of, stamp, submit_at, receive_at, deliver_at, record_of, message, submit_refusal, room_refusal, receive_refusal, refusal, with_node, due, after, world_unless, step}
 use Rattle.rbac_words.specs.Right.{founded_nodes, founding_world}
 use Rattle.rbac_words.specs.Play.{world_after}
-use Rattle.rbac_words.specs.Member.{Member, node_of, founded, latest_of, known, submission, submitted, received, due_at, delivery, delivered, deliver_due, IsMember, IsNext}
-use Rattle.rbac_words.specs.Members.{HasTaken, HasRead, HasReadOf, no_member, member_at, AreMembers, world_of, HasMembers}
-use Rattle.rbac_words.specs.declared.command.Command.{Command}
+use Rattle.rbac_words.specs.Keeping.Member.{Member, node_of, founded, latest_of, known, submission, submitted, received, due_at, delivery, delivered, deliver_due, IsMember, IsNext}
+use Rattle.rbac_words.specs.Keeping.Members.{HasTaken, HasRead, HasReadOf, no_member, member_at, AreMembers, world_of, HasMembers}
+use Rattle.rbac_terms.specs.declared.command.Command.{Command}
 use Rattle.rbac_words.specs.declared.event.Event.{Event}
 use Rattle.rbac_words.specs.declared.event.Event.TheVariants.{Submit, Receive, Deliver}
 use Rattle.rbac_words.specs.declared.event.Refusal.{Refusal}
@@ -24,7 +25,7 @@ use Rattle.rbac_words.specs.declared.message.Message.{Message}
 use Rattle.rbac_words.specs.declared.message.Message.TheVariants.{Call, Ack}
 use Rattle.rbac_words.specs.declared.message.Submission.{Submission}
 use Rattle.rbac_words.specs.declared.record.Record.{Record}
-use Rattle.rbac_words.proofs.ListLemmas.{Each-right}
+use Rattle.sorted_keys.proofs.Lists.{Each-right}
 use Rattle.rbac_order.proofs.StampLemmas.{last_stamp-push, after_last}
 use Rattle.rbac_order.proofs.MessageLemmas.{submissions-append, CountsFrom-left}
 use Rattle.std.proofs.lemmas.List.Elements.{filter-append}

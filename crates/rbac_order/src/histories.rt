@@ -2,15 +2,16 @@
 ghost use Rattle.std.specs.Prelude.{ℕ, ◌≡◌, ◌≢◌, ◌<◌, ◌+◌, List, length, slice_index_or};
 ghost use Rattle.std.specs.List.{AllByRecursion, filter};
 ghost use Rattle.rbac_words.specs.declared.message.Submission.{Submission};
-ghost use Rattle.rbac_words.specs.Founding.{Group, Vocabulary};
-ghost use Rattle.rbac_words.specs.State.{founding_state};
+ghost use Rattle.rbac_terms.specs.Vocabulary.{Vocabulary};
+ghost use Rattle.rbac_words.specs.Group.{Group};
+ghost use Rattle.rbac_terms.specs.State.{founding_state};
 ghost use Rattle.rbac_words.specs.Stamp.{IsRising, last_stamp, up_to};
 ghost use Rattle.rbac_words.specs.Message.{submitted_at, submissions, commands_of, IsLawful};
 ghost use Rattle.rbac_words.specs.Front.{IsLegalFront, is_of};
 ghost use Rattle.rbac_words.specs.World.{World, Node, nobody};
 ghost use Rattle.rbac_words.specs.Right.{all_commands, IsRight, AreHistoriesRight};
-ghost use Rattle.rbac_words.specs.Member.{Member, IsMember, IsNumber};
-ghost use Rattle.rbac_words.specs.Members.{HasRead, AreMembers, IsLawfulWorld, world_of};
+ghost use Rattle.rbac_words.specs.Keeping.Member.{Member, IsMember, IsNumber};
+ghost use Rattle.rbac_words.specs.Keeping.Members.{HasRead, AreMembers, IsLawfulWorld, world_of};
 
 /// The first step: a member's history has of each sender exactly the sender's commands up to the history's last stamp, also
 /// those that were sent and never read.

@@ -1,16 +1,17 @@
 //! What members keep, and what of a world a member knows.
 ghost use Rattle.std.specs.Prelude.{ℕ, ◌≡◌, ◌≢◌, ◌<◌, ◌+◌, true, None, Some, List, length, slice_set};
 ghost use Rattle.std.specs.List.{AllByRecursion};
-ghost use Rattle.rbac_words.specs.declared.command.Command.{Command};
+ghost use Rattle.rbac_terms.specs.declared.command.Command.{Command};
 ghost use Rattle.rbac_words.specs.declared.message.Message.{Message};
 ghost use Rattle.rbac_words.specs.declared.message.Submission.{Submission};
 ghost use Rattle.rbac_words.specs.declared.stamp.Stamp.{Stamp};
-ghost use Rattle.rbac_words.specs.Founding.{Group, Vocabulary, IsGroup};
+ghost use Rattle.rbac_terms.specs.Vocabulary.{Vocabulary};
+ghost use Rattle.rbac_words.specs.Group.{Group, IsGroup};
 ghost use Rattle.rbac_words.specs.Stamp.{IsBefore, has_passed, last_stamp};
 ghost use Rattle.rbac_words.specs.Message.{submitted_at, commands_of};
 ghost use Rattle.rbac_words.specs.World.{submit_refusal, receive_refusal, room_refusal, message, heard_commands, is_stable, due};
-ghost use Rattle.rbac_words.specs.Member.{Member, IsMember, IsNumber, IsNext, node_of, latest_of, founded, known, submitted, received, deliver_due, due_at, is_passed_by_all};
-ghost use Rattle.rbac_words.specs.Members.{AreMembers, member_at, world_of};
+ghost use Rattle.rbac_words.specs.Keeping.Member.{Member, IsMember, IsNumber, IsNext, node_of, latest_of, founded, known, submitted, received, deliver_due, due_at, is_passed_by_all};
+ghost use Rattle.rbac_words.specs.Keeping.Members.{AreMembers, member_at, world_of};
 
 /// A member is founded with what members keep, and keeps it by a submit, by the receipt of a sender's next message and by a
 /// delivery.

@@ -3,11 +3,12 @@ ghost use Rattle.std.specs.Prelude.{ℕ, ◌≡◌, ◌⊎◌, ◌<◌, ◌++◌
 ghost use Rattle.rbac_words.specs.declared.event.Event.{Event};
 ghost use Rattle.rbac_words.specs.declared.event.Event.TheVariants.{Deliver};
 ghost use Rattle.rbac_words.specs.declared.event.Outcome.TheVariants.{Delivered};
-ghost use Rattle.rbac_words.specs.Founding.{Group, Vocabulary, IsGroup};
+ghost use Rattle.rbac_terms.specs.Vocabulary.{Vocabulary};
+ghost use Rattle.rbac_words.specs.Group.{Group, IsGroup};
 ghost use Rattle.rbac_words.specs.Message.{commands_of};
 ghost use Rattle.rbac_words.specs.Right.{all_commands, AreHistoriesRight, founding_world};
 ghost use Rattle.rbac_words.specs.Play.{world_after, outcomes, IsReadToEnd, IsPrefixOf};
-ghost use Rattle.rbac_words.specs.Members.{HasMembers};
+ghost use Rattle.rbac_words.specs.Keeping.Members.{HasMembers};
 ghost use Rattle.rbac_words.specs.World.{World, node, nobody, step, step_outcome};
 
 /// A refused event changes nothing.

@@ -168,11 +168,20 @@ fn expect_fault<T: Files + AllocGlobal + Threads + Wait + Clock + Abort + Copy +
     assert!(rt; errors.as_slice() == line.as_bytes());
 }
 
+// Its second permission speaks of an object that is not listed.
+const UNLISTED_OBJECT: &[u8] = b"version = 1
+members = 1
+operations = [\"read\"]
+objects = [\"ledger\"]
+permissions = [[\"read\", \"ledger\"], [\"read\", \"invoice\"]]
+";
+
 #[test]
 fn tells_a_fault_in_one_line(rt: HostRuntime) -> Result<(), Fail> {
     let no_schedule = "no/schedule.jsonl";
     let no_founding = "no/founding.toml";
     fs::write(&rt, "version_2.toml", b"version = 2\n")?;
+    fs::write(&rt, "unlisted_object.toml", UNLISTED_OBJECT)?;
     expect_fault(
         &rt,
         no_founding,
@@ -188,12 +197,19 @@ fn tells_a_fault_in_one_line(rt: HostRuntime) -> Result<(), Fail> {
     );
     expect_fault(
         &rt,
+        "unlisted_object.toml",
+        no_schedule,
+        "rbac_monitor: founding: UnknownName\n",
+    );
+    expect_fault(
+        &rt,
         "-",
         no_schedule,
         "rbac_monitor: file: no/schedule.jsonl\n",
     );
     expect_fault(&rt, "-", "/", "rbac_monitor: run: Read\n");
     fs::remove_file(&rt, "version_2.toml")?;
+    fs::remove_file(&rt, "unlisted_object.toml")?;
     Ok(())
 }
 

@@ -8,12 +8,13 @@ use Rattle.std.proofs.lemmas.Bool.{and_parts, and_from}
 use Rattle.std.proofs.lemmas.List.Kept.{IsStrictlySortedBy-filter}
 use Rattle.sorted_keys.specs.Keys.{has}
 use Rattle.sorted_keys.proofs.Members.{has-filter, same_keys}
-use Rattle.rbac_words.specs.Name.{Name, Permission, Grant, name_cmp, pair_cmp}
-use Rattle.rbac_words.specs.State.{State}
-use Rattle.rbac_words.specs.Inheritance.{inherits, juniors, seniors}
-use Rattle.rbac_words.specs.Authorization.{inherits_in, is_authorized, has_permission}
-use Rattle.rbac_words.specs.Reviews.{authorized_roles, role_permissions, permissions_of, user_permissions, operations_on}
-use Rattle.rbac_words.proofs.NameLemmas.{names_total, names_exact, pairs_exact, grants_total, grants_exact, same_bits, any_member, member_any}
+use Rattle.rbac_terms.specs.Name.{Name, Permission, Grant, name_cmp, pair_cmp}
+use Rattle.rbac_terms.specs.State.{State}
+use Rattle.rbac_terms.specs.Inheritance.{inherits, juniors, seniors}
+use Rattle.rbac_terms.specs.Authorization.{inherits_in, is_authorized, has_permission}
+use Rattle.rbac_terms.specs.Reviews.{authorized_roles, role_permissions, permissions_of, user_permissions, operations_on}
+use Rattle.sorted_keys.proofs.Ties.{same_bits, any_member, member_any}
+use Rattle.rbac_terms.proofs.NameLemmas.{names_total, names_exact, pairs_exact, grants_total, grants_exact}
 use Rattle.rbac_rules.proofs.InheritanceLemmas.{inherits_iff, joined, chain_end}
 use Rattle.rbac_rules.proofs.AuthorizationLemmas.{is_authorized_iff}
 use Rattle.rbac_hierarchy.proofs.JuniorLemmas.{has_juniors, between_roles}
@@ -133,19 +134,19 @@ authorized_below s user r = same_bits _ _ there back
 
 -- ---- What is listed of these
 
-pub role_listed : (s : State) (role : Name) (names : List Name) → names ≡ juniors s.roles s.declared role → filter (is_granted_to_one names s.granted) s.permissions ≡ role_permissions s role
+pub role_listed : (s : State) (role : Name) (names : List Name) → names ≡ juniors s.roles s.declared role → filter (is_granted_to_one names s.granted) s.vocabulary.permissions ≡ role_permissions s role
 role_listed s role names are =
-    ap (λ ns. filter (is_granted_to_one ns s.granted) s.permissions) are
-    ∙ filter-same (is_granted_to_one (juniors s.roles s.declared role) s.granted) (λ permission. has_permission s permission role) (granted_to_a_junior s role) s.permissions
+    ap (λ ns. filter (is_granted_to_one ns s.granted) s.vocabulary.permissions) are
+    ∙ filter-same (is_granted_to_one (juniors s.roles s.declared role) s.granted) (λ permission. has_permission s permission role) (granted_to_a_junior s role) s.vocabulary.permissions
 
 pub roles_listed : (s : State) (roles names : List Name) → ((r : Name) → has name_cmp r names ≡ list_any (λ role. inherits_in s role r) roles)
-    → filter (is_granted_to_one names s.granted) s.permissions ≡ permissions_of s roles
+    → filter (is_granted_to_one names s.granted) s.vocabulary.permissions ≡ permissions_of s roles
 roles_listed s roles names told =
-    filter-same (is_granted_to_one names s.granted) (λ permission. list_any (has_permission s permission) roles) (λ permission. granted_below s roles names permission told) s.permissions
+    filter-same (is_granted_to_one names s.granted) (λ permission. list_any (has_permission s permission) roles) (λ permission. granted_below s roles names permission told) s.vocabulary.permissions
 
-pub user_listed : (s : State) (user : Name) (names : List Name) → names ≡ authorized_roles s user → filter (is_granted_to_one names s.granted) s.permissions ≡ user_permissions s user
+pub user_listed : (s : State) (user : Name) (names : List Name) → names ≡ authorized_roles s user → filter (is_granted_to_one names s.granted) s.vocabulary.permissions ≡ user_permissions s user
 user_listed s user names are =
-    ap (λ ns. filter (is_granted_to_one ns s.granted) s.permissions) are
+    ap (λ ns. filter (is_granted_to_one ns s.granted) s.vocabulary.permissions) are
     ∙ roles_listed s (authorized_roles s user) (authorized_roles s user) (authorized_below s user)
 
 -- the operations on an object that pass and are permissions are those among the permissions that pass

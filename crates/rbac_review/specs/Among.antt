@@ -3,7 +3,7 @@ use Rattle.std.specs.Prelude.{List, Bool, ◌&&◌}
 use Rattle.std.specs.List.{list_any}
 use Rattle.std.specs.Ordering.{eq_by_cmp}
 use Rattle.sorted_keys.specs.Keys.{has}
-use Rattle.rbac_words.specs.Name.{Name, Permission, Grant, name_cmp, pair_cmp}
+use Rattle.rbac_terms.specs.Name.{Name, Permission, Grant, name_cmp, pair_cmp}
 
 -- the user is assigned one of the roles
 abbrev pub is_assigned_one : List Name → List (Name × Name) → Name → Bool

@@ -1,5 +1,5 @@
 -- The parts of a policy as its state.
-use Rattle.rbac_words.specs.State.{State}
+use Rattle.rbac_terms.specs.State.{State}
 use Rattle.rbac_review.specs.declared.parts.Parts.{Parts}
 
 abbrev pub state_of : Parts → State
@@ -12,7 +12,5 @@ state_of p = record {
   static_sets = p.static_sets.now.content;
   dynamic_sets = p.dynamic_sets.now.content;
   sessions = p.sessions.now.content;
-  operations = p.vocabulary.now.operations;
-  objects = p.vocabulary.now.objects;
-  permissions = p.vocabulary.now.permissions;
+  vocabulary = p.vocabulary.now;
 }

@@ -1,15 +1,15 @@
 //! The operations that a role or a user may perform on an object.
 ghost use Rattle.std.specs.Prelude.{◌≡◌, ◌&&◌, IfOk, filter};
 ghost use Rattle.sorted_keys.specs.Keys.{has};
-ghost use Rattle.rbac_words.specs.Name.{pair_cmp};
-ghost use Rattle.rbac_words.specs.Reviews.{operations_on, role_operations, user_operations};
+ghost use Rattle.rbac_terms.specs.Name.{pair_cmp};
+ghost use Rattle.rbac_terms.specs.Reviews.{operations_on, role_operations, user_operations};
 ghost use Rattle.rbac_review.specs.Among.{is_granted_to_one as granted_to_one};
 
 use crate::parts::Parts;
 use crate::permissions::is_granted_to_one;
 use rbac_hierarchy::RoleOrder;
 use rbac_rolesets::RoleSets;
-use rbac_words::{Name, NameSet, Vocabulary};
+use rbac_terms::{Name, NameSet, Vocabulary};
 use sorted_keys::KeyTest;
 use std::alloc::{AllocError, Global};
 

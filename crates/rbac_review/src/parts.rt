@@ -1,12 +1,12 @@
 //! The parts of a policy that a review looks at.
 ghost use Rattle.std.specs.Prelude.{◌≡◌};
-ghost use Rattle.rbac_words.specs.Constraints.{sets_of};
+ghost use Rattle.rbac_terms.specs.Constraints.{sets_of};
 
 use rbac_hierarchy::Hierarchy;
 use rbac_rolesets::RoleSets;
 use rbac_separation::SetTable;
 use rbac_sessions::Sessions;
-use rbac_words::{Separation, Vocabulary};
+use rbac_terms::{Separation, Vocabulary};
 
 /// Users and roles with their pairs and grants, the hierarchy, the sets of separation, the sessions and the vocabulary of a
 /// policy, lent together.

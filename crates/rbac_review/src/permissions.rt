@@ -2,15 +2,15 @@
 ghost use Rattle.std.specs.Prelude.{◌≡◌, IfOk, filter};
 ghost use Rattle.std.specs.List.{list_any};
 ghost use Rattle.sorted_keys.specs.Keys.{has};
-ghost use Rattle.rbac_words.specs.Name.{Name as NameValue, name_cmp};
-ghost use Rattle.rbac_words.specs.Authorization.{inherits_in};
-ghost use Rattle.rbac_words.specs.Reviews.{active_roles, role_permissions, user_permissions, session_permissions};
+ghost use Rattle.rbac_terms.specs.Name.{Name as NameValue, name_cmp};
+ghost use Rattle.rbac_terms.specs.Authorization.{inherits_in};
+ghost use Rattle.rbac_terms.specs.Reviews.{active_roles, role_permissions, user_permissions, session_permissions};
 ghost use Rattle.rbac_review.specs.Among.{is_granted_to_one};
 
 use crate::parts::Parts;
 use rbac_hierarchy::RoleOrder;
 use rbac_rolesets::RoleSets;
-use rbac_words::{Name, NameSet, PermissionSet, Vocabulary};
+use rbac_terms::{Name, NameSet, PermissionSet, Vocabulary};
 use sorted_keys::KeyTest;
 use std::alloc::{AllocError, Global};
 

@@ -1,9 +1,9 @@
 //! The roles that are active in a session.
 ghost use Rattle.std.specs.Prelude.{◌≡◌, IfOk};
-ghost use Rattle.rbac_words.specs.Reviews.{active_roles};
+ghost use Rattle.rbac_terms.specs.Reviews.{active_roles};
 
 use crate::parts::Parts;
-use rbac_words::{Name, NameSet};
+use rbac_terms::{Name, NameSet};
 use std::alloc::{AllocError, Global};
 
 impl Parts<'_> {

@@ -1,12 +1,12 @@
 //! The sets of separation of duty.
 ghost use Rattle.std.specs.Prelude.{◌≡◌, IfOk};
 ghost use Rattle.std.specs.FinMap.Entries.{find};
-ghost use Rattle.rbac_words.specs.Name.{name_cmp};
-ghost use Rattle.rbac_words.specs.Constraints.{sets_of};
-ghost use Rattle.rbac_words.specs.Reviews.{set_names, roles_in, number_of};
+ghost use Rattle.rbac_terms.specs.Name.{name_cmp};
+ghost use Rattle.rbac_terms.specs.Constraints.{sets_of};
+ghost use Rattle.rbac_terms.specs.Reviews.{set_names, roles_in, number_of};
 
 use crate::parts::Parts;
-use rbac_words::{Name, NameSet, Separation};
+use rbac_terms::{Name, NameSet, Separation};
 use std::alloc::{AllocError, Global};
 
 impl Parts<'_> {

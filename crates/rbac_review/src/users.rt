@@ -2,15 +2,15 @@
 ghost use Rattle.std.specs.Prelude.{◌≡◌, IfOk, filter};
 ghost use Rattle.std.specs.List.{list_any};
 ghost use Rattle.sorted_keys.specs.Keys.{has};
-ghost use Rattle.rbac_words.specs.Name.{name_cmp};
-ghost use Rattle.rbac_words.specs.Relations.{users_of, roles_of};
-ghost use Rattle.rbac_words.specs.Reviews.{authorized_users, authorized_roles};
+ghost use Rattle.rbac_terms.specs.Name.{name_cmp};
+ghost use Rattle.rbac_terms.specs.Relations.{users_of, roles_of};
+ghost use Rattle.rbac_terms.specs.Reviews.{authorized_users, authorized_roles};
 ghost use Rattle.rbac_review.specs.Among.{is_assigned_one};
 
 use crate::parts::Parts;
 use rbac_hierarchy::{Hierarchy, RoleOrder};
 use rbac_rolesets::{RoleSets, RolesOf};
-use rbac_words::{Name, NameSet};
+use rbac_terms::{Name, NameSet};
 use sorted_keys::KeyTest;
 use std::alloc::{AllocError, Global};
 

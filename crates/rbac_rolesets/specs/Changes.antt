@@ -1,7 +1,7 @@
 -- What changes that may want memory make of users, roles, UA and PA (ANSI INCITS 359-2004, 6.1.1: AddUser, AddRole, AssignUser,
 -- GrantPermission).
 use Rattle.sorted_keys.specs.Keys.{with_key}
-use Rattle.rbac_words.specs.Name.{name_cmp, pair_cmp, grant_cmp}
+use Rattle.rbac_terms.specs.Name.{name_cmp, pair_cmp, grant_cmp}
 use Rattle.rbac_rolesets.specs.Sets.{Sets}
 use Rattle.rbac_rolesets.specs.declared.change.Change.{Change}
 use Rattle.rbac_rolesets.specs.declared.change.Change.TheVariants.{AddUser, AddRole, Assign, Grant}

@@ -1,7 +1,7 @@
 -- What the sets of users and roles are seen as.
 use Rattle.std.specs.Prelude.{ℕ, List, []}
 use Rattle.std.specs.List.Sorted.{IsStrictlySortedBy}
-use Rattle.rbac_words.specs.Name.{Name, Grant, name_cmp, pair_cmp, grant_cmp}
+use Rattle.rbac_terms.specs.Name.{Name, Grant, name_cmp, pair_cmp, grant_cmp}
 
 -- users, roles, UA and PA, each sorted and without repeats
 pub record Sets : Type 0 where

@@ -1,10 +1,10 @@
 //! Which users a role is assigned to, and which roles are assigned to a user.
 ghost use Rattle.std.specs.Prelude.{◌≡◌};
 ghost use Rattle.sorted_keys.specs.Keys.{has};
-ghost use Rattle.rbac_words.specs.Name.{pair_cmp};
+ghost use Rattle.rbac_terms.specs.Name.{pair_cmp};
 
 use crate::role_sets::RoleSets;
-use rbac_words::Name;
+use rbac_terms::Name;
 use sorted_keys::KeyTest;
 
 /// The users that a role is assigned to.

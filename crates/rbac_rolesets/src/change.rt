@@ -1,5 +1,5 @@
 //! Changes of users, roles, UA and PA that may want memory.
-use rbac_words::Name;
+use rbac_terms::Name;
 
 /// A call that may be refused, with its arguments.
 #[derive(Clone, Copy)]

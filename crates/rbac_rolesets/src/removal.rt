@@ -1,8 +1,8 @@
 //! Which pairs stay where a user or a role is taken out.
 ghost use Rattle.std.specs.Prelude.{◌≡◌, not};
-ghost use Rattle.rbac_words.specs.Relations.{begins_with, ends_with};
+ghost use Rattle.rbac_terms.specs.Relations.{begins_with, ends_with};
 
-use rbac_words::Name;
+use rbac_terms::Name;
 use sorted_keys::KeyTest;
 
 /// The pairs of other users.

@@ -2,15 +2,15 @@
 ghost use Rattle.std.specs.Prelude.{◌≡◌, ◌↔◌, ◌<◌, ◌≤◌, ◌+◌, length, filter, IsTrue, IfOk, OnOk, OnErr};
 ghost use Rattle.std.specs.Ordering.{eq_by_cmp};
 ghost use Rattle.sorted_keys.specs.Keys.{has, with_key, without};
-ghost use Rattle.rbac_words.specs.Name.{name_cmp, pair_cmp, grant_cmp};
-ghost use Rattle.rbac_words.specs.Relations.{begins_with, users_of, roles_of, without_user, without_role};
+ghost use Rattle.rbac_terms.specs.Name.{name_cmp, pair_cmp, grant_cmp};
+ghost use Rattle.rbac_terms.specs.Relations.{begins_with, users_of, roles_of, without_user, without_role};
 ghost use Rattle.rbac_rolesets.specs.Changes.{changed, made};
 ghost use Rattle.rbac_rolesets.specs.Sets.{Sets, no_sets, AreInOrder};
 
 use crate::assigned::{RolesOf, UsersOf};
 use crate::change::{Change, Step};
 use crate::removal::{OtherRoles, OtherUsers};
-use rbac_words::{Name, NameSet};
+use rbac_terms::{Name, NameSet};
 use sorted_keys::{KeyTest, PairProbe, SortedSet};
 use staged::Staged;
 use std::alloc::{AllocError, Global};

@@ -4,10 +4,11 @@ use Rattle.std.specs.List.{list_any}
 use Rattle.std.specs.Ordering.{eq_by_cmp}
 use Rattle.std.proofs.lemmas.Bool.{and_parts, and_from}
 use Rattle.sorted_keys.specs.Keys.{has}
-use Rattle.rbac_words.specs.Name.{Name, Permission, Grant, name_cmp, pair_cmp, grant_cmp}
-use Rattle.rbac_words.specs.State.{State, Session}
-use Rattle.rbac_words.specs.Authorization.{IsAuthorized, is_authorized, Holds, holds, inherits_in}
-use Rattle.rbac_words.proofs.NameLemmas.{names_total, names_exact, pairs_total, pairs_exact, grants_total, grants_exact, one_key, ties_itself, any_member, member_any}
+use Rattle.rbac_terms.specs.Name.{Name, Permission, Grant, name_cmp, pair_cmp, grant_cmp}
+use Rattle.rbac_terms.specs.State.{State, Session}
+use Rattle.rbac_terms.specs.Authorization.{IsAuthorized, is_authorized, Holds, holds, inherits_in}
+use Rattle.sorted_keys.proofs.Ties.{one_key, ties_itself, any_member, member_any}
+use Rattle.rbac_terms.proofs.NameLemmas.{names_total, names_exact, pairs_total, pairs_exact, grants_total, grants_exact}
 use Rattle.rbac_rules.proofs.InheritanceLemmas.{inherits_iff}
 
 pub is_authorized_iff : (s : State) (user role : Name) → IsTrue (is_authorized s user role) ↔ IsAuthorized s user role

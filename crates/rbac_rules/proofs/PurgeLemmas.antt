@@ -2,9 +2,9 @@
 use Rattle.std.proofs.Common.{List, [], ◌∷◌, Bool, true, false, cond, ◌≡◌, IsTrue, refl, ap}
 use Rattle.std.specs.List.{list_all, filter}
 use Rattle.std.proofs.lemmas.Bool.{and_parts}
-use Rattle.rbac_words.specs.Name.{Name}
-use Rattle.rbac_words.specs.State.{State, Session}
-use Rattle.rbac_words.specs.Authorization.{is_entitled, purge}
+use Rattle.rbac_terms.specs.Name.{Name}
+use Rattle.rbac_terms.specs.State.{State, Session}
+use Rattle.rbac_terms.specs.Authorization.{is_entitled, purge}
 
 module _ {X : Type 0} (p : X → Bool) where
   all-filter : (xs : List X) → list_all p (filter p xs) ≡ true

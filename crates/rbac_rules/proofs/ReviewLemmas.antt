@@ -4,18 +4,19 @@ use Rattle.std.proofs.lemmas.Bool.{false≢true}
 use Rattle.std.specs.List.{list_any}
 use Rattle.std.specs.FinMap.Entries.{find}
 use Rattle.sorted_keys.specs.Keys.{has}
-use Rattle.rbac_words.specs.Name.{Name, Permission, name_cmp, pair_cmp}
-use Rattle.rbac_words.specs.State.{State, Session}
-use Rattle.rbac_words.specs.Authorization.{has_permission}
-use Rattle.rbac_words.specs.Effect.{session_holds}
-use Rattle.rbac_words.specs.Reviews.{active_in, session_permissions}
-use Rattle.rbac_words.specs.Sound.{IsSound}
-use Rattle.rbac_words.proofs.NameLemmas.{pairs_total, pairs_exact, same_bits}
+use Rattle.rbac_terms.specs.Name.{Name, Permission, name_cmp, pair_cmp}
+use Rattle.rbac_terms.specs.State.{State, Session}
+use Rattle.rbac_terms.specs.Authorization.{has_permission}
+use Rattle.rbac_terms.specs.Effect.{session_holds}
+use Rattle.rbac_terms.specs.Reviews.{active_in, session_permissions}
+use Rattle.rbac_terms.specs.Sound.{IsSound}
+use Rattle.sorted_keys.proofs.Ties.{same_bits}
+use Rattle.rbac_terms.proofs.NameLemmas.{pairs_total, pairs_exact}
 use Rattle.rbac_rules.proofs.AuthorizationLemmas.{holds_iff}
-use Rattle.rbac_rules.proofs.SoundParts.{was_kept, is_kept}
+use Rattle.sorted_keys.proofs.Kept.{was_kept, is_kept}
 
 -- what a session holds is one of the permissions
-pub is_permission : (s : State) (session : Option Session) (permission : Permission) → IsSound s → IsTrue (session_holds session s permission) → IsTrue (has pair_cmp permission s.permissions)
+pub is_permission : (s : State) (session : Option Session) (permission : Permission) → IsSound s → IsTrue (session_holds session s permission) → IsTrue (has pair_cmp permission s.vocabulary.permissions)
 is_permission s None permission h held = absurd (false≢true held)
 is_permission s (Some x) permission h held =
     let why = (holds_iff s x permission).0 held in
@@ -30,5 +31,5 @@ holds_what_is_listed s session permission h =
     let found = find name_cmp session s.sessions in
     let test : Permission → Bool = λ p. list_any (has_permission s p) (active_in found) in
     same_bits _ _
-    (λ held. is_kept pairs_total pairs_exact test s.permissions permission (sym (listed s found permission) ∙ held) (is_permission s found permission h held))
-    (λ e. listed s found permission ∙ (was_kept pairs_total pairs_exact test s.permissions permission e).0)
+    (λ held. is_kept pairs_total pairs_exact test s.vocabulary.permissions permission (sym (listed s found permission) ∙ held) (is_permission s found permission h held))
+    (λ e. listed s found permission ∙ (was_kept pairs_total pairs_exact test s.vocabulary.permissions permission e).0)

@@ -3,14 +3,15 @@ use Rattle.std.proofs.Common.{List, [], ◌∷◌, count_by, Bool, false, ◌≡
 use Rattle.std.proofs.lemmas.Bool.{or_cases, or_left, or_right, false≢true, leb-true, leb-false}
 use Rattle.std.specs.List.{list_any, AllByRecursion as Each}
 use Rattle.sorted_keys.specs.Keys.{has}
-use Rattle.rbac_words.specs.Name.{Name, name_cmp}
-use Rattle.rbac_words.specs.Separation.{RoleSet, is_broken_by}
-use Rattle.rbac_words.specs.State.{State, Session}
-use Rattle.rbac_words.specs.Authorization.{is_authorized}
-use Rattle.rbac_words.specs.Constraints.{is_violated, KeepsStatic, KeepsDynamic}
-use Rattle.rbac_words.specs.declared.separation.Separation.TheVariants.{Static, Dynamic}
-use Rattle.rbac_words.proofs.NameLemmas.{names_total, names_exact, one_key, ties_itself}
-use Rattle.rbac_words.proofs.ListLemmas.{Each-weaker}
+use Rattle.rbac_terms.specs.Name.{Name, name_cmp}
+use Rattle.rbac_terms.specs.Separation.{RoleSet, is_broken_by}
+use Rattle.rbac_terms.specs.State.{State, Session}
+use Rattle.rbac_terms.specs.Authorization.{is_authorized}
+use Rattle.rbac_terms.specs.Constraints.{is_violated, KeepsStatic, KeepsDynamic}
+use Rattle.rbac_terms.specs.declared.separation.Separation.TheVariants.{Static, Dynamic}
+use Rattle.sorted_keys.proofs.Ties.{one_key, ties_itself}
+use Rattle.rbac_terms.proofs.NameLemmas.{names_total, names_exact}
+use Rattle.sorted_keys.proofs.Lists.{Each-weaker}
 use Rattle.rbac_rules.proofs.SoundSeparation.{is_false, none_passes, passes_none}
 
 -- a set that is not broken has fewer that pass than its number

@@ -11,23 +11,25 @@ use Rattle.sorted_keys.proofs.KeyPlace.{sorted_with_key}
 use Rattle.sorted_keys.proofs.EntryPlace.{sorted_put, sorted_updated}
 use Rattle.sorted_keys.proofs.Members.{has-with_key}
 use Rattle.sorted_keys.proofs.Order.{sorted_none}
-use Rattle.rbac_words.specs.Name.{Name, name_cmp, pair_cmp, grant_cmp}
-use Rattle.rbac_words.specs.Limits.{most_users, most_sessions}
-use Rattle.rbac_words.specs.Founding.{Vocabulary, IsVocabulary}
-use Rattle.rbac_words.specs.State.{State, Session, founding_state}
-use Rattle.rbac_words.specs.Relations.{begins_with}
-use Rattle.rbac_words.specs.Authorization.{IsAuthorized, is_authorized, purge, is_entitled}
-use Rattle.rbac_words.specs.Rows.{preconditions, first_denial, found_and}
-use Rattle.rbac_words.specs.Constraints.{breaks_dynamic}
-use Rattle.rbac_words.specs.Change.{change, end_sessions, with_active, without_active}
-use Rattle.rbac_words.specs.Effect.{effect, effect_unless}
-use Rattle.rbac_words.specs.Sound.{IsSessionSound, AreRoleSets, IsSound, BringsASet}
-use Rattle.rbac_words.specs.declared.command.Command.{Command}
-use Rattle.rbac_words.specs.declared.command.Command.TheVariants.{AddUser, DeleteUser, AddRole, DeleteRole, AssignUser, DeassignUser, GrantPermission, RevokePermission, AddInheritance, DeleteInheritance, AddAscendant, AddDescendant, CreateSet, DeleteSet, AddRoleMember, DeleteRoleMember, SetCardinality, CreateSession, DeleteSession, AddActiveRole, DropActiveRole, CheckAccess, Review as ReviewCommand}
-use Rattle.rbac_words.specs.declared.answer.Denial.{Denial}
-use Rattle.rbac_words.proofs.NameLemmas.{names_total, names_exact, pairs_total, pairs_exact, grants_total, grants_exact, one_key, all_member}
+use Rattle.rbac_terms.specs.Name.{Name, name_cmp, pair_cmp, grant_cmp}
+use Rattle.rbac_terms.specs.Limits.{most_users, most_sessions}
+use Rattle.rbac_terms.specs.Vocabulary.{Vocabulary, IsVocabulary}
+use Rattle.rbac_terms.specs.State.{State, Session, founding_state}
+use Rattle.rbac_terms.specs.Relations.{begins_with}
+use Rattle.rbac_terms.specs.Authorization.{IsAuthorized, is_authorized, purge, is_entitled}
+use Rattle.rbac_terms.specs.Rows.{preconditions, first_denial, found_and}
+use Rattle.rbac_terms.specs.Constraints.{breaks_dynamic}
+use Rattle.rbac_terms.specs.Change.{change, end_sessions, with_active, without_active}
+use Rattle.rbac_terms.specs.Effect.{effect, effect_unless}
+use Rattle.rbac_terms.specs.Sound.{IsSessionSound, AreRoleSets, IsSound, BringsASet}
+use Rattle.rbac_terms.specs.declared.command.Command.{Command}
+use Rattle.rbac_terms.specs.declared.command.Command.TheVariants.{AddUser, DeleteUser, AddRole, DeleteRole, AssignUser, DeassignUser, GrantPermission, RevokePermission, AddInheritance, DeleteInheritance, AddAscendant, AddDescendant, CreateSet, DeleteSet, AddRoleMember, DeleteRoleMember, SetCardinality, CreateSession, DeleteSession, AddActiveRole, DropActiveRole, CheckAccess, Review as ReviewCommand}
+use Rattle.rbac_terms.specs.declared.answer.Denial.{Denial}
+use Rattle.sorted_keys.proofs.Ties.{one_key, all_member}
+use Rattle.rbac_terms.proofs.NameLemmas.{names_total, names_exact, pairs_total, pairs_exact, grants_total, grants_exact}
 use Rattle.rbac_rules.proofs.AuthorizationLemmas.{is_authorized_iff}
-use Rattle.rbac_rules.proofs.SoundParts.{none_fails, length-with_key-new, length-put-new, fewer, still, was_kept, is_kept, each_put, each_updated, length-updated, each_kept, session_stays, sessions_stay, purged, owners, with_users, with_granted, with_sessions}
+use Rattle.sorted_keys.proofs.Kept.{length-with_key-new, length-put-new, fewer, still, was_kept, is_kept, each_put, each_updated, length-updated, each_kept}
+use Rattle.rbac_rules.proofs.SoundParts.{none_fails, session_stays, sessions_stay, purged, owners, with_users, with_granted, with_sessions}
 use Rattle.rbac_rules.proofs.SoundSeparation.{is_false, fewer_active, static_less, dynamic_kept, dynamic_updated}
 use Rattle.rbac_rules.proofs.SoundSets.{sound_create_set, sound_delete_set, sound_add_role_member, sound_delete_role_member, sound_set_cardinality}
 use Rattle.rbac_rules.proofs.SoundRoles.{static_stays, sound_add_role, sound_delete_role, sound_add_inheritance, sound_delete_inheritance, sound_add_ascendant, sound_add_descendant}
@@ -137,7 +139,7 @@ sound_grant_permission operation object role s none h =
     (sorted_with_key grants_total ((operation, object), role) s.granted h.in_order.granted)
     (λ p r m. ⊎_elim
     (λ e. let same = one_key grants_exact (p, r) ((operation, object), role) e in
-    (subst (λ x. IsTrue (has pair_cmp x s.permissions)) (sym (ap (λ g. g.0) same)) (not-false _ holds.0), subst (λ x. IsTrue (has name_cmp x s.roles)) (sym (ap (λ g. g.1) same)) (not-false _ holds.1.0)))
+    (subst (λ x. IsTrue (has pair_cmp x s.vocabulary.permissions)) (sym (ap (λ g. g.0) same)) (not-false _ holds.0), subst (λ x. IsTrue (has name_cmp x s.roles)) (sym (ap (λ g. g.1) same)) (not-false _ holds.1.0)))
     (h.references.granted p r)
     (or_cases _ _ (sym (has-with_key grants_total ((operation, object), role) s.granted (p, r)) ∙ m)))
     h

@@ -8,25 +8,27 @@ use Rattle.std.specs.Ordering.{eq_by_cmp}
 use Rattle.sorted_keys.specs.Keys.{has, with_key, without}
 use Rattle.sorted_keys.proofs.KeyPlace.{sorted_with_key}
 use Rattle.sorted_keys.proofs.Members.{has-with_key}
-use Rattle.rbac_words.specs.Name.{Name, Grant, name_cmp, pair_cmp}
-use Rattle.rbac_words.specs.Limits.{most_roles, most_sessions}
-use Rattle.rbac_words.specs.Separation.{is_broken_by}
-use Rattle.rbac_words.specs.State.{State, Session}
-use Rattle.rbac_words.specs.Relations.{begins_with, ends_with, without_role, without_pairs_of}
-use Rattle.rbac_words.specs.Inheritance.{IsChain, Inherits}
-use Rattle.rbac_words.specs.Authorization.{InheritsIn, IsAuthorized, is_authorized, is_entitled, purge}
-use Rattle.rbac_words.specs.Rows.{preconditions, first_denial}
-use Rattle.rbac_words.specs.Constraints.{is_violated, breaks_dynamic}
-use Rattle.rbac_words.specs.declared.separation.Separation.TheVariants.{Static}
-use Rattle.rbac_words.specs.Change.{change, end_sessions}
-use Rattle.rbac_words.specs.Sound.{HasNoCycle, IsSessionSound, IsSound}
-use Rattle.rbac_words.specs.declared.command.Command.TheVariants.{AddRole, DeleteRole, AddInheritance, DeleteInheritance, AddAscendant, AddDescendant}
-use Rattle.rbac_words.proofs.NameLemmas.{names_total, names_exact, pairs_total, pairs_exact, grants_total, grants_exact, one_key, ties_itself}
-use Rattle.rbac_words.proofs.ListLemmas.{Each-weaker}
+use Rattle.rbac_terms.specs.Name.{Name, Grant, name_cmp, pair_cmp}
+use Rattle.rbac_terms.specs.Limits.{most_roles, most_sessions}
+use Rattle.rbac_terms.specs.Separation.{is_broken_by}
+use Rattle.rbac_terms.specs.State.{State, Session}
+use Rattle.rbac_terms.specs.Relations.{begins_with, ends_with, without_role, without_pairs_of}
+use Rattle.rbac_terms.specs.Inheritance.{IsChain, Inherits}
+use Rattle.rbac_terms.specs.Authorization.{InheritsIn, IsAuthorized, is_authorized, is_entitled, purge}
+use Rattle.rbac_terms.specs.Rows.{preconditions, first_denial}
+use Rattle.rbac_terms.specs.Constraints.{is_violated, breaks_dynamic}
+use Rattle.rbac_terms.specs.declared.separation.Separation.TheVariants.{Static}
+use Rattle.rbac_terms.specs.Change.{change, end_sessions}
+use Rattle.rbac_terms.specs.Sound.{HasNoCycle, IsSessionSound, IsSound}
+use Rattle.rbac_terms.specs.declared.command.Command.TheVariants.{AddRole, DeleteRole, AddInheritance, DeleteInheritance, AddAscendant, AddDescendant}
+use Rattle.sorted_keys.proofs.Ties.{one_key, ties_itself}
+use Rattle.rbac_terms.proofs.NameLemmas.{names_total, names_exact, pairs_total, pairs_exact, grants_total, grants_exact}
+use Rattle.sorted_keys.proofs.Lists.{Each-weaker}
 use Rattle.rbac_rules.proofs.InheritanceLemmas.{chain_end, joined, inherits_iff, inherits_still, inherits_without, inherits_over}
 use Rattle.rbac_rules.proofs.AuthorizationLemmas.{is_authorized_iff}
 use Rattle.rbac_rules.proofs.SoundSeparation.{static_less, sets_wider, sets_without, dynamic_kept}
-use Rattle.rbac_rules.proofs.SoundParts.{none_fails, length-with_key-new, fewer, still, was_kept, is_kept, each_kept, within, sessions_stay, IsOwned, purged, owners, with_sessions}
+use Rattle.sorted_keys.proofs.Kept.{length-with_key-new, fewer, still, was_kept, is_kept, each_kept}
+use Rattle.rbac_rules.proofs.SoundParts.{none_fails, within, sessions_stay, IsOwned, purged, owners, with_sessions}
 
 -- ---- One more role
 

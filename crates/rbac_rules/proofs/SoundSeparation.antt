@@ -5,13 +5,14 @@ use Rattle.std.proofs.lemmas.List.Sums.{sum_by-cons}
 use Rattle.std.specs.List.{list_any, filter, AllByRecursion as Each}
 use Rattle.std.specs.Ordering.{eq_by_cmp}
 use Rattle.sorted_keys.specs.Keys.{has, without, updated}
-use Rattle.rbac_words.specs.Name.{Name, name_cmp}
-use Rattle.rbac_words.specs.Separation.{RoleSet, is_broken_by, is_broken, is_constrained}
-use Rattle.rbac_words.specs.State.{Session}
-use Rattle.rbac_words.specs.Sound.{IsRoleSet, AreRoleSets}
-use Rattle.rbac_words.proofs.NameLemmas.{names_total, names_exact, one_key, ties_itself, any_member, member_any}
-use Rattle.rbac_words.proofs.ListLemmas.{Each-weaker}
-use Rattle.rbac_rules.proofs.SoundParts.{is_kept, each_kept, each_updated}
+use Rattle.rbac_terms.specs.Name.{Name, name_cmp}
+use Rattle.rbac_terms.specs.Separation.{RoleSet, is_broken_by, is_broken, is_constrained}
+use Rattle.rbac_terms.specs.State.{Session}
+use Rattle.rbac_terms.specs.Sound.{IsRoleSet, AreRoleSets}
+use Rattle.sorted_keys.proofs.Ties.{one_key, ties_itself, any_member, member_any}
+use Rattle.rbac_terms.proofs.NameLemmas.{names_total, names_exact}
+use Rattle.sorted_keys.proofs.Lists.{Each-weaker}
+use Rattle.sorted_keys.proofs.Kept.{is_kept, each_kept, each_updated}
 
 -- ---- Tests and counts
 

@@ -14,20 +14,22 @@ use Rattle.sorted_keys.specs.Keys.{has, with_key, without, without_key, updated}
 use Rattle.sorted_keys.proofs.KeyPlace.{sorted_with_key}
 use Rattle.sorted_keys.proofs.EntryPlace.{sorted_put, sorted_updated}
 use Rattle.sorted_keys.proofs.Members.{has-with_key}
-use Rattle.rbac_words.specs.Name.{Name, name_cmp}
-use Rattle.rbac_words.specs.Limits.{most_sets}
-use Rattle.rbac_words.specs.Separation.{RoleSet, is_well_sized, is_broken_by}
-use Rattle.rbac_words.specs.State.{State, Session}
-use Rattle.rbac_words.specs.Authorization.{is_authorized}
-use Rattle.rbac_words.specs.Constraints.{sets_of, with_sets, is_violated, is_badly_sized}
-use Rattle.rbac_words.specs.Change.{change, with_member, without_member, with_cardinality}
-use Rattle.rbac_words.specs.Rows.{preconditions, first_denial, found_and}
-use Rattle.rbac_words.specs.Sound.{IsRoleSet, AreRoleSets, IsSeparated, IsSound}
-use Rattle.rbac_words.specs.declared.separation.Separation.{Separation}
-use Rattle.rbac_words.specs.declared.separation.Separation.TheVariants.{Static, Dynamic}
-use Rattle.rbac_words.specs.declared.command.Command.TheVariants.{CreateSet, DeleteSet, AddRoleMember, DeleteRoleMember, SetCardinality}
-use Rattle.rbac_words.proofs.NameLemmas.{names_total, names_exact, one_key, all_member}
-use Rattle.rbac_rules.proofs.SoundParts.{none_fails, length-with_key-new, length-put-new, fewer, was_kept, each_put, each_updated, each_kept, length-updated, sessions_stay}
+use Rattle.rbac_terms.specs.Name.{Name, name_cmp}
+use Rattle.rbac_terms.specs.Limits.{most_sets}
+use Rattle.rbac_terms.specs.Separation.{RoleSet, is_well_sized, is_broken_by}
+use Rattle.rbac_terms.specs.State.{State, Session}
+use Rattle.rbac_terms.specs.Authorization.{is_authorized}
+use Rattle.rbac_terms.specs.Constraints.{sets_of, with_sets, is_violated, is_badly_sized}
+use Rattle.rbac_terms.specs.Change.{change, with_member, without_member, with_cardinality}
+use Rattle.rbac_terms.specs.Rows.{preconditions, first_denial, found_and}
+use Rattle.rbac_terms.specs.Sound.{IsRoleSet, AreRoleSets, IsSeparated, IsSound}
+use Rattle.rbac_terms.specs.declared.separation.Separation.{Separation}
+use Rattle.rbac_terms.specs.declared.separation.Separation.TheVariants.{Static, Dynamic}
+use Rattle.rbac_terms.specs.declared.command.Command.TheVariants.{CreateSet, DeleteSet, AddRoleMember, DeleteRoleMember, SetCardinality}
+use Rattle.sorted_keys.proofs.Ties.{one_key, all_member}
+use Rattle.rbac_terms.proofs.NameLemmas.{names_total, names_exact}
+use Rattle.sorted_keys.proofs.Kept.{length-with_key-new, length-put-new, fewer, was_kept, each_put, each_updated, each_kept, length-updated}
+use Rattle.rbac_rules.proofs.SoundParts.{none_fails, sessions_stay}
 use Rattle.rbac_rules.proofs.SoundSeparation.{is_false, sets_less}
 
 -- ---- The sets of a kind

@@ -3,12 +3,12 @@ ghost use Rattle.std.specs.Prelude.{IsTrue, ◌↔◌, ◌≡◌};
 ghost use Rattle.std.specs.FinMap.Entries.{find};
 ghost use Rattle.std.specs.List.{list_all};
 ghost use Rattle.sorted_keys.specs.Keys.{has};
-ghost use Rattle.rbac_words.specs.Authorization.{IsAuthorized, is_authorized, Holds, holds, is_entitled, purge};
-ghost use Rattle.rbac_words.specs.Effect.{session_holds};
-ghost use Rattle.rbac_words.specs.Name.{Name, Permission, name_cmp, pair_cmp};
-ghost use Rattle.rbac_words.specs.Reviews.{session_permissions};
-ghost use Rattle.rbac_words.specs.Sound.{IsSound};
-ghost use Rattle.rbac_words.specs.State.{State, Session};
+ghost use Rattle.rbac_terms.specs.Authorization.{IsAuthorized, is_authorized, Holds, holds, is_entitled, purge};
+ghost use Rattle.rbac_terms.specs.Effect.{session_holds};
+ghost use Rattle.rbac_terms.specs.Name.{Name, Permission, name_cmp, pair_cmp};
+ghost use Rattle.rbac_terms.specs.Reviews.{session_permissions};
+ghost use Rattle.rbac_terms.specs.Sound.{IsSound};
+ghost use Rattle.rbac_terms.specs.State.{State, Session};
 
 /// The test of authorization tells whether the user is assigned a role that inherits this one.
 pub fn a_test_tells_authorization()

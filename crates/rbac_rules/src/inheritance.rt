@@ -1,11 +1,11 @@
 //! Inheritance of roles.
 ghost use Rattle.std.specs.Prelude.{List, IsTrue, ◌↔◌, ◌≡◌};
 ghost use Rattle.sorted_keys.specs.Keys.{has};
-ghost use Rattle.rbac_words.specs.Authorization.{InheritsIn};
-ghost use Rattle.rbac_words.specs.Inheritance.{Inherits, inherits};
-ghost use Rattle.rbac_words.specs.Name.{Name, name_cmp};
-ghost use Rattle.rbac_words.specs.Sound.{IsSound};
-ghost use Rattle.rbac_words.specs.State.{State};
+ghost use Rattle.rbac_terms.specs.Authorization.{InheritsIn};
+ghost use Rattle.rbac_terms.specs.Inheritance.{Inherits, inherits};
+ghost use Rattle.rbac_terms.specs.Name.{Name, name_cmp};
+ghost use Rattle.rbac_terms.specs.Sound.{IsSound};
+ghost use Rattle.rbac_terms.specs.State.{State};
 
 /// The test of inheritance tells whether there is a chain of declared pairs.
 pub fn a_test_tells_inheritance()

@@ -1,8 +1,8 @@
 //! Separation of duty.
 ghost use Rattle.std.specs.Prelude.{false, ◌↔◌, ◌≡◌};
-ghost use Rattle.rbac_words.specs.Constraints.{is_violated, KeepsStatic, KeepsDynamic};
-ghost use Rattle.rbac_words.specs.State.{State};
-ghost use Rattle.rbac_words.specs.declared.separation.Separation.TheVariants.{Static, Dynamic};
+ghost use Rattle.rbac_terms.specs.Constraints.{is_violated, KeepsStatic, KeepsDynamic};
+ghost use Rattle.rbac_terms.specs.State.{State};
+ghost use Rattle.rbac_terms.specs.declared.separation.Separation.TheVariants.{Static, Dynamic};
 
 /// The tests of separation of duty tell whether of each set each user is authorized for fewer roles than its number, and
 /// fewer are active in each session.

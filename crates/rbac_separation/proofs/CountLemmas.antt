@@ -5,8 +5,9 @@ use Rattle.std.specs.Ordering.{eq_by_cmp}
 use Rattle.std.specs.FinMap.Entries.{find, put, find-put, where_key}
 use Rattle.sorted_keys.specs.Keys.{without_key, updated}
 use Rattle.sorted_keys.proofs.Lookups.{find-without_key, find-filter_keys}
-use Rattle.rbac_words.specs.Name.{Name, name_cmp, pair_cmp}
-use Rattle.rbac_words.proofs.NameLemmas.{pairs_total, pairs_exact, ties_flip, ties-pair}
+use Rattle.rbac_terms.specs.Name.{Name, name_cmp, pair_cmp}
+use Rattle.sorted_keys.proofs.Ties.{ties_flip, ties-pair}
+use Rattle.rbac_terms.proofs.NameLemmas.{pairs_total, pairs_exact}
 use Rattle.rbac_separation.specs.Counts.{with_number}
 
 abbrev pub Entries : Type 0

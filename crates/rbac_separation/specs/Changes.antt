@@ -4,8 +4,8 @@ use Rattle.std.specs.Prelude.{List, Option, Some}
 use Rattle.std.specs.Option.{option_map}
 use Rattle.std.specs.FinMap.Entries.{put}
 use Rattle.sorted_keys.specs.Keys.{with_key, updated}
-use Rattle.rbac_words.specs.Name.{Name, name_cmp}
-use Rattle.rbac_words.specs.Separation.{RoleSet}
+use Rattle.rbac_terms.specs.Name.{Name, name_cmp}
+use Rattle.rbac_terms.specs.Separation.{RoleSet}
 use Rattle.rbac_separation.specs.declared.set_plan.SetChange.{SetChange}
 use Rattle.rbac_separation.specs.declared.set_plan.SetChange.TheVariants.{Create, AddMember}
 

@@ -1,7 +1,7 @@
 -- What changes that may want memory make of numbers that are kept of sets and users.
 use Rattle.std.specs.Prelude.{ℕ, List}
 use Rattle.staged.specs.Made.{made_all}
-use Rattle.rbac_words.specs.Name.{Name}
+use Rattle.rbac_terms.specs.Name.{Name}
 use Rattle.rbac_separation.specs.Counts.{with_number}
 use Rattle.rbac_separation.specs.declared.counts.CountChange.{CountChange}
 use Rattle.rbac_separation.specs.declared.counts.CountChange.TheVariants.{Put}

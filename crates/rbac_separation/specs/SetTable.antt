@@ -2,8 +2,8 @@
 use Rattle.std.specs.Prelude.{ℕ, List}
 use Rattle.std.specs.List.Sorted.{IsStrictlySortedBy}
 use Rattle.sorted_keys.specs.Keys.{by_key}
-use Rattle.rbac_words.specs.Name.{Name, name_cmp}
-use Rattle.rbac_words.specs.Separation.{RoleSet}
+use Rattle.rbac_terms.specs.Name.{Name, name_cmp}
+use Rattle.rbac_terms.specs.Separation.{RoleSet}
 
 -- the sets by their names, in order, and for how many more there is room
 pub record SetTable : Type 0 where

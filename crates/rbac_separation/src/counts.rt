@@ -3,13 +3,13 @@ ghost use Rattle.std.specs.Prelude.{◌≡◌, ◌<◌, ◌≤◌, ◌+◌, ℕ,
 ghost use Rattle.std.specs.Option.{option_copied};
 ghost use Rattle.std.specs.Ordering.{eq_by_cmp};
 ghost use Rattle.staged.specs.Made.{made_all};
-ghost use Rattle.rbac_words.specs.Name.{Name as NameValue, name_cmp};
+ghost use Rattle.rbac_terms.specs.Name.{Name as NameValue, name_cmp};
 ghost use Rattle.rbac_separation.specs.CountChanges.{numbers_after, with_numbers};
 ghost use Rattle.rbac_separation.specs.Counts.{numbers_of, no_numbers, with_number, without_set, without_user, first_over};
 
 use crate::role_set::RoleSet;
 use crate::set_table::SetTable;
-use rbac_words::{Name, NameSet};
+use rbac_terms::{Name, NameSet};
 use sorted_keys::{Duplicate, EntryTest, PairProbe, SortedMap, ValueChange};
 use staged::{Plan, Staged, commit, make_plan};
 use std::alloc::{AllocError, Global};

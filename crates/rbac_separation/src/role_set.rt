@@ -1,11 +1,11 @@
 //! A set of roles and its number.
 ghost use Rattle.std.specs.Prelude.{◌≡◌, ◌↔◌, IsTrue, IfOk, count_by};
 ghost use Rattle.sorted_keys.specs.Keys.{has};
-ghost use Rattle.rbac_words.specs.Name.{name_cmp};
-ghost use Rattle.rbac_words.specs.Separation.{is_broken};
+ghost use Rattle.rbac_terms.specs.Name.{name_cmp};
+ghost use Rattle.rbac_terms.specs.Separation.{is_broken};
 ghost use Rattle.rbac_separation.specs.Counts.{is_over};
 
-use rbac_words::{Name, NameSet};
+use rbac_terms::{Name, NameSet};
 use sorted_keys::{Duplicate, Same};
 use std::alloc::AllocError;
 use std::marker::Model;
@@ -18,7 +18,7 @@ pub struct RoleSet {
 }
 
 impl Model for RoleSet {
-    ghost use Rattle.rbac_words.specs.Separation.{RoleSet as RoleSetValue};
+    ghost use Rattle.rbac_terms.specs.Separation.{RoleSet as RoleSetValue};
 
     ghost Value = { RoleSetValue };
 

@@ -2,12 +2,12 @@
 ghost use Rattle.std.specs.Prelude.{◌≡◌, ◌≤◌, length, IfOk};
 ghost use Rattle.staged.specs.Entries.{after_entries};
 ghost use Rattle.staged.specs.Made.{made_all};
-ghost use Rattle.rbac_words.specs.Name.{name_cmp};
+ghost use Rattle.rbac_terms.specs.Name.{name_cmp};
 ghost use Rattle.rbac_separation.specs.Changes.{becomes, changed, set_of_change, with_member};
 
 use crate::role_set::RoleSet;
 use crate::set_table::SetTable;
-use rbac_words::{Name, NameSet};
+use rbac_terms::{Name, NameSet};
 use sorted_keys::{Duplicate, SortedMap};
 use staged::{EntryChange, Plan, commit, make_plan};
 use std::alloc::{AllocError, Global};

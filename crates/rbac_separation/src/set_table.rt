@@ -4,13 +4,13 @@ ghost use Rattle.std.specs.List.Sorted.{IsStrictlySortedBy};
 ghost use Rattle.std.specs.Option.{option_copied, option_map};
 ghost use Rattle.std.specs.FinMap.Entries.{find, put};
 ghost use Rattle.sorted_keys.specs.Keys.{by_key, with_key, without, without_key, updated};
-ghost use Rattle.rbac_words.specs.Name.{name_cmp};
-ghost use Rattle.rbac_words.specs.Separation.{first_broken, is_constrained};
+ghost use Rattle.rbac_terms.specs.Name.{name_cmp};
+ghost use Rattle.rbac_terms.specs.Separation.{first_broken, is_constrained};
 ghost use Rattle.rbac_separation.specs.SetTable.{AreInOrder};
 
 use crate::change::{CardinalityChange, MemberAddition, MemberRemoval};
 use crate::role_set::RoleSet;
-use rbac_words::{Name, NameSet};
+use rbac_terms::{Name, NameSet};
 use sorted_keys::SortedMap;
 use std::alloc::{AllocError, Global};
 use std::marker::Model;

@@ -1,6 +1,6 @@
 -- What a refusal hands back, and what a whole call leaves.
 use Rattle.std.specs.Prelude.{◌≡◌, ◌+◌, true, length}
-use Rattle.rbac_words.specs.declared.command.Command.{Command}
+use Rattle.rbac_terms.specs.declared.command.Command.{Command}
 use Rattle.rbac_words.specs.declared.stamp.Stamp.{Stamp}
 use Rattle.rbac_node.specs.Pass.{PassState, TicketState, Owns}
 use Rattle.rbac_service.specs.declared.refusal.AwaitRefusal.{AwaitRefusal}

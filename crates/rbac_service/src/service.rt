@@ -1,7 +1,7 @@
 //! The members of a founding, each under its lock.
 ghost use Rattle.std.specs.Prelude.{◌≡◌, ◌≤◌, ◌<◌, [], length, IfOk, IfSome, IfNone, vec_len, vec_capacity};
-ghost use Rattle.rbac_words.specs.Founding.{IsGroup};
-ghost use Rattle.rbac_words.specs.Member.{IsNumber};
+ghost use Rattle.rbac_words.specs.Group.{IsGroup};
+ghost use Rattle.rbac_words.specs.Keeping.Member.{IsNumber};
 
 mod calls;
 mod ending;

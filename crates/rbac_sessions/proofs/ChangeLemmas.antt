@@ -3,8 +3,8 @@ use Rattle.std.proofs.Common.{◌≡◌, List, refl, sym}
 use Rattle.std.specs.FinMap.Entries.{find}
 use Rattle.staged.specs.Entries.{with_entry}
 use Rattle.staged.proofs.EntryLemmas.{updated_is}
-use Rattle.rbac_words.specs.Name.{Name, name_cmp}
-use Rattle.rbac_words.specs.State.{Session}
+use Rattle.rbac_terms.specs.Name.{Name, name_cmp}
+use Rattle.rbac_terms.specs.State.{Session}
 use Rattle.rbac_sessions.specs.Changes.{becomes, changed, session_of, with_active}
 use Rattle.rbac_sessions.specs.declared.plan.Change.{Change}
 use Rattle.rbac_sessions.specs.declared.plan.Change.TheVariants.{Create, Activate}

@@ -3,8 +3,8 @@ use Rattle.std.specs.Prelude.{List, Option, Some}
 use Rattle.std.specs.Option.{option_map}
 use Rattle.std.specs.FinMap.Entries.{put}
 use Rattle.sorted_keys.specs.Keys.{with_key, updated}
-use Rattle.rbac_words.specs.Name.{Name, name_cmp}
-use Rattle.rbac_words.specs.State.{Session}
+use Rattle.rbac_terms.specs.Name.{Name, name_cmp}
+use Rattle.rbac_terms.specs.State.{Session}
 use Rattle.rbac_sessions.specs.declared.plan.Change.{Change}
 use Rattle.rbac_sessions.specs.declared.plan.Change.TheVariants.{Create, Activate}
 

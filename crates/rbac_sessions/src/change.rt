@@ -1,10 +1,10 @@
 //! Changes of a session's active roles.
 ghost use Rattle.std.specs.Prelude.{◌≡◌, OnOk, OnErr};
 ghost use Rattle.sorted_keys.specs.Keys.{with_key, without};
-ghost use Rattle.rbac_words.specs.Name.{name_cmp};
+ghost use Rattle.rbac_terms.specs.Name.{name_cmp};
 
 use crate::session::Session;
-use rbac_words::Name;
+use rbac_terms::Name;
 use sorted_keys::ValueChange;
 use std::alloc::AllocError;
 use std::convert::Infallible;

@@ -1,7 +1,7 @@
 //! A session: its owner and its active roles.
 ghost use Rattle.std.specs.Prelude.{◌≡◌, ◌↔◌, IsTrue, IfOk};
 
-use rbac_words::{Name, NameSet};
+use rbac_terms::{Name, NameSet};
 use sorted_keys::{Duplicate, Same};
 use std::alloc::AllocError;
 use std::marker::Model;
@@ -14,7 +14,7 @@ pub struct Session {
 }
 
 impl Model for Session {
-    ghost use Rattle.rbac_words.specs.State.{Session as SessionValue};
+    ghost use Rattle.rbac_terms.specs.State.{Session as SessionValue};
 
     ghost Value = { SessionValue };
 

@@ -4,12 +4,12 @@ ghost use Rattle.std.specs.List.{list_any};
 ghost use Rattle.std.specs.Option.{option_copied, option_map};
 ghost use Rattle.std.specs.FinMap.Entries.{find, put};
 ghost use Rattle.sorted_keys.specs.Keys.{with_key, without, without_key, updated};
-ghost use Rattle.rbac_words.specs.Name.{Name as NameValue, name_cmp};
+ghost use Rattle.rbac_terms.specs.Name.{Name as NameValue, name_cmp};
 ghost use Rattle.rbac_sessions.specs.Sessions.{AreInOrder};
 
 use crate::change::{Activation, Deactivation};
 use crate::session::Session;
-use rbac_words::{Name, NameSet};
+use rbac_terms::{Name, NameSet};
 use sorted_keys::{EntryTest, SortedMap};
 use std::alloc::{AllocError, Global};
 use std::marker::Model;

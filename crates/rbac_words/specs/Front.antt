@@ -1,11 +1,11 @@
 -- A history that a member may have.
 use Rattle.std.specs.Prelude.{ℕ, ◌≡◌, List, map, ◌==◌, Bool}
 use Rattle.std.specs.List.{filter}
-use Rattle.rbac_words.specs.State.{State}
-use Rattle.rbac_words.specs.Replay.{replies}
+use Rattle.rbac_terms.specs.State.{State}
+use Rattle.rbac_terms.specs.Replay.{replies}
 use Rattle.rbac_words.specs.Stamp.{IsRising}
 use Rattle.rbac_words.specs.Message.{submitted_at, commands_of, CountsFrom, is_by}
-use Rattle.rbac_words.specs.declared.command.Command.{Command}
+use Rattle.rbac_terms.specs.declared.command.Command.{Command}
 use Rattle.rbac_words.specs.declared.message.Submission.{Submission}
 use Rattle.rbac_words.specs.declared.record.Record.{Record}
 

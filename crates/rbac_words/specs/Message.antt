@@ -2,7 +2,7 @@
 use Rattle.std.specs.Prelude.{ℕ, Bool, true, suc, ◌≡◌, ◌≤◌, ◌==◌, ⊤, List, [], ◌∷◌, length, map}
 use Rattle.std.specs.List.{AllByRecursion, flat_map, filter, list_any}
 use Rattle.rbac_words.specs.Limits.{last_clock}
-use Rattle.rbac_words.specs.Founding.{Group}
+use Rattle.rbac_words.specs.Group.{Group}
 use Rattle.rbac_words.specs.Stamp.{IsRising, is_before}
 use Rattle.rbac_words.specs.declared.stamp.Stamp.{Stamp}
 use Rattle.rbac_words.specs.declared.message.Message.{Message}

@@ -1,9 +1,10 @@
 -- What is right of a world's histories, and the founding world.
 use Rattle.std.specs.Prelude.{ℕ, zero, suc, ◌≡◌, ◌<◌, List, [], ◌∷◌, map, length, replicate, slice_index_or}
 use Rattle.std.specs.List.{flat_map}
-use Rattle.rbac_words.specs.Founding.{Group, Vocabulary}
-use Rattle.rbac_words.specs.State.{founding_state}
-use Rattle.rbac_words.specs.Replay.{replies}
+use Rattle.rbac_terms.specs.Vocabulary.{Vocabulary}
+use Rattle.rbac_words.specs.Group.{Group}
+use Rattle.rbac_terms.specs.State.{founding_state}
+use Rattle.rbac_terms.specs.Replay.{replies}
 use Rattle.rbac_words.specs.Stamp.{sort_by_stamp, last_stamp, up_to}
 use Rattle.rbac_words.specs.Message.{submitted_at, submissions, commands_of}
 use Rattle.rbac_words.specs.Front.{command_of}

@@ -3,14 +3,15 @@
 use Rattle.std.specs.Prelude.{ℕ, Bool, not, ◌==◌, ◌-◌, ◌+◌, ◌&&◌, ◌||◌, max, nat_lt, nat_le, if◌then◌else◌, List, [], ◌∷◌, ◌++◌, Option, Some, None, Result, Ok, Err, length, map, take, slice_set, slice_index, slice_index_or}
 use Rattle.std.specs.List.{flat_map, filter, list_any, list_all}
 use Rattle.rbac_words.specs.Limits.{last_clock}
-use Rattle.rbac_words.specs.Founding.{Group, Vocabulary}
-use Rattle.rbac_words.specs.State.{founding_state}
-use Rattle.rbac_words.specs.Effect.{reply}
-use Rattle.rbac_words.specs.Replay.{state_after}
+use Rattle.rbac_terms.specs.Vocabulary.{Vocabulary}
+use Rattle.rbac_words.specs.Group.{Group}
+use Rattle.rbac_terms.specs.State.{founding_state}
+use Rattle.rbac_terms.specs.Effect.{reply}
+use Rattle.rbac_terms.specs.Replay.{state_after}
 use Rattle.rbac_words.specs.Stamp.{is_same_stamp, sort_by_stamp}
 use Rattle.rbac_words.specs.Message.{stamp_of, has_later, submitted_at, has_commands, submissions, next_serial, commands_of}
 use Rattle.rbac_words.specs.Front.{command_of}
-use Rattle.rbac_words.specs.declared.command.Command.{Command}
+use Rattle.rbac_terms.specs.declared.command.Command.{Command}
 use Rattle.rbac_words.specs.declared.stamp.Stamp.{Stamp}
 use Rattle.rbac_words.specs.declared.message.Message.{Message}
 use Rattle.rbac_words.specs.declared.message.Message.TheVariants.{Call, Ack}

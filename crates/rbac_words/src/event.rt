@@ -1,6 +1,6 @@
 //! What can happen to a group of members, what comes of it, and why an event is refused.
 
-use crate::command::Command;
+use rbac_terms::Command;
 use crate::stamp::Stamp;
 
 /// One atomic step on one member.

@@ -1,6 +1,6 @@
 //! The numbers of a group.
 ghost use Rattle.std.specs.Prelude.{◌≡◌, None, Some, IfOk, IfErr, OnOk};
-ghost use Rattle.rbac_words.specs.Founding.{IsGroup};
+ghost use Rattle.rbac_words.specs.Group.{IsGroup};
 ghost use Rattle.rbac_words.specs.Build.{group_refusal};
 
 use crate::limits::{LAST_CLOCK, MOST_MEMBERS, MOST_SENT};
@@ -16,7 +16,7 @@ pub struct Group {
 }
 
 impl Model for Group {
-    ghost use Rattle.rbac_words.specs.Founding.{Group as GroupValue, IsGroup};
+    ghost use Rattle.rbac_words.specs.Group.{Group as GroupValue, IsGroup};
 
     ghost Value = { GroupValue };
 

@@ -2,7 +2,7 @@
 ghost use Rattle.std.specs.Prelude.{◌≡◌, IfOk};
 ghost use Rattle.rbac_words.specs.Message.{stamp_of};
 
-use crate::command::Command;
+use rbac_terms::Command;
 use crate::stamp::Stamp;
 use std::alloc::AllocError;
 

@@ -1,8 +1,8 @@
 //! What a member's history keeps of a delivered command.
 ghost use Rattle.std.specs.Prelude.{◌≡◌, IfOk};
 
-use crate::answer::Answer;
-use crate::command::Command;
+use rbac_terms::Answer;
+use rbac_terms::Command;
 use crate::stamp::Stamp;
 use std::alloc::AllocError;
 

@@ -2,8 +2,8 @@
 use Rattle.std.proofs.Common.{ℕ, zero, suc, Bool, true, ◌≡◌, ◌<◌, ◌-◌, List, [], ◌∷◌, ◌++◌, length, get_or, set, Result, refl, sym, ap, subst, ◌∙◌, arith}
 use Rattle.std.specs.List.{list_all}
 use Rattle.std.proofs.lemmas.List.{get_or_default, set-append_left, set-append_right, get_or_append_left, get_or-append_right}
-use Rattle.rbac_words.specs.Member.{Member}
-use Rattle.rbac_words.specs.Members.{no_member, member_at}
+use Rattle.rbac_words.specs.Keeping.Member.{Member}
+use Rattle.rbac_words.specs.Keeping.Members.{no_member, member_at}
 use Rattle.rbac_words.specs.declared.event.Outcome.{Outcome}
 use Rattle.rbac_words.specs.declared.event.Refusal.{Refusal}
 use Rattle.rbac_order.proofs.StepLemmas.{and_both}

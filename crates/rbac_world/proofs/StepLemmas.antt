@@ -4,16 +4,17 @@ use Rattle.std.specs.List.{filter}
 use Rattle.std.proofs.lemmas.Bool.Decides.{nat_tests}
 use Rattle.std.proofs.lemmas.List.{length-map, set-get_or}
 use Rattle.std.proofs.lemmas.List.Elements.{filter-append}
-use Rattle.rbac_words.specs.Founding.{Group, Vocabulary}
+use Rattle.rbac_terms.specs.Vocabulary.{Vocabulary}
+use Rattle.rbac_words.specs.Group.{Group}
 use Rattle.rbac_words.specs.Stamp.{IsAfter, is_after}
 use Rattle.rbac_words.specs.Message.{stamp_of, is_by, next_serial, CountsFrom}
 use Rattle.rbac_words.specs.Front.{is_of}
 use Rattle.rbac_words.specs.World.{World, Node, node, is_member, read_of, stamp, message, submit_refusal, receive_refusal, room_refusal, submit_at, receive_at, deliver_at, with_node, refusal, outcome, after, place_of, due, answer_unless, world_unless, must_acknowledge, acknowledgement}
-use Rattle.rbac_words.specs.Links.{has_link, is_rising_of}
+use Rattle.rbac_words.specs.Keeping.Links.{has_link, is_rising_of}
 use Rattle.rbac_words.specs.Step.{grows, IsStep}
-use Rattle.rbac_words.specs.Member.{Member, node_of, links_of, latest_of, known, submitted, received, deliver_due, due_at, or_else, serial_refusal, message_refusal, IsNext}
-use Rattle.rbac_words.specs.Members.{AreMembers, no_member, member_at, world_of}
-use Rattle.rbac_words.specs.declared.command.Command.{Command}
+use Rattle.rbac_words.specs.Keeping.Member.{Member, node_of, links_of, latest_of, known, submitted, received, deliver_due, due_at, or_else, serial_refusal, message_refusal, IsNext}
+use Rattle.rbac_words.specs.Keeping.Members.{AreMembers, no_member, member_at, world_of}
+use Rattle.rbac_terms.specs.declared.command.Command.{Command}
 use Rattle.rbac_words.specs.declared.event.Event.{Event}
 use Rattle.rbac_words.specs.declared.event.Event.TheVariants.{Submit, Receive, Deliver}
 use Rattle.rbac_words.specs.declared.event.Outcome.{Outcome}

@@ -2,17 +2,18 @@
 use Rattle.std.proofs.Common.{ℕ, zero, suc, true, ◌≡◌, ◌≤◌, ◌<◌, ◌+◌, ◌==◌, List, [], ◌∷◌, ◌++◌, length, map, take, drop, take_at, get_or, Result, refl, sym, ap, subst, ◌∙◌, arith}
 use Rattle.std.specs.List.{list_all}
 use Rattle.std.proofs.lemmas.List.{length-map}
-use Rattle.rbac_words.specs.Founding.{Group, Vocabulary, IsGroup}
+use Rattle.rbac_terms.specs.Vocabulary.{Vocabulary}
+use Rattle.rbac_words.specs.Group.{Group, IsGroup}
 use Rattle.rbac_words.specs.World.{World, Node, nobody, read_of}
 use Rattle.rbac_words.specs.Right.{founding_world}
 use Rattle.rbac_words.specs.Play.{IsReadToEnd}
 use Rattle.rbac_words.specs.Step.{IsStep}
-use Rattle.rbac_words.specs.Member.{Member, node_of, founded, numbers}
-use Rattle.rbac_words.specs.Members.{no_member, AreMembers, member_at, world_of}
+use Rattle.rbac_words.specs.Keeping.Member.{Member, node_of, founded, numbers}
+use Rattle.rbac_words.specs.Keeping.Members.{no_member, AreMembers, member_at, world_of}
 use Rattle.rbac_words.specs.declared.event.Event.{Event}
 use Rattle.rbac_words.specs.declared.event.Outcome.{Outcome}
 use Rattle.rbac_words.specs.declared.event.Refusal.{Refusal}
-use Rattle.rbac_words.proofs.ListLemmas.{map-push}
+use Rattle.sorted_keys.proofs.Lists.{map-push}
 use Rattle.rbac_order.proofs.GroupLemmas.{node-of_member, inside, apart, same_number, other_number}
 use Rattle.rbac_order.proofs.SenderLemmas.{decide}
 use Rattle.rbac_order.proofs.StepLemmas.{founded_members, founding_are, founded-nodes}

@@ -1,9 +1,10 @@
 -- A world's members as the world of the definitions.
 use Rattle.std.specs.Prelude.{ℕ, Bool, ◌<◌, ◌==◌, ◌||◌, List, length, map}
-use Rattle.rbac_words.specs.Founding.{Group, Vocabulary}
+use Rattle.rbac_terms.specs.Vocabulary.{Vocabulary}
+use Rattle.rbac_words.specs.Group.{Group}
 use Rattle.rbac_words.specs.World.{World}
-use Rattle.rbac_words.specs.Member.{Member, founded, numbers}
-use Rattle.rbac_words.specs.Members.{AreMembers, member_at, world_of}
+use Rattle.rbac_words.specs.Keeping.Member.{Member, founded, numbers}
+use Rattle.rbac_words.specs.Keeping.Members.{AreMembers, member_at, world_of}
 use Rattle.rbac_member.specs.Calls.{taken_of}
 use Rattle.rbac_world.specs.declared.world.World.TheInside.{Inside}
 

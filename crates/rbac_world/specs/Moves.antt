@@ -1,11 +1,12 @@
 -- What one member's move leaves of the members of a group.
 use Rattle.std.specs.Prelude.{ℕ, Bool, true, not, ◌≡◌, ◌≢◌, ◌+◌, ◌==◌, ◌||◌, nat_lt, if◌then◌else◌, List, length, slice_set, Option, Some, None, is_some, Result, IfOk, IfErr, OnOk, OnErr}
-use Rattle.rbac_words.specs.Founding.{Group, Vocabulary}
+use Rattle.rbac_terms.specs.Vocabulary.{Vocabulary}
+use Rattle.rbac_words.specs.Group.{Group}
 use Rattle.rbac_words.specs.World.{stamp, message, acknowledgement, must_acknowledge, place_of, submit_refusal}
 use Rattle.rbac_words.specs.Step.{IsStep}
-use Rattle.rbac_words.specs.Member.{Member, node_of, submitted, received, deliver_due, due_at, message_refusal}
-use Rattle.rbac_words.specs.Members.{AreMembers, member_at, world_of}
-use Rattle.rbac_words.specs.declared.command.Command.{Command}
+use Rattle.rbac_words.specs.Keeping.Member.{Member, node_of, submitted, received, deliver_due, due_at, message_refusal}
+use Rattle.rbac_words.specs.Keeping.Members.{AreMembers, member_at, world_of}
+use Rattle.rbac_terms.specs.declared.command.Command.{Command}
 use Rattle.rbac_words.specs.declared.event.Event.{Event}
 use Rattle.rbac_words.specs.declared.event.Outcome.{Outcome}
 use Rattle.rbac_words.specs.declared.event.Outcome.TheVariants.{Submitted, Received, Delivered}

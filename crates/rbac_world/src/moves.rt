@@ -1,8 +1,8 @@
 //! What one member of a group does upon an event.
 ghost use Rattle.std.specs.Prelude.{◌≡◌, ◌≢◌, ◌<◌, true, false, length, IfSome, IfNone};
 ghost use Rattle.rbac_words.specs.World.{message};
-ghost use Rattle.rbac_words.specs.Member.{node_of};
-ghost use Rattle.rbac_words.specs.Members.{member_at};
+ghost use Rattle.rbac_words.specs.Keeping.Member.{node_of};
+ghost use Rattle.rbac_words.specs.Keeping.Members.{member_at};
 ghost use Rattle.rbac_world.specs.Moves.{IsMoved, IsMovedAt, is_sent, submit_of, receipt_of, delivery_of};
 
 use rbac_member::Member;

@@ -1,7 +1,8 @@
 //! The step of a group: what an event is for its members.
 ghost use Rattle.std.specs.Prelude.{◌≡◌, ◌<◌, ◌+◌, ◌⊎◌, length, IfOk, IfErr};
-ghost use Rattle.rbac_words.specs.Founding.{Group as GroupValue, Vocabulary as VocabularyValue};
-ghost use Rattle.rbac_words.specs.Members.{AreMembers};
+ghost use Rattle.rbac_terms.specs.Vocabulary.{Vocabulary as VocabularyValue};
+ghost use Rattle.rbac_words.specs.Group.{Group as GroupValue};
+ghost use Rattle.rbac_words.specs.Keeping.Members.{AreMembers};
 ghost use Rattle.rbac_words.specs.declared.event.Event.TheVariants as event;
 ghost use Rattle.rbac_world.specs.Moves.{IsGroupStep};
 

@@ -4,7 +4,7 @@ ghost use Rattle.std.specs.List.{list_all};
 ghost use Rattle.rbac_words.specs.Message.{commands_of};
 ghost use Rattle.rbac_words.specs.World.{is_member, node, nobody, step_outcome};
 ghost use Rattle.rbac_words.specs.Right.{all_commands, founding_world, AreHistoriesRight};
-ghost use Rattle.rbac_words.specs.Member.{node_of, founded};
+ghost use Rattle.rbac_words.specs.Keeping.Member.{node_of, founded};
 ghost use Rattle.rbac_words.specs.Play.{IsReadToEnd, IsPrefixOf};
 ghost use Rattle.rbac_words.specs.Step.{IsStep};
 ghost use Rattle.rbac_words.specs.declared.event.Event.TheVariants as event;

@@ -1,7 +1,7 @@
 //! Answers, their copies and when they are the same.
 
 use super::{assert_names, name, pairs, set};
-use rbac_words::{Answer, Denial, Name, NameSet, PermissionSet};
+use rbac_terms::{Answer, Denial, Name, NameSet, PermissionSet};
 use sorted_keys::{Same, SortedSet};
 use std::alloc::Global;
 use std::process::Abort;

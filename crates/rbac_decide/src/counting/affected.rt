@@ -3,14 +3,14 @@ ghost use Rattle.std.specs.Prelude.{◌≡◌, ◌&&◌, ◌||◌, ◌∷◌, []
 ghost use Rattle.std.specs.List.{list_any};
 ghost use Rattle.std.specs.Ordering.{eq_by_cmp};
 ghost use Rattle.sorted_keys.specs.Keys.{has};
-ghost use Rattle.rbac_words.specs.Name.{Name as NameValue, name_cmp, pair_cmp};
+ghost use Rattle.rbac_terms.specs.Name.{Name as NameValue, name_cmp, pair_cmp};
 ghost use Rattle.rbac_decide.specs.Counting.{authorized_by, authorized_users_by, juniors_by, touches, is_touched, of_touched, of_set, may_change};
 
 use crate::authorization::is_authorized;
 use crate::tables::Tables;
 use rbac_hierarchy::RoleOrder;
 use rbac_separation::RoleSet;
-use rbac_words::{Command, Name, NameSet, Separation};
+use rbac_terms::{Command, Name, NameSet, Separation};
 use sorted_keys::KeyTest;
 use std::alloc::{AllocError, Global};
 

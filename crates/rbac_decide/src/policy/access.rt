@@ -4,17 +4,17 @@ ghost use Rattle.sorted_keys.specs.Keys.{has};
 ghost use Rattle.std.specs.List.{list_all};
 ghost use Rattle.std.specs.Option.{option_copied};
 ghost use Rattle.std.specs.FinMap.Entries.{find};
-ghost use Rattle.rbac_words.specs.Name.{name_cmp};
-ghost use Rattle.rbac_words.specs.Authorization.{inherits_in, is_authorized as is_authorized_in};
-ghost use Rattle.rbac_words.specs.Rows.{is_owner, is_active};
-ghost use Rattle.rbac_words.specs.Effect.{reply};
-ghost use Rattle.rbac_words.specs.declared.command.Command.TheVariants.{CheckAccess};
+ghost use Rattle.rbac_terms.specs.Name.{name_cmp};
+ghost use Rattle.rbac_terms.specs.Authorization.{inherits_in, is_authorized as is_authorized_in};
+ghost use Rattle.rbac_terms.specs.Rows.{is_owner, is_active};
+ghost use Rattle.rbac_terms.specs.Effect.{reply};
+ghost use Rattle.rbac_terms.specs.declared.command.Command.TheVariants.{CheckAccess};
 
 use crate::authorization::{is_authorized, is_authorized_for_all};
 use crate::policy::Policy;
 use rbac_hierarchy::RoleOrder;
 use rbac_sessions::Session;
-use rbac_words::{Answer, Name};
+use rbac_terms::{Answer, Name};
 
 impl Policy {
     /// Whether it is one of the roles.

@@ -1,6 +1,6 @@
 //! The preconditions of each command.
 ghost use Rattle.std.specs.Prelude.{◌≡◌, Ok, Err, if◌then◌else◌};
-ghost use Rattle.rbac_words.specs.Rows.{first_denial};
+ghost use Rattle.rbac_terms.specs.Rows.{first_denial};
 ghost use Rattle.rbac_decide.specs.Denying.{TellsDenial};
 
 mod administration;
@@ -11,7 +11,7 @@ mod sessions;
 
 use crate::policy::Policy;
 use crate::policy::hindrance::Hindrance;
-use rbac_words::{Command, Denial};
+use rbac_terms::{Command, Denial};
 use std::alloc::Global;
 
 // Denies where a precondition fails.

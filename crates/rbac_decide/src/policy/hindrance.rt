@@ -1,7 +1,7 @@
 //! Why a command is not carried out.
 ghost use Rattle.std.specs.Prelude.{◌≡◌};
 
-use rbac_words::Denial;
+use rbac_terms::Denial;
 use std::alloc::AllocError;
 
 /// What stands in the way of a command: its first failing precondition, or want of memory while preconditions were tried.

@@ -1,13 +1,13 @@
 //! The answers to reviews.
 ghost use Rattle.std.specs.Prelude.{◌≡◌, IfOk};
-ghost use Rattle.rbac_words.specs.Effect.{reply};
-ghost use Rattle.rbac_words.specs.Reviews.{review_answer};
-ghost use Rattle.rbac_words.specs.declared.command.Command.TheVariants.{Review as ReviewCommand};
+ghost use Rattle.rbac_terms.specs.Effect.{reply};
+ghost use Rattle.rbac_terms.specs.Reviews.{review_answer};
+ghost use Rattle.rbac_terms.specs.declared.command.Command.TheVariants.{Review as ReviewCommand};
 ghost use Rattle.rbac_review.specs.Parts.{state_of as state_of_parts};
 
 use crate::policy::Policy;
 use rbac_review::Parts;
-use rbac_words::{Answer, Review};
+use rbac_terms::{Answer, Review};
 use std::alloc::{AllocError, Global};
 
 impl Policy {

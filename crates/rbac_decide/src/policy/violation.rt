@@ -2,16 +2,16 @@
 //! what the change touches needs to be tried.
 ghost use Rattle.std.specs.Prelude.{◌≡◌, IsTrue, IfOk};
 ghost use Rattle.sorted_keys.specs.Keys.{has};
-ghost use Rattle.rbac_words.specs.Name.{name_cmp};
-ghost use Rattle.rbac_words.specs.Change.{change};
-ghost use Rattle.rbac_words.specs.Constraints.{is_violated, is_badly_sized};
-ghost use Rattle.rbac_words.specs.Rows.{is_session, is_set};
-ghost use Rattle.rbac_words.specs.declared.separation.Separation.TheVariants.{Static, Dynamic};
-ghost use Rattle.rbac_words.specs.declared.command.Command.TheVariants.{AssignUser, AddInheritance, CreateSession, AddActiveRole, CreateSet, AddRoleMember, DeleteRoleMember, SetCardinality};
+ghost use Rattle.rbac_terms.specs.Name.{name_cmp};
+ghost use Rattle.rbac_terms.specs.Change.{change};
+ghost use Rattle.rbac_terms.specs.Constraints.{is_violated, is_badly_sized};
+ghost use Rattle.rbac_terms.specs.Rows.{is_session, is_set};
+ghost use Rattle.rbac_terms.specs.declared.separation.Separation.TheVariants.{Static, Dynamic};
+ghost use Rattle.rbac_terms.specs.declared.command.Command.TheVariants.{AssignUser, AddInheritance, CreateSession, AddActiveRole, CreateSet, AddRoleMember, DeleteRoleMember, SetCardinality};
 
 use crate::policy::Policy;
 use crate::policy::separation::is_well_sized;
-use rbac_words::{Name, NameSet, Separation};
+use rbac_terms::{Name, NameSet, Separation};
 use std::alloc::{AllocError, Global};
 
 impl Policy {

@@ -1,16 +1,16 @@
 //! Changes of the roles and of the declared pairs, in the role sets and in the hierarchy alike.
 ghost use Rattle.std.specs.Prelude.{◌≡◌, IsTrue, OnOk, OnErr};
 ghost use Rattle.sorted_keys.specs.Keys.{has, with_key};
-ghost use Rattle.rbac_words.specs.Name.{name_cmp};
-ghost use Rattle.rbac_words.specs.Change.{change};
-ghost use Rattle.rbac_words.specs.Founding.{Vocabulary as VocabularyValue};
-ghost use Rattle.rbac_words.specs.declared.command.Command.TheVariants.{AddRole, DeleteRole, AddInheritance, DeleteInheritance};
+ghost use Rattle.rbac_terms.specs.Name.{name_cmp};
+ghost use Rattle.rbac_terms.specs.Change.{change};
+ghost use Rattle.rbac_terms.specs.Vocabulary.{Vocabulary as VocabularyValue};
+ghost use Rattle.rbac_terms.specs.declared.command.Command.TheVariants.{AddRole, DeleteRole, AddInheritance, DeleteInheritance};
 
 use crate::ending::WithActive;
 use crate::tables::Tables;
 use rbac_hierarchy::RoleOrder;
 use rbac_rolesets::Change;
-use rbac_words::Name;
+use rbac_terms::Name;
 use std::alloc::{AllocError, Global};
 
 impl Tables {

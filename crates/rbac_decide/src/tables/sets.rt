@@ -1,11 +1,11 @@
 //! Changes of the sets of separation of a kind.
 ghost use Rattle.std.specs.Prelude.{◌≡◌, OnOk, OnErr};
-ghost use Rattle.rbac_words.specs.Change.{change};
-ghost use Rattle.rbac_words.specs.Founding.{Vocabulary as VocabularyValue};
-ghost use Rattle.rbac_words.specs.declared.command.Command.TheVariants.{CreateSet, DeleteSet, AddRoleMember, DeleteRoleMember, SetCardinality};
+ghost use Rattle.rbac_terms.specs.Change.{change};
+ghost use Rattle.rbac_terms.specs.Vocabulary.{Vocabulary as VocabularyValue};
+ghost use Rattle.rbac_terms.specs.declared.command.Command.TheVariants.{CreateSet, DeleteSet, AddRoleMember, DeleteRoleMember, SetCardinality};
 
 use crate::tables::Tables;
-use rbac_words::{Name, NameSet, Separation};
+use rbac_terms::{Name, NameSet, Separation};
 use std::alloc::AllocError;
 
 impl Tables {

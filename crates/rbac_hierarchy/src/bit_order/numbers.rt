@@ -2,12 +2,12 @@
 ghost use Rattle.std.specs.Prelude.{◌≡◌, ◌↔◌, ◌<◌, ◌||◌, ◌&&◌, ℕ, Bool, IsTrue, IfOk, IfSome, IfNone, length, false};
 ghost use Rattle.sorted_keys.specs.Keys.{has};
 ghost use Rattle.bit_rows.specs.Bits.{related};
-ghost use Rattle.rbac_words.specs.Name.{Name as NameValue, name_cmp};
+ghost use Rattle.rbac_terms.specs.Name.{Name as NameValue, name_cmp};
 ghost use Rattle.rbac_hierarchy.specs.Numbers.{role_at, roles_of};
 
 use bit_rows::Relation;
 use indexmap::IndexSet;
-use rbac_words::{Name, NameSet};
+use rbac_terms::{Name, NameSet};
 use sorted_keys::KeyTest;
 use std::alloc::AllocError;
 

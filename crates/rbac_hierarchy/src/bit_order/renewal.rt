@@ -2,14 +2,14 @@
 ghost use Rattle.std.specs.Prelude.{◌≡◌, ◌<◌, ℕ, IsTrue, IfOk, OnOk, [], filter, length};
 ghost use Rattle.sorted_keys.specs.Keys.{has};
 ghost use Rattle.bit_rows.specs.Bits.{AreBelow, count};
-ghost use Rattle.rbac_words.specs.Name.{Name as NameValue, name_cmp, pair_cmp};
+ghost use Rattle.rbac_terms.specs.Name.{Name as NameValue, name_cmp, pair_cmp};
 ghost use Rattle.rbac_hierarchy.specs.Numbers.{ArePairsAbove, IsExact};
 ghost use Rattle.rbac_hierarchy.specs.Renewal.{HasPairsOf, IsRenewed};
 
 use crate::bit_order::numbers::number;
 use bit_rows::Relation;
 use indexmap::IndexSet;
-use rbac_words::Name;
+use rbac_terms::Name;
 use sorted_keys::{KeyTest, SortedSet};
 use std::alloc::{AllocError, Global};
 

@@ -37,7 +37,7 @@ fn take_over(held: &mut Holdback, history: &mut Vec<Record>, answer: Answer)
 }
 
 impl Member {
-    ghost use Rattle.rbac_words.specs.Member.{deliver_due, due_at, node_of};
+    ghost use Rattle.rbac_words.specs.Keeping.Member.{deliver_due, due_at, node_of};
     ghost use Rattle.rbac_words.specs.World.{place_of};
 
     /// Delivers the command that is due, if one is: it leaves what is held, its record joins the history, and the policy

@@ -40,7 +40,7 @@ fn acknowledge(outbox: &mut Outbox, stamp: Option<Stamp>)
 }
 
 impl Member {
-    ghost use Rattle.rbac_words.specs.Member.{IsNext, node_of, links_of, received, serial_refusal, message_refusal};
+    ghost use Rattle.rbac_words.specs.Keeping.Member.{IsNext, node_of, links_of, received, serial_refusal, message_refusal};
     ghost use Rattle.rbac_words.specs.World.{must_acknowledge, clock_after, acknowledgement, room_refusal};
     ghost use Rattle.rbac_member.specs.Calls.{receipt_refused, rule_of};
 

@@ -48,7 +48,7 @@ fn send(
 }
 
 impl Member {
-    ghost use Rattle.rbac_words.specs.Member.{submitted, node_of};
+    ghost use Rattle.rbac_words.specs.Keeping.Member.{submitted, node_of};
     ghost use Rattle.rbac_words.specs.World.{stamp, submit_refusal};
     ghost use Rattle.rbac_member.specs.Calls.{submit_refused, rule_of};
 

@@ -1,8 +1,8 @@
 //! What a node says of a pass, and of another node.
 ghost use Rattle.std.specs.Prelude.{◌≡◌, ◌≢◌, ◌≤◌, ◌&&◌, ◌==◌, nat_le, true, length, max, OnOk, OnErr};
 ghost use Rattle.rbac_words.specs.World.{read_of};
-ghost use Rattle.rbac_words.specs.Member.{IsNumber, node_of};
-ghost use Rattle.rbac_words.specs.Members.{HasRead};
+ghost use Rattle.rbac_words.specs.Keeping.Member.{IsNumber, node_of};
+ghost use Rattle.rbac_words.specs.Keeping.Members.{HasRead};
 ghost use Rattle.rbac_words.specs.Play.{IsPrefixOf};
 ghost use Rattle.rbac_board.specs.Known.{Agree, IsOf};
 ghost use Rattle.rbac_node.specs.Cells.{history_cells};

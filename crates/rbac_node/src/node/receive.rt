@@ -1,7 +1,7 @@
 //! How a node receives what other members' rows show.
 ghost use Rattle.std.specs.Prelude.{◌≡◌, ◌≢◌, ◌⊎◌, ◌≤◌, ◌<◌, ◌+◌, true, false, None, Some, length, slice_get, IfOk, IfErr, OnOk, OnErr};
 ghost use Rattle.rbac_words.specs.World.{read_of};
-ghost use Rattle.rbac_words.specs.Member.{node_of};
+ghost use Rattle.rbac_words.specs.Keeping.Member.{node_of};
 ghost use Rattle.rbac_words.specs.Play.{IsPrefixOf};
 ghost use Rattle.rbac_board.specs.Known.{IsOf};
 ghost use Rattle.rbac_node.specs.Cells.{sent_cells};

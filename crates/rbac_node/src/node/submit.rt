@@ -8,7 +8,7 @@ use rbac_words::{Command, Stamp};
 use std::alloc::{AllocError, Global};
 
 impl<G: GroupName> Node<G> {
-    ghost use Rattle.rbac_words.specs.Member.{submitted, node_of, due_at, deliver_due};
+    ghost use Rattle.rbac_words.specs.Keeping.Member.{submitted, node_of, due_at, deliver_due};
     ghost use Rattle.rbac_words.specs.World.{stamp, submit_refusal, place_of};
     ghost use Rattle.rbac_member.specs.Calls.{submit_refused, rule_of};
     ghost use Rattle.rbac_node.specs.Node.{with_member, AreDeliveries};

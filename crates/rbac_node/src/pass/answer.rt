@@ -1,6 +1,6 @@
 //! How a pass finds the answer to its ticket's command, and goes on to it.
 ghost use Rattle.std.specs.Prelude.{◌≡◌, ◌≤◌, ◌<◌, ◌+◌, true, Some, max, length, IfOk, IfSome, OnOk, OnErr, MatchOption, slice_get};
-ghost use Rattle.rbac_words.specs.declared.answer.Answer.{Answer};
+ghost use Rattle.rbac_terms.specs.declared.answer.Answer.{Answer};
 ghost use Rattle.rbac_node.specs.Pass.{answered_with};
 
 use crate::group_name::GroupName;

@@ -1,6 +1,6 @@
 //! What is asked of the members at the end.
 ghost use Rattle.std.specs.Prelude.{OnOk};
-ghost use Rattle.rbac_words.specs.Members.{world_of};
+ghost use Rattle.rbac_words.specs.Keeping.Members.{world_of};
 ghost use Rattle.rbac_words.specs.Right.{AreHistoriesRight};
 ghost use Rattle.rbac_node.specs.Node.{members_of};
 

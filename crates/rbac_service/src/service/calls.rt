@@ -1,6 +1,6 @@
 //! What callers do.
 ghost use Rattle.std.specs.Prelude.{◌≡◌, ◌≢◌, ◌↔◌, ◌<◌, ◌+◌, max, true, false, None, [], length, IfOk, IfErr, IfSome, OnOk, OnErr};
-ghost use Rattle.rbac_words.specs.Member.{IsNumber};
+ghost use Rattle.rbac_words.specs.Keeping.Member.{IsNumber};
 ghost use Rattle.rbac_node.specs.Cells.{history_cells};
 ghost use Rattle.rbac_node.specs.Pass.{Owns, IsAnswered};
 ghost use Rattle.rbac_words.specs.Play.{IsPrefixOf};

@@ -1,6 +1,6 @@
 //! The body of a member's thread.
 ghost use Rattle.std.specs.Prelude.{◌≡◌, ◌↔◌};
-ghost use Rattle.rbac_words.specs.Member.{IsNumber};
+ghost use Rattle.rbac_words.specs.Keeping.Member.{IsNumber};
 
 use crate::courier::Courier;
 use crate::gate::Gate;

@@ -1,8 +1,8 @@
 use Rattle.std.proofs.Common.{Bool, ◌∙◌, ap, count_by}
 use Rattle.std.specs.List.{list_any}
-use Rattle.rbac_words.specs.Name.{Name}
-use Rattle.rbac_words.specs.Relations.{begins_with}
-use Rattle.rbac_words.specs.Inheritance.{inherits}
+use Rattle.rbac_terms.specs.Name.{Name}
+use Rattle.rbac_terms.specs.Relations.{begins_with}
+use Rattle.rbac_terms.specs.Inheritance.{inherits}
 use Rattle.rbac_review.proofs.ReviewLemmas.{any-filter}
 use Rattle.rbac_decide.proofs.authorization.count_authorized.Goals as goal
 

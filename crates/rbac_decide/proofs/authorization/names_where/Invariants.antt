@@ -1,6 +1,6 @@
 use Rattle.std.proofs.Common.{◌≡◌, ◌||◌, ◌&&◌, drop}
 use Rattle.sorted_keys.specs.Keys.{has}
-use Rattle.rbac_words.specs.Name.{Name, name_cmp}
+use Rattle.rbac_terms.specs.Name.{Name, name_cmp}
 use Rattle.rbac_decide.proofs.authorization.names_where.Given as goal
 
 abbrev pub invariant-loop-name : goal.invariant-loop-name

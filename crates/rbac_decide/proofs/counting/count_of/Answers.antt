@@ -1,7 +1,7 @@
 use Rattle.std.proofs.Common.{◌≡◌, false, sym}
-use Rattle.rbac_words.specs.Name.{Name, name_cmp}
-use Rattle.rbac_words.specs.Separation.{RoleSet, is_broken_by}
-use Rattle.rbac_rules.proofs.SoundParts.{each_found}
+use Rattle.rbac_terms.specs.Name.{Name, name_cmp}
+use Rattle.rbac_terms.specs.Separation.{RoleSet, is_broken_by}
+use Rattle.sorted_keys.proofs.Kept.{each_found}
 use Rattle.rbac_rules.proofs.SoundSeparation.{none_passes}
 use Rattle.rbac_decide.specs.Counting.{authorized_by}
 use Rattle.rbac_decide.proofs.counting.count_of.Goals as goal

@@ -2,7 +2,7 @@ use Rattle.std.proofs.Common.{◌≡◌, ◌+◌, ◌∙◌, ◌∷◌, cond, le
 use Rattle.std.proofs.lemmas.Bool.{or_right}
 use Rattle.std.specs.Vec.Iter.{into_iter_items}
 use Rattle.sorted_keys.specs.Keys.{has}
-use Rattle.rbac_words.specs.Name.{pair_cmp}
+use Rattle.rbac_terms.specs.Name.{pair_cmp}
 use Rattle.rbac_separation.specs.Counts.{numbers_of, with_number}
 use Rattle.rbac_decide.specs.Counting.{count_by_tables}
 use Rattle.rbac_decide.proofs.AffectedLemmas.{Pairs, next_has, one_pair_done}

@@ -1,7 +1,7 @@
 use Rattle.std.proofs.Common.{◌≡◌, ◌≤◌, true, false, cond, length}
 use Rattle.std.specs.Vec.Iter.{into_iter_items}
 use Rattle.sorted_keys.specs.Keys.{has}
-use Rattle.rbac_words.specs.Name.{Name, pair_cmp}
+use Rattle.rbac_terms.specs.Name.{Name, pair_cmp}
 use Rattle.rbac_separation.specs.Counts.{numbers_of}
 use Rattle.rbac_decide.specs.Counting.{breaks_some, count_by_tables}
 use Rattle.rbac_decide.proofs.counting.recount.Given as goal

@@ -1,14 +1,14 @@
 //! The first failing precondition of each command about users, roles, assignments and permissions.
 ghost use Rattle.std.specs.Prelude.{◌≡◌};
-ghost use Rattle.rbac_words.specs.Rows.{first_denial};
-ghost use Rattle.rbac_words.specs.declared.command.Command.TheVariants.{AddUser, DeleteUser, AddRole, DeleteRole, AssignUser, DeassignUser, GrantPermission, RevokePermission};
+ghost use Rattle.rbac_terms.specs.Rows.{first_denial};
+ghost use Rattle.rbac_terms.specs.declared.command.Command.TheVariants.{AddUser, DeleteUser, AddRole, DeleteRole, AssignUser, DeassignUser, GrantPermission, RevokePermission};
 ghost use Rattle.rbac_decide.specs.Denying.{verdict, TellsDenial};
 
 use crate::policy::Policy;
 use crate::policy::denial::deny_if;
 use crate::policy::hindrance::Hindrance;
-use rbac_words::limits::{MOST_ROLES, MOST_USERS};
-use rbac_words::{Denial, Name};
+use rbac_terms::limits::{MOST_ROLES, MOST_USERS};
+use rbac_terms::{Denial, Name};
 use std::alloc::Global;
 
 impl Policy {

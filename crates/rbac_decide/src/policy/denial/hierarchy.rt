@@ -1,15 +1,15 @@
 //! The first failing precondition of each command about the role hierarchy.
 ghost use Rattle.std.specs.Prelude.{◌≡◌};
-ghost use Rattle.rbac_words.specs.Rows.{first_denial, are_roles};
-ghost use Rattle.rbac_words.specs.declared.command.Command.TheVariants.{AddInheritance, DeleteInheritance, AddAscendant, AddDescendant};
+ghost use Rattle.rbac_terms.specs.Rows.{first_denial, are_roles};
+ghost use Rattle.rbac_terms.specs.declared.command.Command.TheVariants.{AddInheritance, DeleteInheritance, AddAscendant, AddDescendant};
 ghost use Rattle.rbac_decide.specs.Denying.{verdict, TellsDenial};
 
 use crate::policy::Policy;
 use crate::policy::denial::deny_if;
 use crate::policy::hindrance::Hindrance;
 use rbac_hierarchy::RoleOrder;
-use rbac_words::limits::MOST_ROLES;
-use rbac_words::{Denial, Name};
+use rbac_terms::limits::MOST_ROLES;
+use rbac_terms::{Denial, Name};
 use std::alloc::Global;
 
 impl Policy {

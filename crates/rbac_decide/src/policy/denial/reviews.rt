@@ -1,14 +1,14 @@
 //! The preconditions of each review.
 ghost use Rattle.std.specs.Prelude.{◌≡◌, ◌∷◌, [], not};
 ghost use Rattle.sorted_keys.specs.Keys.{has};
-ghost use Rattle.rbac_words.specs.Name.{name_cmp};
-ghost use Rattle.rbac_words.specs.Rows.{◌when◌, leftmost, is_session, is_set, review_preconditions};
-ghost use Rattle.rbac_words.specs.declared.answer.Denial.TheVariants.{NoUser, NoRole, NoSession, NoSet, NoObject};
+ghost use Rattle.rbac_terms.specs.Name.{name_cmp};
+ghost use Rattle.rbac_terms.specs.Rows.{◌when◌, leftmost, is_session, is_set, review_preconditions};
+ghost use Rattle.rbac_terms.specs.declared.answer.Denial.TheVariants.{NoUser, NoRole, NoSession, NoSet, NoObject};
 ghost use Rattle.rbac_decide.specs.Denying.{unless_denied};
 
 use crate::policy::Policy;
 use crate::policy::denial::deny_if;
-use rbac_words::{Denial, Name, Review, Separation};
+use rbac_terms::{Denial, Name, Review, Separation};
 
 impl Policy {
     fn has_user_or_denies(&self, user: &Name) -> Result<(), Denial>
@@ -36,7 +36,7 @@ impl Policy {
     }
 
     fn has_role_and_object_or_denies(&self, role: &Name, object: &Name) -> Result<(), Denial>
-        ensures { result ≡ unless_denied (leftmost ((NoRole when not (has name_cmp role.now self.now.roles)) ∷ (NoObject when not (has name_cmp object.now self.now.objects)) ∷ [])) }
+        ensures { result ≡ unless_denied (leftmost ((NoRole when not (has name_cmp role.now self.now.roles)) ∷ (NoObject when not (has name_cmp object.now self.now.vocabulary.objects)) ∷ [])) }
     {
         deny_if(!self.has_role(role), Denial::NoRole)?;
         deny_if(!self.vocabulary.has_object(object), Denial::NoObject)?;
@@ -44,7 +44,7 @@ impl Policy {
     }
 
     fn has_user_and_object_or_denies(&self, user: &Name, object: &Name) -> Result<(), Denial>
-        ensures { result ≡ unless_denied (leftmost ((NoUser when not (has name_cmp user.now self.now.users)) ∷ (NoObject when not (has name_cmp object.now self.now.objects)) ∷ [])) }
+        ensures { result ≡ unless_denied (leftmost ((NoUser when not (has name_cmp user.now self.now.users)) ∷ (NoObject when not (has name_cmp object.now self.now.vocabulary.objects)) ∷ [])) }
     {
         deny_if(!self.tables.sets.has_user(user), Denial::NoUser)?;
         deny_if(!self.vocabulary.has_object(object), Denial::NoObject)?;

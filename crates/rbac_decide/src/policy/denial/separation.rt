@@ -2,17 +2,17 @@
 ghost use Rattle.std.specs.Prelude.{◌≡◌, Ok, Err, if◌then◌else◌};
 ghost use Rattle.std.specs.List.{list_all};
 ghost use Rattle.sorted_keys.specs.Keys.{has};
-ghost use Rattle.rbac_words.specs.Name.{name_cmp};
-ghost use Rattle.rbac_words.specs.Constraints.{violation};
-ghost use Rattle.rbac_words.specs.Rows.{first_denial};
-ghost use Rattle.rbac_words.specs.declared.command.Command.TheVariants.{CreateSet, DeleteSet, AddRoleMember, DeleteRoleMember, SetCardinality};
+ghost use Rattle.rbac_terms.specs.Name.{name_cmp};
+ghost use Rattle.rbac_terms.specs.Constraints.{violation};
+ghost use Rattle.rbac_terms.specs.Rows.{first_denial};
+ghost use Rattle.rbac_terms.specs.declared.command.Command.TheVariants.{CreateSet, DeleteSet, AddRoleMember, DeleteRoleMember, SetCardinality};
 ghost use Rattle.rbac_decide.specs.Denying.{verdict, TellsDenial};
 
 use crate::policy::Policy;
 use crate::policy::denial::deny_if;
 use crate::policy::hindrance::Hindrance;
-use rbac_words::limits::MOST_SETS;
-use rbac_words::{Denial, Name, NameSet, Separation};
+use rbac_terms::limits::MOST_SETS;
+use rbac_terms::{Denial, Name, NameSet, Separation};
 
 // The denial that names what a kind asks.
 fn violation(kind: Separation) -> Denial

@@ -3,17 +3,17 @@ ghost use Rattle.std.specs.Prelude.{◌≡◌, IfErr, IfOk, OnOk, Ok, Err, Some,
 ghost use Rattle.std.specs.FinMap.Entries.{find};
 ghost use Rattle.std.specs.Ordering.{eq_by_cmp};
 ghost use Rattle.sorted_keys.specs.Keys.{has};
-ghost use Rattle.rbac_words.specs.Name.{name_cmp, pair_cmp};
-ghost use Rattle.rbac_words.specs.Rows.{first_denial};
-ghost use Rattle.rbac_words.specs.declared.command.Command.TheVariants.{CreateSession, DeleteSession, AddActiveRole, DropActiveRole, CheckAccess};
+ghost use Rattle.rbac_terms.specs.Name.{name_cmp, pair_cmp};
+ghost use Rattle.rbac_terms.specs.Rows.{first_denial};
+ghost use Rattle.rbac_terms.specs.declared.command.Command.TheVariants.{CreateSession, DeleteSession, AddActiveRole, DropActiveRole, CheckAccess};
 ghost use Rattle.rbac_decide.specs.Denying.{verdict, TellsDenial};
 
 use crate::policy::Policy;
 use crate::policy::denial::deny_if;
 use crate::policy::hindrance::Hindrance;
 use rbac_sessions::Session;
-use rbac_words::limits::MOST_SESSIONS;
-use rbac_words::{Denial, Name, NameSet};
+use rbac_terms::limits::MOST_SESSIONS;
+use rbac_terms::{Denial, Name, NameSet};
 
 impl Policy {
     pub(crate) fn may_create_session(
@@ -96,7 +96,7 @@ impl Policy {
         grants: &[((Name, Name), Name)],
     ) -> Result<(), Denial>
         requires { grants.now ≡ filter (λ grant. eq_by_cmp pair_cmp (operation.now, object.now) grant.0) self.now.granted }
-        ensures { result ≡ (if not (has name_cmp operation.now self.now.operations) then Err Denial.NoOperation else if not (has name_cmp object.now self.now.objects) then Err Denial.NoObject else Ok tt) }
+        ensures { result ≡ (if not (has name_cmp operation.now self.now.vocabulary.operations) then Err Denial.NoOperation else if not (has name_cmp object.now self.now.vocabulary.objects) then Err Denial.NoObject else Ok tt) }
     {
         if !grants.is_empty() {
             self.invariants();

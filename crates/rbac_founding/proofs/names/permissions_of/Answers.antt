@@ -1,6 +1,6 @@
 use Rattle.std.proofs.Common.{◌≡◌, ◌&&◌, ◌∙◌, ◌++◌, ◌+◌, rules, ◌∷◌, [], Ok, Err, drop, map, ap, sym}
 use Rattle.std.proofs.lemmas.Result.{err_from_is_err_and}
-use Rattle.rbac_words.specs.Name.{is_name}
+use Rattle.rbac_terms.specs.Name.{is_name}
 use Rattle.rbac_founding.specs.FoundingEntries.{pair_of}
 use Rattle.rbac_founding.proofs.FoundingLemmas.{read_from, read_from_next}
 use Rattle.rbac_founding.proofs.names.permissions_of.Goals as goal

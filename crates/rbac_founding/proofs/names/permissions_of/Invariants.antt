@@ -1,5 +1,5 @@
 use Rattle.std.proofs.Common.{◌≡◌, ◌&&◌, map, drop}
-use Rattle.rbac_words.specs.Name.{is_name}
+use Rattle.rbac_terms.specs.Name.{is_name}
 use Rattle.rbac_founding.specs.FoundingEntries.{permissions_of, pair_of}
 use Rattle.rbac_founding.proofs.FoundingLemmas.{read_from}
 use Rattle.rbac_founding.proofs.names.permissions_of.Given as goal

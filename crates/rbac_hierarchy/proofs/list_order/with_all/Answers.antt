@@ -1,6 +1,6 @@
 use Rattle.std.proofs.Common.{◌||◌, ◌∙◌, ap}
 use Rattle.sorted_keys.specs.Keys.{has}
-use Rattle.rbac_words.specs.Name.{name_cmp}
+use Rattle.rbac_terms.specs.Name.{name_cmp}
 use Rattle.rbac_hierarchy.proofs.LoopLemmas.{or_nothing, has_one_more, taken_whole}
 use Rattle.rbac_hierarchy.proofs.list_order.with_all.Goals as goal
 

@@ -1,7 +1,7 @@
 use Rattle.std.proofs.Common.{◌∙◌}
 use Rattle.std.specs.List.Sorted.{IsStrictlySortedBy}
 use Rattle.sorted_keys.specs.Keys.{by_key}
-use Rattle.rbac_words.specs.Name.{name_cmp}
+use Rattle.rbac_terms.specs.Name.{name_cmp}
 use Rattle.rbac_hierarchy.specs.Rows.{roles_in}
 use Rattle.rbac_hierarchy.proofs.EntryLemmas.{sorted_keys}
 use Rattle.rbac_hierarchy.proofs.RowLemmas.{key_among, rows_more}

@@ -1,5 +1,5 @@
 use Rattle.std.proofs.Common.{◌≡◌, map, take}
-use Rattle.rbac_words.specs.Inheritance.{juniors}
+use Rattle.rbac_terms.specs.Inheritance.{juniors}
 use Rattle.rbac_hierarchy.specs.Rows.{roles_in}
 use Rattle.rbac_hierarchy.proofs.rows.renewed_rows.Given as goal
 

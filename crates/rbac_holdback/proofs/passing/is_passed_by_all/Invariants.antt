@@ -1,5 +1,5 @@
 use Rattle.std.proofs.Common.{◌≡◌, length}
-use Rattle.rbac_words.specs.Member.{is_passed}
+use Rattle.rbac_words.specs.Keeping.Member.{is_passed}
 use Rattle.rbac_holdback.proofs.PassedLemmas.{passed_from}
 use Rattle.rbac_holdback.proofs.passing.is_passed_by_all.Given as goal
 

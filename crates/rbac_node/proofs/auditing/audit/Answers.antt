@@ -1,7 +1,7 @@
 use Rattle.std.proofs.Common.{ℕ, ◌≡◌, ◌<◌, List, length, map, ap, subst, ◌∙◌, sym, rules}
 use Rattle.std.proofs.lemmas.Simd.{map-map}
-use Rattle.rbac_words.specs.Member.{Member}
-use Rattle.rbac_words.specs.Members.{AreMembers}
+use Rattle.rbac_words.specs.Keeping.Member.{Member}
+use Rattle.rbac_words.specs.Keeping.Members.{AreMembers}
 use Rattle.rbac_order.proofs.GroupLemmas.{right}
 use Rattle.rbac_node.specs.Node.{NodeState, IsNode, AreNodes, members_of, node_at}
 use Rattle.rbac_node.proofs.AuditLemmas.{are_members}

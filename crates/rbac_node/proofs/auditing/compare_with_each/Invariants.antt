@@ -1,5 +1,5 @@
 use Rattle.std.proofs.Common.{◌≡◌, ◌≢◌, ◌<◌, ℕ}
-use Rattle.rbac_words.specs.Members.{HasRead}
+use Rattle.rbac_words.specs.Keeping.Members.{HasRead}
 use Rattle.rbac_node.specs.Node.{node_at}
 use Rattle.rbac_node.proofs.auditing.compare_with_each.Given as goal
 

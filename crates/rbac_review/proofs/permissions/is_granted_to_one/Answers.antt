@@ -2,7 +2,7 @@ use Rattle.std.proofs.Common.{◌∙◌, ap}
 use Rattle.std.specs.List.{list_any}
 use Rattle.std.specs.Ordering.{eq_by_cmp}
 use Rattle.sorted_keys.specs.Keys.{has}
-use Rattle.rbac_words.specs.Name.{Grant, name_cmp, pair_cmp}
+use Rattle.rbac_terms.specs.Name.{Grant, name_cmp, pair_cmp}
 use Rattle.rbac_review.proofs.ReviewLemmas.{any-filter}
 use Rattle.rbac_review.proofs.permissions.is_granted_to_one.Goals as goal
 

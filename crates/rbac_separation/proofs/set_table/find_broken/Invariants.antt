@@ -1,5 +1,5 @@
 use Rattle.std.proofs.Common.{◌≡◌, drop}
-use Rattle.rbac_words.specs.Separation.{first_broken}
+use Rattle.rbac_terms.specs.Separation.{first_broken}
 use Rattle.rbac_separation.proofs.set_table.find_broken.Given as goal
 
 abbrev pub invariant-loop-entry : goal.invariant-loop-entry

@@ -5,8 +5,8 @@ use Rattle.std.specs.Cmp.{IsTotalOrder}
 use Rattle.std.proofs.lemmas.Map.Keys.{Less-from_sorted}
 use Rattle.sorted_keys.specs.Keys.{with_key, by_key}
 use Rattle.sorted_keys.proofs.Order.{greater}
-use Rattle.rbac_words.specs.Name.{name_cmp}
-use Rattle.rbac_words.proofs.NameLemmas.{names_total}
+use Rattle.rbac_terms.specs.Name.{name_cmp}
+use Rattle.rbac_terms.proofs.NameLemmas.{names_total}
 use Rattle.rbac_separation.proofs.set_table.names_of.Goals as goal
 
 -- the key of the next entry goes behind the keys before it

@@ -1,5 +1,5 @@
 use Rattle.std.proofs.Common.{sym, ap, ◌∙◌, ◌++◌, ◌∷◌, [], List}
-use Rattle.rbac_words.specs.Member.{Member}
+use Rattle.rbac_words.specs.Keeping.Member.{Member}
 use Rattle.rbac_world.specs.Inside.{founded_all}
 use Rattle.rbac_world.proofs.WorldLemmas.{founded-more}
 use Rattle.rbac_world.proofs.world.found_all.Goals as goal

@@ -1,5 +1,5 @@
 use Rattle.std.proofs.Common.{Ok, inr}
-use Rattle.rbac_words.specs.declared.answer.Answer.TheVariants.{Done}
+use Rattle.rbac_terms.specs.declared.answer.Answer.TheVariants.{Done}
 use Rattle.group_tests.proofs.conversations.ListingDesk.call.Goals as goal
 
 -- it was asked, and its reply is lost

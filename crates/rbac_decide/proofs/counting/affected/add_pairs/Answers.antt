@@ -1,6 +1,6 @@
 use Rattle.std.proofs.Common.{◌≡◌, ◌∙◌, ◌++◌, ◌∷◌, [], ap}
 use Rattle.sorted_keys.specs.Keys.{has}
-use Rattle.rbac_words.specs.Name.{Name, pair_cmp}
+use Rattle.rbac_terms.specs.Name.{Name, pair_cmp}
 use Rattle.rbac_decide.proofs.AffectedLemmas.{one_pair_more}
 use Rattle.rbac_decide.proofs.counting.affected.add_pairs.Goals as goal
 

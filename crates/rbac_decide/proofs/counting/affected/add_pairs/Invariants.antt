@@ -1,7 +1,7 @@
 use Rattle.std.proofs.Common.{◌≡◌, ◌||◌, ◌&&◌, take}
 use Rattle.std.specs.Ordering.{eq_by_cmp}
 use Rattle.sorted_keys.specs.Keys.{has}
-use Rattle.rbac_words.specs.Name.{Name, name_cmp, pair_cmp}
+use Rattle.rbac_terms.specs.Name.{Name, name_cmp, pair_cmp}
 use Rattle.rbac_decide.proofs.counting.affected.add_pairs.Given as goal
 
 abbrev pub invariant-loop-user : goal.invariant-loop-user

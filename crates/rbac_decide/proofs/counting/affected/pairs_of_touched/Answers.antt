@@ -1,7 +1,7 @@
 use Rattle.std.proofs.Common.{◌≡◌, ◌<◌, ◌∙◌, List, length, get_or, sym, ap, subst}
 use Rattle.sorted_keys.specs.Keys.{has}
-use Rattle.rbac_words.specs.Name.{Name, pair_cmp}
-use Rattle.rbac_words.specs.Separation.{RoleSet}
+use Rattle.rbac_terms.specs.Name.{Name, pair_cmp}
+use Rattle.rbac_terms.specs.Separation.{RoleSet}
 use Rattle.rbac_decide.proofs.AffectedLemmas.{touched_more, untouched_more}
 use Rattle.rbac_decide.proofs.counting.affected.pairs_of_touched.Goals as goal
 use Rattle.rbac_decide.proofs.counting.affected.pairs_of_touched.Goals.{then-touches+in_ok-add_pairs, else-touches}

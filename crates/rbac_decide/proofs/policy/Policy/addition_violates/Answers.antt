@@ -1,5 +1,5 @@
 use Rattle.std.proofs.Common.{Bool}
-use Rattle.rbac_words.specs.Change.{with_member}
+use Rattle.rbac_terms.specs.Change.{with_member}
 use Rattle.rbac_decide.proofs.SeparationLemmas.{if_same, updated_violated}
 use Rattle.rbac_decide.proofs.policy.Policy.addition_violates.Goals as goal
 

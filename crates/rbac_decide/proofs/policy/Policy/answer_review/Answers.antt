@@ -1,5 +1,5 @@
-use Rattle.rbac_words.specs.Rows.{leftmost, review_preconditions}
-use Rattle.rbac_words.specs.declared.command.Command.TheVariants.{Review as ReviewCommand}
+use Rattle.rbac_terms.specs.Rows.{leftmost, review_preconditions}
+use Rattle.rbac_terms.specs.declared.command.Command.TheVariants.{Review as ReviewCommand}
 use Rattle.rbac_decide.proofs.ApplyLemmas.{denied-reply}
 use Rattle.rbac_decide.proofs.policy.Policy.answer_review.Goals as goal
 

@@ -1,6 +1,6 @@
 use Rattle.std.proofs.Common.{◌∙◌, sym, ap}
 use Rattle.sorted_keys.specs.Keys.{has}
-use Rattle.rbac_words.specs.Name.{name_cmp}
+use Rattle.rbac_terms.specs.Name.{name_cmp}
 use Rattle.rbac_decide.proofs.FreshLemmas.{breaks_none_below}
 use Rattle.rbac_decide.proofs.policy.Policy.breaks_below.Goals as goal
 

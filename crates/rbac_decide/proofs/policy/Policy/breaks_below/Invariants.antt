@@ -1,7 +1,7 @@
 use Rattle.std.proofs.Common.{◌≡◌, ◌&&◌, drop}
 use Rattle.std.specs.List.{list_any}
-use Rattle.rbac_words.specs.Name.{Name}
-use Rattle.rbac_words.specs.Authorization.{is_authorized}
+use Rattle.rbac_terms.specs.Name.{Name}
+use Rattle.rbac_terms.specs.Authorization.{is_authorized}
 use Rattle.rbac_decide.specs.Breaking.{breaks_with}
 use Rattle.rbac_decide.proofs.policy.Policy.breaks_below.Given as goal
 

@@ -1,6 +1,6 @@
 use Rattle.std.proofs.Common.{◌∙◌, ap}
-use Rattle.rbac_words.specs.State.{State}
-use Rattle.rbac_words.specs.Constraints.{breaks_dynamic}
+use Rattle.rbac_terms.specs.State.{State}
+use Rattle.rbac_terms.specs.Constraints.{breaks_dynamic}
 use Rattle.rbac_decide.specs.Tables.{state_of}
 use Rattle.rbac_decide.proofs.SeparationLemmas.{over_tells}
 use Rattle.rbac_decide.proofs.policy.Policy.breaks_dynamic.Goals as goal

@@ -1,5 +1,5 @@
 use Rattle.std.proofs.Common.{◌∙◌, ap, is_some}
-use Rattle.rbac_words.specs.State.{State}
+use Rattle.rbac_terms.specs.State.{State}
 use Rattle.rbac_separation.specs.Counts.{first_over}
 use Rattle.rbac_decide.specs.Counting.{authorized_count}
 use Rattle.rbac_decide.proofs.policy.Policy.breaks_with_fresh.Goals as goal

@@ -1,8 +1,8 @@
 use Rattle.std.proofs.Common.{◌≡◌, ◌∙◌, ◌&&◌, not, subst}
 use Rattle.sorted_keys.specs.Keys.{has}
-use Rattle.rbac_words.specs.Name.{Name, name_cmp}
-use Rattle.rbac_words.specs.State.{State}
-use Rattle.rbac_words.specs.Authorization.{is_authorized}
+use Rattle.rbac_terms.specs.Name.{Name, name_cmp}
+use Rattle.rbac_terms.specs.State.{State}
+use Rattle.rbac_terms.specs.Authorization.{is_authorized}
 use Rattle.rbac_decide.proofs.FreshLemmas.{breaks_fresh}
 use Rattle.rbac_decide.proofs.policy.Policy.breaks_with_juniors.Goals as goal
 

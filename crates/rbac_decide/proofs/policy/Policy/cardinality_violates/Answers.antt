@@ -1,5 +1,5 @@
 use Rattle.std.proofs.Common.{◌∙◌, sym}
-use Rattle.rbac_words.specs.Change.{with_cardinality}
+use Rattle.rbac_terms.specs.Change.{with_cardinality}
 use Rattle.rbac_decide.proofs.SeparationLemmas.{updated_violated}
 use Rattle.rbac_decide.proofs.policy.Policy.cardinality_violates.Goals as goal
 

@@ -1,6 +1,6 @@
 use Rattle.std.proofs.Common.{◌∙◌, subst, sym, ap}
-use Rattle.rbac_words.specs.Sound.{IsSound}
-use Rattle.rbac_words.specs.Rows.{first_denial}
+use Rattle.rbac_terms.specs.Sound.{IsSound}
+use Rattle.rbac_terms.specs.Rows.{first_denial}
 use Rattle.rbac_decide.specs.Tables.{state_of}
 use Rattle.rbac_decide.proofs.ApplyLemmas.{sound_then}
 use Rattle.rbac_decide.proofs.TablesLemmas.{same_state, roles_stay_same, counts_stay_right}

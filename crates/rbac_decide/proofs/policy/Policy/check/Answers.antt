@@ -1,8 +1,8 @@
 use Rattle.std.proofs.Common.{ap, ◌∙◌}
 use Rattle.std.specs.List.{list_any}
-use Rattle.rbac_words.specs.Authorization.{inherits_in, has_permission}
-use Rattle.rbac_words.specs.Name.{Permission, Grant}
-use Rattle.rbac_words.specs.State.{State}
+use Rattle.rbac_terms.specs.Authorization.{inherits_in, has_permission}
+use Rattle.rbac_terms.specs.Name.{Permission, Grant}
+use Rattle.rbac_terms.specs.State.{State}
 use Rattle.rbac_rules.proofs.ReviewLemmas.{holds_what_is_listed}
 use Rattle.rbac_decide.specs.Tables.{state_of}
 use Rattle.rbac_decide.proofs.CheckLemmas.{has_by_grants}

@@ -1,8 +1,8 @@
 use Rattle.std.proofs.Common.{◌≡◌, ◌&&◌, List, subst}
 use Rattle.sorted_keys.specs.Keys.{has}
-use Rattle.rbac_words.specs.Name.{Name, name_cmp}
-use Rattle.rbac_words.specs.State.{State}
-use Rattle.rbac_words.specs.Separation.{is_constrained}
+use Rattle.rbac_terms.specs.Name.{Name, name_cmp}
+use Rattle.rbac_terms.specs.State.{State}
+use Rattle.rbac_terms.specs.Separation.{is_constrained}
 use Rattle.rbac_hierarchy.proofs.LoopLemmas.{if_each}
 use Rattle.rbac_decide.specs.Tables.{state_of}
 use Rattle.rbac_decide.specs.Breaking.{is_constrained_junior}

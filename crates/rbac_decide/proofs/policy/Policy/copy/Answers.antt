@@ -1,5 +1,5 @@
 use Rattle.std.proofs.Common.{◌∙◌, subst, sym, ap}
-use Rattle.rbac_words.specs.Sound.{IsSound}
+use Rattle.rbac_terms.specs.Sound.{IsSound}
 use Rattle.rbac_separation.specs.Counts.{numbers_of}
 use Rattle.rbac_decide.specs.Tables.{state_of}
 use Rattle.rbac_decide.proofs.TablesLemmas.{same_state, roles_stay_same, counts_stay_right}

@@ -1,7 +1,7 @@
 use Rattle.std.proofs.Common.{◌∙◌, List, length, refl, ap}
 use Rattle.std.specs.Bool.{◌==◌}
 use Rattle.std.proofs.lemmas.Bool.{false≢true}
-use Rattle.rbac_words.specs.Name.{Grant}
+use Rattle.rbac_terms.specs.Name.{Grant}
 use Rattle.rbac_decide.proofs.CheckLemmas.{granted_is_known}
 use Rattle.rbac_decide.proofs.policy.Policy.deny_unknown.Goals as goal
 

@@ -1,10 +1,10 @@
 use Rattle.std.proofs.Common.{rules, IsTrue, ◌∙◌, sym, ap}
 use Rattle.sorted_keys.specs.Keys.{has}
-use Rattle.rbac_words.specs.Name.{name_cmp}
-use Rattle.rbac_words.specs.Change.{change}
-use Rattle.rbac_words.specs.declared.command.Command.{Command}
-use Rattle.rbac_words.proofs.NameLemmas.{names_total}
-use Rattle.rbac_rules.proofs.SoundParts.{still}
+use Rattle.rbac_terms.specs.Name.{name_cmp}
+use Rattle.rbac_terms.specs.Change.{change}
+use Rattle.rbac_terms.specs.declared.command.Command.{Command}
+use Rattle.rbac_terms.proofs.NameLemmas.{names_total}
+use Rattle.sorted_keys.proofs.Kept.{still}
 use Rattle.rbac_rules.proofs.SoundRoles.{is_there}
 use Rattle.rbac_decide.specs.Tables.{state_of}
 use Rattle.rbac_decide.proofs.tables.Tables.change.Goals as goal

@@ -1,5 +1,5 @@
 use Rattle.std.proofs.Common.{◌∙◌}
-use Rattle.rbac_words.specs.Authorization.{purge}
+use Rattle.rbac_terms.specs.Authorization.{purge}
 use Rattle.rbac_decide.specs.Tables.{state_of}
 use Rattle.rbac_decide.proofs.tables.Tables.delete_inheritance.Goals as goal
 

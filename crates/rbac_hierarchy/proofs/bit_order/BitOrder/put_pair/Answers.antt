@@ -1,5 +1,5 @@
 use Rattle.std.proofs.Common.{ap, sym, ◌∙◌}
-use Rattle.rbac_words.specs.Name.{name_cmp}
+use Rattle.rbac_terms.specs.Name.{name_cmp}
 use Rattle.sorted_keys.specs.Keys.{has}
 use Rattle.rbac_hierarchy.proofs.ExactLemmas.{exact_declared}
 use Rattle.rbac_hierarchy.proofs.NumberLemmas.{has_role}

@@ -1,5 +1,5 @@
 use Rattle.std.proofs.Common.{◌≡◌, ◌++◌, ◌∷◌, [], false, refl, ap, sym, ◌∙◌, subst}
-use Rattle.rbac_words.specs.Name.{Name, name_cmp}
+use Rattle.rbac_terms.specs.Name.{Name, name_cmp}
 use Rattle.sorted_keys.specs.Keys.{has, with_key}
 use Rattle.rbac_hierarchy.specs.Numbers.{roles_of, IsExact}
 use Rattle.rbac_hierarchy.proofs.ExactLemmas.{exact_added, exact_same, names_then, role_there, roles_then}

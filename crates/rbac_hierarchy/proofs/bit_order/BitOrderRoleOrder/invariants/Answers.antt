@@ -1,6 +1,6 @@
 use Rattle.std.proofs.Common.{ap}
 use Rattle.sorted_keys.proofs.Gathered.{sorted_set_of}
-use Rattle.rbac_words.proofs.NameLemmas.{names_total}
+use Rattle.rbac_terms.proofs.NameLemmas.{names_total}
 use Rattle.rbac_hierarchy.proofs.bit_order.BitOrderRoleOrder.invariants.Goals as goal
 
 pub returns : goal.returns

@@ -1,7 +1,7 @@
 use Rattle.std.proofs.Common.{◌≡◌, refl, ap, sym, ◌∙◌, subst, [], ℕ, swap_remove, Option, Some, None, IfSome, slice_get, List}
 use Rattle.std.proofs.lemmas.Option.{slice_get-get_or}
-use Rattle.rbac_words.specs.Name.{Name, name_cmp, pair_cmp}
-use Rattle.rbac_words.specs.Relations.{without_pairs_of}
+use Rattle.rbac_terms.specs.Name.{Name, name_cmp, pair_cmp}
+use Rattle.rbac_terms.specs.Relations.{without_pairs_of}
 use Rattle.sorted_keys.specs.Keys.{has, without}
 use Rattle.rbac_hierarchy.specs.Numbers.{roles_of, role_at, IsExact}
 use Rattle.rbac_hierarchy.proofs.ExactLemmas.{exact_renewed}

@@ -1,5 +1,5 @@
 use Rattle.std.proofs.Common.{◌≡◌, refl, ap, sym, ◌∙◌, subst}
-use Rattle.rbac_words.specs.Name.{name_cmp, pair_cmp}
+use Rattle.rbac_terms.specs.Name.{name_cmp, pair_cmp}
 use Rattle.sorted_keys.specs.Keys.{has, without}
 use Rattle.rbac_hierarchy.specs.Numbers.{roles_of, IsExact}
 use Rattle.rbac_hierarchy.proofs.ExactLemmas.{exact_renewed}

@@ -3,8 +3,8 @@ use Rattle.std.proofs.lemmas.List.Kept.{IsStrictlySortedBy-filter}
 use Rattle.sorted_keys.specs.Keys.{has}
 use Rattle.sorted_keys.proofs.Gathered.{sorted_set_of}
 use Rattle.sorted_keys.proofs.Members.{has-filter, same_keys}
-use Rattle.rbac_words.specs.Name.{name_cmp}
-use Rattle.rbac_words.proofs.NameLemmas.{names_total, names_exact}
+use Rattle.rbac_terms.specs.Name.{name_cmp}
+use Rattle.rbac_terms.proofs.NameLemmas.{names_total, names_exact}
 use Rattle.rbac_hierarchy.specs.Numbers.{roles_of}
 use Rattle.rbac_hierarchy.proofs.NumberLemmas.{has_role}
 use Rattle.rbac_hierarchy.proofs.bit_order.BitOrderRoleOrder.roles_where.Goals as goal

@@ -1,7 +1,7 @@
 use Rattle.std.proofs.Common.{◌≡◌, ◌||◌, ◌&&◌, refl, ap, sym, ◌∙◌, List}
 use Rattle.sorted_keys.specs.Keys.{has}
-use Rattle.rbac_words.specs.Name.{Name, name_cmp}
-use Rattle.rbac_words.specs.Inheritance.{inherits}
+use Rattle.rbac_terms.specs.Name.{Name, name_cmp}
+use Rattle.rbac_terms.specs.Inheritance.{inherits}
 use Rattle.rbac_hierarchy.specs.Numbers.{roles_of, role_at}
 use Rattle.rbac_hierarchy.proofs.ExactLemmas.{told_by_bit}
 use Rattle.rbac_hierarchy.proofs.JuniorLemmas.{none_inherited, inherited_roles}

@@ -1,6 +1,6 @@
 use Rattle.std.proofs.Common.{◌≡◌, true, false, ap, sym, ◌∙◌}
 use Rattle.sorted_keys.specs.Keys.{has}
-use Rattle.rbac_words.specs.Name.{name_cmp}
+use Rattle.rbac_terms.specs.Name.{name_cmp}
 use Rattle.rbac_hierarchy.specs.Numbers.{role_at}
 use Rattle.rbac_hierarchy.proofs.GatherLemmas.{gather_passed, gather_failed}
 use Rattle.rbac_hierarchy.proofs.NumberLemmas.{any_role_at}

@@ -1,6 +1,6 @@
 use Rattle.std.proofs.Common.{◌≡◌, ◌||◌, ◌&&◌, ◌<◌, ℕ, Bool, length, take}
 use Rattle.sorted_keys.specs.Keys.{has}
-use Rattle.rbac_words.specs.Name.{Name, name_cmp}
+use Rattle.rbac_terms.specs.Name.{Name, name_cmp}
 use Rattle.rbac_hierarchy.specs.Numbers.{role_at}
 use Rattle.rbac_hierarchy.proofs.bit_order.numbers.with_roles_where.Given as goal
 

@@ -1,7 +1,7 @@
 use Rattle.std.proofs.Common.{◌≡◌, ◌<◌, [], length, filter, sym, ap, ◌∙◌, subst}
 use Rattle.std.specs.Ordering.{eq_by_cmp}
 use Rattle.std.proofs.lemmas.Option.{get_or_from_slice_get}
-use Rattle.rbac_words.specs.Name.{name_cmp}
+use Rattle.rbac_terms.specs.Name.{name_cmp}
 use Rattle.rbac_hierarchy.specs.Renewal.{HasPairsOf}
 use Rattle.rbac_hierarchy.proofs.NumberLemmas.{has_role}
 use Rattle.rbac_hierarchy.proofs.PairLemmas.{ArePairsUpTo, all_above, fewer, more_above, none_above_yet, not_above}

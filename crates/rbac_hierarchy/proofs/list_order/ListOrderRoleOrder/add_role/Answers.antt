@@ -1,7 +1,7 @@
 use Rattle.std.proofs.Common.{◌≡◌, true, false, ap, sym, ◌∙◌}
 use Rattle.sorted_keys.specs.Keys.{has}
-use Rattle.rbac_words.specs.Name.{name_cmp}
-use Rattle.rbac_words.proofs.NameLemmas.{names_total, names_exact}
+use Rattle.rbac_terms.specs.Name.{name_cmp}
+use Rattle.rbac_terms.proofs.NameLemmas.{names_total, names_exact}
 use Rattle.rbac_hierarchy.specs.Rows.{roles_in}
 use Rattle.rbac_hierarchy.proofs.EntryLemmas.{found_among, with_key_there}
 use Rattle.rbac_hierarchy.proofs.RowLemmas.{role_put, same_order}

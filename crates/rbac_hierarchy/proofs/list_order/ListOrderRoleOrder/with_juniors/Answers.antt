@@ -1,7 +1,7 @@
 use Rattle.std.proofs.Common.{◌≡◌, ◌||◌, ap, ◌∙◌, List}
 use Rattle.sorted_keys.specs.Keys.{has}
-use Rattle.rbac_words.specs.Name.{Name, name_cmp}
-use Rattle.rbac_words.specs.Inheritance.{inherits}
+use Rattle.rbac_terms.specs.Name.{Name, name_cmp}
+use Rattle.rbac_terms.specs.Inheritance.{inherits}
 use Rattle.rbac_hierarchy.proofs.LoopLemmas.{or_nothing, if_each}
 use Rattle.rbac_hierarchy.proofs.RowLemmas.{row_tells, none_found}
 use Rattle.rbac_hierarchy.proofs.list_order.ListOrderRoleOrder.with_juniors.Goals as goal

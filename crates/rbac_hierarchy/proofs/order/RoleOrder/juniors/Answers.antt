@@ -2,9 +2,9 @@ use Rattle.std.proofs.Common.{◌||◌, ap, sym, ◌∙◌}
 use Rattle.std.proofs.lemmas.List.Kept.{IsStrictlySortedBy-filter}
 use Rattle.sorted_keys.specs.Keys.{has}
 use Rattle.sorted_keys.proofs.Members.{same_keys}
-use Rattle.rbac_words.specs.Inheritance.{inherits, juniors}
-use Rattle.rbac_words.specs.Name.{name_cmp}
-use Rattle.rbac_words.proofs.NameLemmas.{names_total, names_exact}
+use Rattle.rbac_terms.specs.Inheritance.{inherits, juniors}
+use Rattle.rbac_terms.specs.Name.{name_cmp}
+use Rattle.rbac_terms.proofs.NameLemmas.{names_total, names_exact}
 use Rattle.rbac_hierarchy.proofs.JuniorLemmas.{has_juniors}
 use Rattle.rbac_hierarchy.proofs.order.RoleOrder.juniors.Goals as goal
 

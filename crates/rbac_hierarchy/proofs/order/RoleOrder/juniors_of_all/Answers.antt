@@ -1,6 +1,6 @@
 use Rattle.std.proofs.Common.{◌||◌, ◌∙◌, ap, false}
 use Rattle.std.specs.List.{list_any}
-use Rattle.rbac_words.specs.Inheritance.{inherits}
+use Rattle.rbac_terms.specs.Inheritance.{inherits}
 use Rattle.rbac_hierarchy.proofs.LoopLemmas.{any_one_more, taken_whole}
 use Rattle.rbac_hierarchy.proofs.order.RoleOrder.juniors_of_all.Goals as goal
 

@@ -1,8 +1,8 @@
 use Rattle.std.proofs.Common.{◌||◌, ◌∙◌, ap}
 use Rattle.std.specs.List.{list_any}
 use Rattle.sorted_keys.specs.Keys.{has}
-use Rattle.rbac_words.specs.Name.{Name, name_cmp}
-use Rattle.rbac_words.specs.Inheritance.{inherits}
+use Rattle.rbac_terms.specs.Name.{Name, name_cmp}
+use Rattle.rbac_terms.specs.Inheritance.{inherits}
 use Rattle.rbac_hierarchy.proofs.LoopLemmas.{or_nothing, any_one_more, taken_whole}
 use Rattle.rbac_hierarchy.proofs.order.RoleOrder.with_juniors_of_assigned.Goals as goal
 

@@ -1,5 +1,5 @@
 use Rattle.std.proofs.Common.{refl, sym, subst, ap, is_some, ◌∙◌}
-use Rattle.rbac_words.specs.Member.{Member, IsMember, known, deliver_due, due_at}
+use Rattle.rbac_words.specs.Keeping.Member.{Member, IsMember, known, deliver_due, due_at}
 use Rattle.rbac_order.proofs.MemberLemmas.{keeps_delivered, known_delivered}
 use Rattle.rbac_member.specs.Inside.{member_of}
 use Rattle.rbac_member.specs.Serials.{AreCounted}

@@ -4,7 +4,7 @@ use Rattle.rbac_words.specs.Stamp.{insert_by_stamp}
 use Rattle.rbac_words.specs.Front.{is_of}
 use Rattle.rbac_words.specs.Message.{submitted_at, next_serial, commands_of}
 use Rattle.rbac_words.specs.World.{stamp, submit_refusal}
-use Rattle.rbac_words.specs.Member.{Member, IsMember, known, node_of, submitted}
+use Rattle.rbac_words.specs.Keeping.Member.{Member, IsMember, known, node_of, submitted}
 use Rattle.rbac_words.specs.declared.message.Submission.{Submission}
 use Rattle.rbac_words.specs.declared.stamp.Stamp.{Stamp}
 use Rattle.rbac_order.proofs.MemberLemmas.{passed_submit, keeps_submit}

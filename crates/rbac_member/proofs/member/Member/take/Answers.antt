@@ -1,9 +1,9 @@
 use Rattle.std.proofs.Common.{refl, sym, ◌∙◌, ap, ◌++◌, subst}
-use Rattle.rbac_words.specs.Links.{Links, taken_from}
+use Rattle.rbac_words.specs.Keeping.Links.{Links, taken_from}
 use Rattle.rbac_words.specs.Message.{submissions_of, submitted_at, commands_of}
 use Rattle.rbac_words.specs.Stamp.{insert_all}
 use Rattle.rbac_words.specs.World.{clock_after, acknowledgement, acks}
-use Rattle.rbac_words.specs.Member.{Member, IsMember, node_of, message_refusal}
+use Rattle.rbac_words.specs.Keeping.Member.{Member, IsMember, node_of, message_refusal}
 use Rattle.rbac_order.proofs.MemberLemmas.{keeps_received}
 use Rattle.rbac_member.specs.Inside.{member_of}
 use Rattle.rbac_member.specs.Serials.{AreCounted}

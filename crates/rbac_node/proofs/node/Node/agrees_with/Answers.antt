@@ -1,7 +1,7 @@
 use Rattle.std.proofs.Common.{◌≡◌, ◌≤◌, ◌-◌, ℕ, List, length, get_or, refl, ap, sym, subst, ◌∙◌, arith}
 use Rattle.rbac_words.specs.World.{read_of}
-use Rattle.rbac_words.specs.Member.{node_of}
-use Rattle.rbac_words.specs.Members.{HasRead}
+use Rattle.rbac_words.specs.Keeping.Member.{node_of}
+use Rattle.rbac_words.specs.Keeping.Members.{HasRead}
 use Rattle.rbac_words.specs.declared.message.Message.{Message}
 use Rattle.rbac_board.specs.Known.{Agree}
 use Rattle.rbac_node.specs.Inside.{state_of}

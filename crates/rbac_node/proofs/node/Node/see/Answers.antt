@@ -3,7 +3,7 @@ use Rattle.std.proofs.lemmas.Option.{slice_get_past}
 use Rattle.std.proofs.lemmas.Result.{IfOk-weaker}
 use Rattle.rbac_board.specs.Known.{IsOf}
 use Rattle.rbac_words.specs.World.{read_of}
-use Rattle.rbac_words.specs.Member.{node_of}
+use Rattle.rbac_words.specs.Keeping.Member.{node_of}
 use Rattle.rbac_member.specs.Calls.{taken_of}
 use Rattle.rbac_node.specs.Node.{NodeState, SeesMore, seen_of}
 use Rattle.rbac_node.proofs.MarkLemmas.{IsMarkOf, seen_by, put_back, seen_there, sees_more}

@@ -1,8 +1,8 @@
 use Rattle.std.proofs.Common.{◌≡◌, ◌≤◌, ◌<◌, ◌+◌, List, Some, slice_get, get_or, refl, sym, ap, subst, ◌∙◌, arith}
 use Rattle.std.proofs.lemmas.Option.{get_or_from_slice_get}
-use Rattle.rbac_words.specs.State.{founding_state}
+use Rattle.rbac_terms.specs.State.{founding_state}
 use Rattle.rbac_words.specs.Front.{IsLegalFront}
-use Rattle.rbac_words.specs.declared.answer.Answer.{Answer}
+use Rattle.rbac_terms.specs.declared.answer.Answer.{Answer}
 use Rattle.rbac_words.specs.declared.record.Record.{Record}
 use Rattle.rbac_board.specs.Known.{IsOf}
 use Rattle.rbac_node.specs.Cells.{history_cells}

@@ -1,9 +1,9 @@
 use Rattle.std.proofs.Common.{◌||◌, ◌∙◌, ap}
 use Rattle.std.specs.List.{list_any}
 use Rattle.sorted_keys.specs.Keys.{has}
-use Rattle.rbac_words.specs.Name.{Name, name_cmp}
-use Rattle.rbac_words.specs.Relations.{begins_with}
-use Rattle.rbac_words.specs.Authorization.{inherits_in}
+use Rattle.rbac_terms.specs.Name.{Name, name_cmp}
+use Rattle.rbac_terms.specs.Relations.{begins_with}
+use Rattle.rbac_terms.specs.Authorization.{inherits_in}
 use Rattle.rbac_review.specs.Parts.{state_of}
 use Rattle.rbac_review.proofs.ReviewLemmas.{any-filter, are_authorized}
 use Rattle.rbac_review.proofs.parts.Parts.authorized_roles.Goals as goal

@@ -1,7 +1,7 @@
 use Rattle.std.proofs.Common.{◌∙◌, ap}
 use Rattle.std.specs.List.{filter}
-use Rattle.rbac_words.specs.Inheritance.{seniors}
-use Rattle.rbac_words.specs.Authorization.{is_authorized}
+use Rattle.rbac_terms.specs.Inheritance.{seniors}
+use Rattle.rbac_terms.specs.Authorization.{is_authorized}
 use Rattle.rbac_review.specs.Among.{is_assigned_one}
 use Rattle.rbac_review.specs.Parts.{state_of}
 use Rattle.rbac_review.proofs.ReviewLemmas.{if_same, filter-same, assigned_a_senior}

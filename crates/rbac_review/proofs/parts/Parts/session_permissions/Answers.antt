@@ -1,4 +1,4 @@
-use Rattle.rbac_words.specs.Reviews.{active_roles}
+use Rattle.rbac_terms.specs.Reviews.{active_roles}
 use Rattle.rbac_review.specs.Parts.{state_of}
 use Rattle.rbac_review.proofs.ReviewLemmas.{if_same, roles_listed}
 use Rattle.rbac_review.proofs.parts.Parts.session_permissions.Goals as goal

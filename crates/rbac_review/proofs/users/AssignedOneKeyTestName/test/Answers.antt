@@ -1,8 +1,8 @@
 use Rattle.std.proofs.Common.{◌∙◌, ap}
 use Rattle.std.specs.List.{list_any}
 use Rattle.sorted_keys.specs.Keys.{has}
-use Rattle.rbac_words.specs.Name.{Name, name_cmp}
-use Rattle.rbac_words.specs.Relations.{begins_with}
+use Rattle.rbac_terms.specs.Name.{Name, name_cmp}
+use Rattle.rbac_terms.specs.Relations.{begins_with}
 use Rattle.rbac_review.proofs.ReviewLemmas.{any-filter}
 use Rattle.rbac_review.proofs.users.AssignedOneKeyTestName.test.Goals as goal
 

@@ -1,6 +1,6 @@
 use Rattle.std.proofs.Common.{ap, ◌∙◌}
 use Rattle.std.specs.Ordering.{eq_by_cmp}
-use Rattle.rbac_words.specs.Name.{name_cmp}
+use Rattle.rbac_terms.specs.Name.{name_cmp}
 use Rattle.rbac_separation.specs.Counts.{Counts, numbers_of, without_set}
 use Rattle.rbac_separation.proofs.CountLemmas.{numbers, kept_numbers}
 use Rattle.rbac_separation.proofs.counts.Counts.forget_set.Goals as goal

@@ -1,7 +1,7 @@
 use Rattle.std.proofs.Common.{Result, Ok, Err, OnOk, sym, ap, ◌∙◌}
 use Rattle.std.specs.FinMap.Entries.{put}
 use Rattle.sorted_keys.specs.Keys.{updated}
-use Rattle.rbac_words.specs.Name.{pair_cmp}
+use Rattle.rbac_terms.specs.Name.{pair_cmp}
 use Rattle.rbac_separation.specs.Counts.{Counts, numbers_of, with_number}
 use Rattle.rbac_separation.proofs.CountLemmas.{numbers, put_numbers, updated_numbers, removed_numbers}
 use Rattle.rbac_separation.proofs.counts.Counts.put.Goals as goal

@@ -1,6 +1,6 @@
 use Rattle.std.proofs.Common.{sym, ap, ◌∙◌}
 use Rattle.std.specs.FinMap.Entries.{put}
-use Rattle.rbac_words.specs.Name.{pair_cmp}
+use Rattle.rbac_terms.specs.Name.{pair_cmp}
 use Rattle.rbac_separation.specs.Counts.{Counts, numbers_of, with_number}
 use Rattle.rbac_separation.proofs.CountLemmas.{numbers, put_numbers, removed_numbers}
 use Rattle.rbac_separation.proofs.counts.Counts.put_ready.Goals as goal

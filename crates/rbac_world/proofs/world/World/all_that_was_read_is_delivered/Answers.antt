@@ -3,7 +3,7 @@ use Rattle.rbac_words.specs.Message.{commands_of}
 use Rattle.rbac_words.specs.World.{World, node, step_outcome}
 use Rattle.rbac_words.specs.Right.{all_commands}
 use Rattle.rbac_words.specs.Play.{IsReadToEnd}
-use Rattle.rbac_words.specs.Members.{member_at}
+use Rattle.rbac_words.specs.Keeping.Members.{member_at}
 use Rattle.rbac_words.specs.declared.event.Event.TheVariants.{Deliver}
 use Rattle.rbac_words.specs.declared.event.Outcome.TheVariants.{Delivered}
 use Rattle.rbac_order.proofs.EndLemmas.{delivery_of_member}

@@ -1,7 +1,7 @@
 use Rattle.std.proofs.Common.{ℕ, subst, ◌<◌, ◌⊎◌, length, get_or}
 use Rattle.rbac_words.specs.World.{World, nobody}
 use Rattle.rbac_words.specs.Play.{IsPrefixOf}
-use Rattle.rbac_words.specs.Members.{member_at}
+use Rattle.rbac_words.specs.Keeping.Members.{member_at}
 use Rattle.rbac_order.proofs.PlayLemmas.{one_of_two}
 use Rattle.rbac_world.proofs.world.World.histories_are_one.Goals as goal
 

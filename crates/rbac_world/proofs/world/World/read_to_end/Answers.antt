@@ -1,8 +1,8 @@
 use Rattle.std.proofs.Common.{◌∙◌, sym, subst, ap, List}
 use Rattle.std.specs.List.{list_all}
 use Rattle.rbac_words.specs.Play.{IsReadToEnd}
-use Rattle.rbac_words.specs.Members.{member_at}
-use Rattle.rbac_words.specs.Member.{Member}
+use Rattle.rbac_words.specs.Keeping.Members.{member_at}
+use Rattle.rbac_words.specs.Keeping.Member.{Member}
 use Rattle.rbac_world.specs.Inside.{has_read}
 use Rattle.rbac_world.proofs.WorldLemmas.{end_if, only_if}
 use Rattle.rbac_world.proofs.world.World.read_to_end.Goals as goal

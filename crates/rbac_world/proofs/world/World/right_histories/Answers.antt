@@ -1,6 +1,6 @@
 use Rattle.std.proofs.Common.{subst}
 use Rattle.rbac_words.specs.Right.{AreHistoriesRight}
-use Rattle.rbac_words.specs.Members.{member_at}
+use Rattle.rbac_words.specs.Keeping.Members.{member_at}
 use Rattle.rbac_order.proofs.GroupLemmas.{right}
 use Rattle.rbac_world.proofs.world.World.right_histories.Goals as goal
 

@@ -1,0 +1,128 @@
+//! Sets of names.
+ghost use Rattle.std.specs.Prelude.{◌≡◌, ◌↔◌, [], length, IsTrue, IfOk, OnOk, OnErr, false};
+ghost use Rattle.std.specs.List.Sorted.{IsStrictlySortedBy};
+ghost use Rattle.sorted_keys.specs.Keys.{has, with_key, without};
+ghost use Rattle.rbac_terms.specs.Name.{name_cmp};
+
+use crate::name::Name;
+use sorted_keys::{Duplicate, Same, SortedSet};
+use std::alloc::{AllocError, Global};
+use std::marker::Model;
+
+/// A set of names. A contract sees the list of its names, sorted by bytes and without repeats.
+#[derive(Drop)]
+pub struct NameSet {
+    names: SortedSet<Name>,
+}
+
+impl Model for NameSet {
+    ghost use Rattle.std.specs.Prelude.{List, ℕ};
+
+    ghost Value = { List (List ℕ) };
+
+    ghost view = { λ set. set.names.content };
+}
+
+impl NameSet {
+    /// The empty set.
+    pub fn new(alloc: Global) -> NameSet
+        ensures { result ≡ [] }
+    {
+        NameSet {
+            names: SortedSet::new(alloc),
+        }
+    }
+
+    /// The set of these names. It takes no memory.
+    pub fn of(names: SortedSet<Name>) -> NameSet
+        ensures { result ≡ names.content }
+    {
+        NameSet { names }
+    }
+
+    /// How many names there are.
+    pub fn len(&self) -> usize
+        ensures { result ≡ length self.now }
+    {
+        self.names.len()
+    }
+
+    /// Whether there are none.
+    pub fn is_empty(&self) -> bool
+        ensures { IsTrue result ↔ (self.now ≡ []) }
+    {
+        self.names.is_empty()
+    }
+
+    /// Whether the name is in the set.
+    pub fn contains(&self, name: &Name) -> bool
+        ensures { result ≡ has name_cmp name.now self.now }
+    {
+        self.names.contains(name)
+    }
+
+    /// Adds a name. Where it is there, nothing changes.
+    pub fn add(&mut self, name: Name) -> Result<(), AllocError>
+        ensures ok { OnOk result (self.new ≡ with_key name_cmp name self.old) }
+        ensures unchanged { OnErr result (self.new ≡ self.old) }
+        ensures absent { OnErr result (has name_cmp name self.old ≡ false) }
+    {
+        self.names.insert(name)
+    }
+
+    /// Adds a copy of a name. Where it is there, nothing changes.
+    pub fn add_copy(&mut self, name: &Name) -> Result<(), AllocError>
+        ensures ok { OnOk result (self.new ≡ with_key name_cmp name.now self.old) }
+        ensures unchanged { OnErr result (self.new ≡ self.old) }
+        ensures absent { OnErr result (has name_cmp name.now self.old ≡ false) }
+    {
+        self.names.insert_copy(name)
+    }
+
+    /// Takes a name out. Where it is not there, nothing changes.
+    pub fn remove(&mut self, name: &Name)
+        ensures { self.new ≡ without name_cmp name.now self.old }
+    {
+        self.names.remove(name);
+    }
+
+    /// The names, sorted by their bytes.
+    pub fn names(&self) -> &[Name]
+        ensures names { result.now ≡ self.now }
+        ensures in_order { IsStrictlySortedBy name_cmp self.now }
+    {
+        self.names.keys()
+    }
+
+    /// An equal set.
+    pub fn copy(&self) -> Result<NameSet, AllocError>
+        ensures { IfOk result (λ copy. copy ≡ self.now) }
+    {
+        Ok(NameSet {
+            names: self.names.copy()?,
+        })
+    }
+}
+
+/// A clone is equal.
+impl Clone for NameSet {
+    ghost use Rattle.std.specs.Prelude.{◌≡◌};
+
+    ghost is_clone = { λ set clone. clone ≡ set };
+
+    fn clone(&self) -> Result<NameSet, AllocError> {
+        self.copy()
+    }
+}
+
+impl Duplicate for NameSet {
+    fn duplicate(&self) -> Result<NameSet, AllocError> {
+        self.copy()
+    }
+}
+
+impl Same for NameSet {
+    fn same(&self, other: &NameSet) -> bool {
+        self.names.same(&other.names)
+    }
+}

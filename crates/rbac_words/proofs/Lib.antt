@@ -1,4 +1,0 @@
-pub mod ListLemmas
-pub mod NameLemmas
-pub mod PrefixLemmas
-pub mod VocabularyLemmas
