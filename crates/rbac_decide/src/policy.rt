@@ -11,7 +11,9 @@ ghost use Rattle.rbac_terms.specs.Sound.{IsSound};
 ghost use Rattle.rbac_decide.specs.Counting.{AreCounts};
 
 mod access;
+mod broken_sets;
 mod denial;
+mod fresh_roles;
 mod hindrance;
 mod review;
 mod separation;

@@ -104,6 +104,27 @@ impl NameSet {
     }
 }
 
+impl PartialEq for NameSet {
+    ghost use Rattle.std.specs.Prelude.{◌==◌};
+    ghost use Rattle.std.specs.Cmp.Lexicographic.{pointwise};
+    ghost use Rattle.std.specs.Cmp.{partial_equiv_from_equiv};
+    ghost use Rattle.std.proofs.lemmas.Cmp.{nat_list_eq_equiv, lists_equiv};
+
+    ghost eq = { pointwise (pointwise ◌==◌) };
+
+    ghost laws = { partial_equiv_from_equiv (lists_equiv nat_list_eq_equiv) };
+
+    fn eq(&self, other: &NameSet) -> bool {
+        self.names() == other.names()
+    }
+}
+
+impl Eq for NameSet {
+    ghost use Rattle.std.proofs.lemmas.Cmp.{nat_list_eq_equiv, lists_equiv};
+
+    ghost laws = { lists_equiv nat_list_eq_equiv };
+}
+
 /// A clone is equal.
 impl Clone for NameSet {
     ghost use Rattle.std.specs.Prelude.{◌≡◌};
