@@ -88,11 +88,11 @@ impl EntryTest<(Name, Name), Positive> for OtherSets<'_> {
 
 // The entries of other users.
 #[derive(Drop)]
-struct OtherUsers<'a> {
+struct EntriesOfOthers<'a> {
     user: &'a Name,
 }
 
-impl EntryTest<(Name, Name), Positive> for OtherUsers<'_> {
+impl EntryTest<(Name, Name), Positive> for EntriesOfOthers<'_> {
     ghost passes = { λ others key _. not (eq_by_cmp name_cmp others.user.now key.1) };
 
     fn test(&self, key: &(Name, Name), _number: &Positive) -> bool {
@@ -216,7 +216,7 @@ impl Counts {
     pub fn forget_user(&mut self, user: &Name)
         ensures { numbers_of self.new ≡ without_user user.now (numbers_of self.old) }
     {
-        self.numbers.retain(&OtherUsers { user });
+        self.numbers.retain(&EntriesOfOthers { user });
     }
 
     /// The first set by name of which the user's number, and how many of its roles are among the fresh ones, come to its own

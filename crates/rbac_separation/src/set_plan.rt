@@ -3,7 +3,8 @@ ghost use Rattle.std.specs.Prelude.{◌≡◌, ◌≤◌, length, IfOk};
 ghost use Rattle.staged.specs.Entries.{after_entries};
 ghost use Rattle.staged.specs.Made.{made_all};
 ghost use Rattle.rbac_terms.specs.Name.{name_cmp};
-ghost use Rattle.rbac_separation.specs.Changes.{becomes, changed, set_of_change, with_member};
+ghost use Rattle.rbac_separation.specs.Changes.{becomes, changed, set_of_change};
+ghost use Rattle.rbac_terms.specs.Change.{with_member};
 
 use crate::role_set::RoleSet;
 use crate::set_table::SetTable;

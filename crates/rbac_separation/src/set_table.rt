@@ -6,7 +6,6 @@ ghost use Rattle.std.specs.FinMap.Entries.{find, put};
 ghost use Rattle.sorted_keys.specs.Keys.{by_key, with_key, without, without_key, updated};
 ghost use Rattle.rbac_terms.specs.Name.{name_cmp};
 ghost use Rattle.rbac_terms.specs.Separation.{first_broken, is_constrained};
-ghost use Rattle.rbac_separation.specs.SetTable.{AreInOrder};
 
 use crate::change::{CardinalityChange, MemberAddition, MemberRemoval};
 use crate::role_set::RoleSet;
@@ -187,7 +186,7 @@ impl SetTable {
 
     /// The sets are a map: in the order of their names, each once.
     pub fn invariants(&self)
-        ensures { AreInOrder self.now.content }
+        ensures { IsStrictlySortedBy (by_key name_cmp) self.now.content }
     {
         let _sets = self.sets.entries();
     }

@@ -3,7 +3,8 @@ ghost use Rattle.std.specs.Prelude.{◌≡◌, ◌≤◌, length, IfOk};
 ghost use Rattle.staged.specs.Entries.{after_entries};
 ghost use Rattle.staged.specs.Made.{made_all};
 ghost use Rattle.rbac_terms.specs.Name.{name_cmp};
-ghost use Rattle.rbac_sessions.specs.Changes.{becomes, changed, session_of, with_active};
+ghost use Rattle.rbac_sessions.specs.Changes.{becomes, changed, session_of};
+ghost use Rattle.rbac_terms.specs.Change.{with_active};
 
 use crate::session::Session;
 use crate::sessions::Sessions;

@@ -5,7 +5,6 @@ ghost use Rattle.std.specs.Option.{option_copied, option_map};
 ghost use Rattle.std.specs.FinMap.Entries.{find, put};
 ghost use Rattle.sorted_keys.specs.Keys.{with_key, without, without_key, updated};
 ghost use Rattle.rbac_terms.specs.Name.{Name as NameValue, name_cmp};
-ghost use Rattle.rbac_sessions.specs.Sessions.{AreInOrder};
 
 use crate::change::{Activation, Deactivation};
 use crate::session::Session;
@@ -160,7 +159,7 @@ impl Sessions {
 
     /// The sessions are a map: in the order of their names, each once.
     pub fn invariants(&self)
-        ensures { AreInOrder self.now.content }
+        ensures { IsStrictlySortedBy (by_key name_cmp) self.now.content }
     {
         let _sessions = self.sessions.entries();
     }

@@ -1,5 +1,5 @@
 //! Sets of names.
-ghost use Rattle.std.specs.Prelude.{◌≡◌, ◌↔◌, [], length, IsTrue, IfOk, OnOk, OnErr, false};
+ghost use Rattle.std.specs.Prelude.{◌≡◌, ◌↔◌, [], length, count_by, IsTrue, IfOk, OnOk, OnErr, false};
 ghost use Rattle.std.specs.List.Sorted.{IsStrictlySortedBy};
 ghost use Rattle.sorted_keys.specs.Keys.{has, with_key, without};
 ghost use Rattle.rbac_terms.specs.Name.{name_cmp};
@@ -59,6 +59,16 @@ impl NameSet {
         ensures { result ≡ has name_cmp name.now self.now }
     {
         self.names.contains(name)
+    }
+
+    /// How many of its names are in another set.
+    pub fn count_in(&self, other: &NameSet) -> usize
+        ensures { result ≡ count_by (λ name. has name_cmp name other.now) self.now }
+    {
+        self.names()
+            .iter()
+            .filter(|name| other.contains(name))
+            .count()
     }
 
     /// Adds a name. Where it is there, nothing changes.
