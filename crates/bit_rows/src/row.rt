@@ -108,8 +108,8 @@ impl BitRow {
 
     /// Makes room for 64 more bits.
     pub fn widen(&mut self) -> Result<(), AllocError>
-        ensures ok { OnOk result (length self.new ≡ length self.old + 1) }
-        ensures err { OnErr result (self.new ≡ self.old) }
+        ensures longer { OnOk result (length self.new ≡ length self.old + 1) }
+        ensures unchanged { OnErr result (self.new ≡ self.old) }
         ensures bits { (j : ℕ) → has_bit self.new j ≡ has_bit self.old j }
     {
         Ok(self.words.push(0)?)

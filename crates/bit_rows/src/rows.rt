@@ -89,8 +89,8 @@ pub fn join_until_closed(alloc: Global, rows: &mut [BitRow], pairs: &[(usize, us
 pub fn widen_all(rows: &mut [BitRow]) -> Result<(), AllocError>
     requires wide { AreWide rows.old (length rows.old) }
     ensures length { length rows.new ≡ length rows.old }
-    ensures ok { OnOk result (AreWide rows.new (length rows.old + 1)) }
-    ensures err { OnErr result (AreWide rows.new (length rows.old)) }
+    ensures wider { OnOk result (AreWide rows.new (length rows.old + 1)) }
+    ensures still_wide { OnErr result (AreWide rows.new (length rows.old)) }
     ensures bits { (i j : ℕ) → bit rows.new i j ≡ bit rows.old i j }
 {
     if rows.len() % 64 == 0 {
