@@ -55,6 +55,9 @@ impl Relation {
     }
 
     /// One more number, related to itself alone.
+    ///
+    /// # Errors
+    /// `AllocError` where a row gets no memory. The relation is as before.
     pub fn add(&mut self, alloc: Global) -> Result<(), AllocError>
         ensures ok_count { OnOk result (count self.new ≡ count self.old + 1) }
         ensures ok_related { OnOk result ((i j : ℕ) → related self.new i j ≡ (related self.old i j || (nat_eq i (count self.old) && nat_eq j (count self.old)))) }
@@ -109,6 +112,9 @@ impl Relation {
     }
 
     /// An equal relation.
+    ///
+    /// # Errors
+    /// `AllocError` where the copy gets no memory.
     pub fn copy(&self) -> Result<Relation, AllocError>
         ensures { IfOk result (λ copy. copy ≡ self.now) }
     {

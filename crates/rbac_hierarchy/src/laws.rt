@@ -19,8 +19,8 @@ fn closes_no_circle<O: RoleOrder>(order: &O, ascendant: &Name, descendant: &Name
 
 // Makes one change. A pair is declared where both are roles and it closes no circle.
 fn make<O: RoleOrder>(alloc: Global, order: &mut O, change: &Change) -> Result<(), AllocError>
-    ensures ok { OnOk result (O.content order.new ≡ after_one change.now (O.content order.old)) }
-    ensures err { OnErr result (O.content order.new ≡ O.content order.old) }
+    ensures made { OnOk result (O.content order.new ≡ after_one change.now (O.content order.old)) }
+    ensures unchanged { OnErr result (O.content order.new ≡ O.content order.old) }
 {
     match change {
         Change::AddRole { role } => order.add_role(alloc, role),
@@ -49,8 +49,8 @@ pub fn run_order<O: RoleOrder>(
     order: &mut O,
     changes: &[Change],
 ) -> Result<(), AllocError>
-    ensures ok { OnOk result (O.content order.new ≡ after changes.now (O.content order.old)) }
-    ensures err { OnErr result ((made : ℕ) × (made ≤ length changes.now) × (O.content order.new ≡ after (take made changes.now) (O.content order.old))) }
+    ensures all_made { OnOk result (O.content order.new ≡ after changes.now (O.content order.old)) }
+    ensures some_made { OnErr result ((made : ℕ) × (made ≤ length changes.now) × (O.content order.new ≡ after (take made changes.now) (O.content order.old))) }
 {
     for change in changes {
         make(alloc, order, change)?;

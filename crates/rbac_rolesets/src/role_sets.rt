@@ -146,8 +146,8 @@ impl RoleSets {
 
     /// Adds a user. Where it is there, nothing changes.
     pub fn add_user(&mut self, user: Name) -> Result<(), AllocError>
-        ensures ok { let s = self.old.content in OnOk result (self.new.content ≡ record s { users = with_key name_cmp user s.users }) }
-        ensures err { OnErr result (self.new.content ≡ self.old.content) }
+        ensures added { let s = self.old.content in OnOk result (self.new.content ≡ record s { users = with_key name_cmp user s.users }) }
+        ensures unchanged { OnErr result (self.new.content ≡ self.old.content) }
     {
         self.users.insert(user)
     }
@@ -162,8 +162,8 @@ impl RoleSets {
 
     /// Adds a role. Where it is there, nothing changes.
     pub fn add_role(&mut self, role: Name) -> Result<(), AllocError>
-        ensures ok { let s = self.old.content in OnOk result (self.new.content ≡ record s { roles = with_key name_cmp role s.roles }) }
-        ensures err { OnErr result (self.new.content ≡ self.old.content) }
+        ensures added { let s = self.old.content in OnOk result (self.new.content ≡ record s { roles = with_key name_cmp role s.roles }) }
+        ensures unchanged { OnErr result (self.new.content ≡ self.old.content) }
     {
         self.roles.insert(role)
     }
@@ -179,8 +179,8 @@ impl RoleSets {
 
     /// Assigns a role to a user. Where it is assigned, nothing changes.
     pub fn assign(&mut self, user: Name, role: Name) -> Result<(), AllocError>
-        ensures ok { let s = self.old.content in OnOk result (self.new.content ≡ record s { assigned = with_key pair_cmp (user, role) s.assigned }) }
-        ensures err { OnErr result (self.new.content ≡ self.old.content) }
+        ensures assigned { let s = self.old.content in OnOk result (self.new.content ≡ record s { assigned = with_key pair_cmp (user, role) s.assigned }) }
+        ensures unchanged { OnErr result (self.new.content ≡ self.old.content) }
     {
         self.assigned.insert((user, role))
     }
@@ -194,8 +194,8 @@ impl RoleSets {
 
     /// Grants an operation on an object to a role. Where it is granted, nothing changes.
     pub fn grant(&mut self, operation: Name, object: Name, role: Name) -> Result<(), AllocError>
-        ensures ok { let s = self.old.content in OnOk result (self.new.content ≡ record s { granted = with_key grant_cmp ((operation, object), role) s.granted }) }
-        ensures err { OnErr result (self.new.content ≡ self.old.content) }
+        ensures granted { let s = self.old.content in OnOk result (self.new.content ≡ record s { granted = with_key grant_cmp ((operation, object), role) s.granted }) }
+        ensures unchanged { OnErr result (self.new.content ≡ self.old.content) }
     {
         self.granted.insert(((operation, object), role))
     }
@@ -280,7 +280,7 @@ impl Staged<Change<'_>> for RoleSets {
 
     fn make_room(&mut self, _alloc: Global, more: usize) -> Result<(), AllocError>
         ensures content { self.new.content ≡ self.old.content }
-        ensures ok { OnOk result (more ≤ self.new.room) }
+        ensures room { OnOk result (more ≤ self.new.room) }
     {
         self.users.reserve(more)?;
         self.roles.reserve(more)?;

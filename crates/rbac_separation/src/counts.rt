@@ -161,8 +161,8 @@ impl Counts {
     /// Gives a set and a user a number. Names are copied where there was none, and 0 takes the number out: that needs no memory,
     /// nor does another number for the same pair.
     pub fn put(&mut self, set: &Name, user: &Name, number: u32) -> Result<(), AllocError>
-        ensures ok { OnOk result (numbers_of self.new ≡ with_number set.now user.now number (numbers_of self.old)) }
-        ensures err { OnErr result (self.new.content ≡ self.old.content) }
+        ensures put { OnOk result (numbers_of self.new ≡ with_number set.now user.now number (numbers_of self.old)) }
+        ensures unchanged { OnErr result (self.new.content ≡ self.old.content) }
         ensures absent { OnErr result (numbers_of self.old set.now user.now ≡ 0) }
         ensures above { OnErr result (0 < number) }
     {
@@ -187,7 +187,7 @@ impl Counts {
     /// Makes room for the numbers of so many more pairs. The numbers stay as they are, also where memory ends.
     pub fn reserve(&mut self, more: usize) -> Result<(), AllocError>
         ensures numbers { numbers_of self.new ≡ numbers_of self.old }
-        ensures ok { OnOk result (more ≤ self.new.room) }
+        ensures room { OnOk result (more ≤ self.new.room) }
     {
         self.numbers.reserve(more)
     }
@@ -284,7 +284,7 @@ impl Staged<CountChange<'_>> for Counts {
 
     fn make_room(&mut self, _alloc: Global, more: usize) -> Result<(), AllocError>
         ensures content { numbers_of self.new ≡ numbers_of self.old }
-        ensures ok { OnOk result (more ≤ self.new.room) }
+        ensures room { OnOk result (more ≤ self.new.room) }
     {
         self.reserve(more)
     }

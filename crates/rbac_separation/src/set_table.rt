@@ -143,8 +143,8 @@ impl SetTable {
     /// Makes a set of these roles with this number, which it takes as it is: whether the roles are
     /// enough for the number is for the caller to see. A set of the same name is replaced.
     pub fn create(&mut self, set: Name, roles: NameSet, cardinality: u32) -> Result<(), AllocError>
-        ensures ok { OnOk result (self.new.content ≡ put name_cmp set (record { roles = roles; cardinality = cardinality }) self.old.content) }
-        ensures err { OnErr result (self.new.content ≡ self.old.content) }
+        ensures created { OnOk result (self.new.content ≡ put name_cmp set (record { roles = roles; cardinality = cardinality }) self.old.content) }
+        ensures unchanged { OnErr result (self.new.content ≡ self.old.content) }
     {
         self.sets.insert(set, RoleSet { roles, cardinality })
     }
@@ -158,8 +158,8 @@ impl SetTable {
 
     /// Puts a role into a set. Where the set is not there, nothing changes.
     pub fn add_member(&mut self, set: &Name, role: Name) -> Result<(), AllocError>
-        ensures ok { OnOk result (self.new.content ≡ updated name_cmp set.now (λ s. record s { roles = with_key name_cmp role s.roles }) self.old.content) }
-        ensures err { OnErr result (self.new.content ≡ self.old.content) }
+        ensures added { OnOk result (self.new.content ≡ updated name_cmp set.now (λ s. record s { roles = with_key name_cmp role s.roles }) self.old.content) }
+        ensures unchanged { OnErr result (self.new.content ≡ self.old.content) }
     {
         self.sets.update(set, MemberAddition { role })
     }

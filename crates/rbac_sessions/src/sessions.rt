@@ -115,8 +115,8 @@ impl Sessions {
 
     /// Opens a session of a user, in which these roles are active. One of the same name is replaced.
     pub fn create(&mut self, session: Name, user: Name, roles: NameSet) -> Result<(), AllocError>
-        ensures ok { OnOk result (self.new.content ≡ put name_cmp session (record { owner = user; active = roles }) self.old.content) }
-        ensures err { OnErr result (self.new.content ≡ self.old.content) }
+        ensures created { OnOk result (self.new.content ≡ put name_cmp session (record { owner = user; active = roles }) self.old.content) }
+        ensures unchanged { OnErr result (self.new.content ≡ self.old.content) }
     {
         let opened = Session {
             owner: user,
@@ -134,8 +134,8 @@ impl Sessions {
 
     /// Makes a role active in a session. Where the session is not there, nothing changes.
     pub fn activate(&mut self, session: &Name, role: Name) -> Result<(), AllocError>
-        ensures ok { OnOk result (self.new.content ≡ updated name_cmp session.now (λ s. record s { active = with_key name_cmp role s.active }) self.old.content) }
-        ensures err { OnErr result (self.new.content ≡ self.old.content) }
+        ensures activated { OnOk result (self.new.content ≡ updated name_cmp session.now (λ s. record s { active = with_key name_cmp role s.active }) self.old.content) }
+        ensures unchanged { OnErr result (self.new.content ≡ self.old.content) }
     {
         self.sessions.update(session, Activation { role })
     }

@@ -73,7 +73,7 @@ impl NameSet {
 
     /// Adds a name. Where it is there, nothing changes.
     pub fn add(&mut self, name: Name) -> Result<(), AllocError>
-        ensures ok { OnOk result (self.new ≡ with_key name_cmp name self.old) }
+        ensures added { OnOk result (self.new ≡ with_key name_cmp name self.old) }
         ensures unchanged { OnErr result (self.new ≡ self.old) }
         ensures absent { OnErr result (has name_cmp name self.old ≡ false) }
     {
@@ -82,7 +82,7 @@ impl NameSet {
 
     /// Adds a copy of a name. Where it is there, nothing changes.
     pub fn add_copy(&mut self, name: &Name) -> Result<(), AllocError>
-        ensures ok { OnOk result (self.new ≡ with_key name_cmp name.now self.old) }
+        ensures added { OnOk result (self.new ≡ with_key name_cmp name.now self.old) }
         ensures unchanged { OnErr result (self.new ≡ self.old) }
         ensures absent { OnErr result (has name_cmp name.now self.old ≡ false) }
     {

@@ -13,7 +13,7 @@ count_is : (c : goal.In_ok-push) → c.len-number.result ≡ length c.self.insid
 count_is c = c.len-number.ensures ∙ c.self.inside.rows.ok.0
 
 wider : (c : goal.In_ok-push) → AreWide c.widen_all.new.rows (length c.self.inside.rows.items + 1)
-wider c = ap_rows (c.in_ok-widen_all.ensures.ok)
+wider c = ap_rows (c.in_ok-widen_all.ensures.wider)
   where
     ap_rows : AreWide c.widen_all.new.rows (length c.deref_mut.result.now + 1) → AreWide c.widen_all.new.rows (length c.self.inside.rows.items + 1)
     ap_rows w = subst (λ rows. AreWide c.widen_all.new.rows (length rows + 1)) c.deref_mut.ensures.value w
