@@ -114,6 +114,9 @@ impl Sessions {
     }
 
     /// Opens a session of a user, in which these roles are active. One of the same name is replaced.
+    ///
+    /// # Errors
+    /// `AllocError` where there is no memory for it. Nothing has changed.
     pub fn create(&mut self, session: Name, user: Name, roles: NameSet) -> Result<(), AllocError>
         ensures created { OnOk result (self.new.content ≡ put name_cmp session (record { owner = user; active = roles }) self.old.content) }
         ensures unchanged { OnErr result (self.new.content ≡ self.old.content) }
@@ -133,6 +136,9 @@ impl Sessions {
     }
 
     /// Makes a role active in a session. Where the session is not there, nothing changes.
+    ///
+    /// # Errors
+    /// `AllocError` where there is no memory for it. Nothing has changed.
     pub fn activate(&mut self, session: &Name, role: Name) -> Result<(), AllocError>
         ensures activated { OnOk result (self.new.content ≡ updated name_cmp session.now (λ s. record s { active = with_key name_cmp role s.active }) self.old.content) }
         ensures unchanged { OnErr result (self.new.content ≡ self.old.content) }
@@ -165,6 +171,9 @@ impl Sessions {
     }
 
     /// Equal sessions.
+    ///
+    /// # Errors
+    /// `AllocError` where there is no memory for it.
     pub fn copy(&self) -> Result<Sessions, AllocError>
         ensures { IfOk result (λ copy. copy.content ≡ self.now.content) }
     {

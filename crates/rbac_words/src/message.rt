@@ -42,6 +42,9 @@ impl Message {
     }
 
     /// An equal message.
+    ///
+    /// # Errors
+    /// `AllocError` where there is no memory for it.
     pub fn copy(&self) -> Result<Message, AllocError>
         ensures { IfOk result (λ copy. copy ≡ self.now) }
     {

@@ -18,6 +18,9 @@ pub struct Record {
 
 impl Record {
     /// An equal record.
+    ///
+    /// # Errors
+    /// `AllocError` where there is no memory for it.
     pub fn copy(&self) -> Result<Record, AllocError>
         ensures { IfOk result (λ copy. copy ≡ self.now) }
     {
