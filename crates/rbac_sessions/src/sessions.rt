@@ -1,9 +1,10 @@
 //! The sessions by their names.
 ghost use Rattle.std.specs.Prelude.{◌≡◌, ◌↔◌, [], List, Bool, not, length, filter, is_some, IsTrue, IfOk, OnOk, OnErr};
 ghost use Rattle.std.specs.List.{list_any};
+ghost use Rattle.std.specs.List.Sorted.{IsStrictlySortedBy};
 ghost use Rattle.std.specs.Option.{option_copied, option_map};
 ghost use Rattle.std.specs.FinMap.Entries.{find, put};
-ghost use Rattle.sorted_keys.specs.Keys.{with_key, without, without_key, updated};
+ghost use Rattle.sorted_keys.specs.Keys.{by_key, with_key, without, without_key, updated};
 ghost use Rattle.rbac_terms.specs.Name.{Name as NameValue, name_cmp};
 
 use crate::change::{Activation, Deactivation};
