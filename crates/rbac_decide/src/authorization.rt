@@ -45,7 +45,12 @@ pub(crate) fn some_inherits_some(
 }
 
 /// Whether the user is authorized for the role: it is assigned one that inherits it.
-pub(crate) fn is_authorized(sets: &RoleSets, hierarchy: &Hierarchy, user: &Name, role: &Name) -> bool
+pub(crate) fn is_authorized(
+    sets: &RoleSets,
+    hierarchy: &Hierarchy,
+    user: &Name,
+    role: &Name,
+) -> bool
     ensures { result ≡ is_authorized (state_of_roles sets.now.content hierarchy.now.content) user.now role.now }
 {
     some_inherits(hierarchy, sets.assignments_of(user), role)
@@ -140,7 +145,12 @@ pub(crate) fn count_authorized(
 }
 
 /// Whether each of the roles is there, and the owner of a session is authorized for it. Where the owner is, the role is there.
-pub(crate) fn is_entitled(sets: &RoleSets, hierarchy: &Hierarchy, owner: &Name, active: &NameSet) -> bool
+pub(crate) fn is_entitled(
+    sets: &RoleSets,
+    hierarchy: &Hierarchy,
+    owner: &Name,
+    active: &NameSet,
+) -> bool
     ensures { result ≡ is_entitled (state_of_roles sets.now.content hierarchy.now.content) (record { owner = owner.now; active = active.now }) }
 {
     is_authorized_for_all(sets, hierarchy, owner, active.names())

@@ -22,7 +22,12 @@ fn is_to_one(grants: &[((Name, Name), Name)], roles: &NameSet) -> bool
 }
 
 /// Whether the operation on the object is granted to one of the roles.
-pub(crate) fn is_granted_to_one(sets: &RoleSets, roles: &NameSet, operation: &Name, object: &Name) -> bool
+pub(crate) fn is_granted_to_one(
+    sets: &RoleSets,
+    roles: &NameSet,
+    operation: &Name,
+    object: &Name,
+) -> bool
     ensures { result ≡ is_granted_to_one roles.now sets.now.content.granted (operation.now, object.now) }
 {
     is_to_one(sets.grants_of(operation, object), roles)

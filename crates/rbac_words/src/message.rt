@@ -2,8 +2,8 @@
 ghost use Rattle.std.specs.Prelude.{◌≡◌, IfOk};
 ghost use Rattle.rbac_words.specs.Message.{stamp_of};
 
-use rbac_terms::Command;
 use crate::stamp::Stamp;
+use rbac_terms::Command;
 use std::alloc::AllocError;
 
 /// A command as it was submitted: when and where, by which caller of that member, and with which serial, the number of that
