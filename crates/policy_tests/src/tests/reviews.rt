@@ -1,16 +1,20 @@
 //! Each review of `rbac_review` with ample memory. What is expected was written by hand.
-use crate::named::{assert_names, name, name_set, names};
+use super::named::{assert_found, name, name_set, names};
 use rbac_hierarchy::{Hierarchy, RoleOrder};
 use rbac_review::Parts;
 use rbac_rolesets::RoleSets;
 use rbac_separation::SetTable;
 use rbac_sessions::Sessions;
 use rbac_terms::{PermissionSet, Separation, Vocabulary};
-use std::alloc::Global;
+use std::alloc::{AllocError, Global};
 use std::process::Abort;
-use std::test::Fail;
 
-fn assert_permissions(rt: &impl Abort, permissions: &PermissionSet, texts: &[(&str, &str)]) {
+fn assert_permissions(
+    rt: &impl Abort,
+    found: Result<PermissionSet, AllocError>,
+    texts: &[(&str, &str)],
+) {
+    let permissions = found.expect(rt, "memory");
     assert_eq!(rt; permissions.permissions().len(), texts.len());
     for (permission, (operation, object)) in permissions.permissions().iter().zip(texts) {
         assert_eq!(rt; permission.0.as_bytes(), operation.as_bytes());
@@ -21,6 +25,7 @@ fn assert_permissions(rt: &impl Abort, permissions: &PermissionSet, texts: &[(&s
 // What an office consists of, for its parts to be lent.
 #[derive(Drop)]
 struct Office {
+    alloc: Global,
     sets: RoleSets,
     hierarchy: Hierarchy,
     static_sets: SetTable,
@@ -154,6 +159,7 @@ fn office_sessions(rt: &impl Abort, alloc: Global) -> Sessions {
 
 fn small_office(rt: &impl Abort, alloc: Global) -> Office {
     Office {
+        alloc,
         sets: office_sets(rt, alloc),
         hierarchy: office_hierarchy(rt, alloc),
         static_sets: office_static_sets(rt, alloc),
@@ -163,68 +169,52 @@ fn small_office(rt: &impl Abort, alloc: Global) -> Office {
     }
 }
 
-fn expect_assigned_users(
-    rt: &impl Abort,
-    alloc: Global,
-    office: &Office,
-    role: &str,
-    texts: &[&str],
-) {
-    let users = parts(office).assigned_users(alloc, &name(rt, alloc, role));
-    assert_names(rt, &users.expect(rt, "memory"), texts);
+// What an office is asked of a user or of a role.
+#[derive(Clone, Copy)]
+enum Asked {
+    AssignedUsers,
+    AssignedRoles,
+    AuthorizedUsers,
+    AuthorizedRoles,
 }
 
-fn expect_assigned_roles(
-    rt: &impl Abort,
-    alloc: Global,
-    office: &Office,
-    user: &str,
-    texts: &[&str],
-) {
-    let roles = parts(office).assigned_roles(alloc, &name(rt, alloc, user));
-    assert_names(rt, &roles.expect(rt, "memory"), texts);
+// Compares what is answered of the name.
+fn expect_answer(rt: &impl Abort, office: &Office, asked: Asked, text: &str, wanted: &[&str]) {
+    let parts = parts(office);
+    let name = name(rt, office.alloc, text);
+    let found = match asked {
+        Asked::AssignedUsers => parts.assigned_users(office.alloc, &name),
+        Asked::AssignedRoles => parts.assigned_roles(office.alloc, &name),
+        Asked::AuthorizedUsers => parts.authorized_users(office.alloc, &name),
+        Asked::AuthorizedRoles => parts.authorized_roles(office.alloc, &name),
+    };
+    assert_found(rt, found, wanted);
 }
 
 #[test]
 fn assigned_users_and_roles_are_listed(rt: HostRuntime) {
-    let alloc = rt.alloc();
-    let office = small_office(&rt, alloc);
-    expect_assigned_users(&rt, alloc, &office, "clerk", &["Zed", "bob"]);
-    expect_assigned_users(&rt, alloc, &office, "payer", &[]);
-    expect_assigned_roles(&rt, alloc, &office, "ann", &["boss"]);
-    expect_assigned_roles(&rt, alloc, &office, "zz", &[]);
-}
-
-fn expect_authorized_users(
-    rt: &impl Abort,
-    alloc: Global,
-    office: &Office,
-    role: &str,
-    texts: &[&str],
-) {
-    let users = parts(office).authorized_users(alloc, &name(rt, alloc, role));
-    assert_names(rt, &users.expect(rt, "memory"), texts);
-}
-
-fn expect_authorized_roles(
-    rt: &impl Abort,
-    alloc: Global,
-    office: &Office,
-    user: &str,
-    texts: &[&str],
-) {
-    let roles = parts(office).authorized_roles(alloc, &name(rt, alloc, user));
-    assert_names(rt, &roles.expect(rt, "memory"), texts);
+    let office = small_office(&rt, rt.alloc());
+    for (asked, text, wanted) in [
+        (Asked::AssignedUsers, "clerk", ["Zed", "bob"].as_slice()),
+        (Asked::AssignedUsers, "payer", &[]),
+        (Asked::AssignedRoles, "ann", &["boss"]),
+        (Asked::AssignedRoles, "zz", &[]),
+    ] {
+        expect_answer(&rt, &office, asked, text, wanted);
+    }
 }
 
 #[test]
 fn authorized_users_and_roles_are_listed(rt: HostRuntime) {
-    let alloc = rt.alloc();
-    let office = small_office(&rt, alloc);
-    expect_authorized_users(&rt, alloc, &office, "clerk", &["Zed", "ann", "bob"]);
-    expect_authorized_users(&rt, alloc, &office, "payer", &["ann"]);
-    expect_authorized_roles(&rt, alloc, &office, "ann", &["boss", "clerk", "payer"]);
-    expect_authorized_roles(&rt, alloc, &office, "bob", &["clerk"]);
+    let office = small_office(&rt, rt.alloc());
+    for (asked, text, wanted) in [
+        (Asked::AuthorizedUsers, "payer", ["ann"].as_slice()),
+        (Asked::AuthorizedUsers, "clerk", &["Zed", "ann", "bob"]),
+        (Asked::AuthorizedRoles, "ann", &["boss", "clerk", "payer"]),
+        (Asked::AuthorizedRoles, "bob", &["clerk"]),
+    ] {
+        expect_answer(&rt, &office, asked, text, wanted);
+    }
 }
 
 const ALL: [(&str, &str); 3] = [
@@ -233,130 +223,113 @@ const ALL: [(&str, &str); 3] = [
     ("read", "ledger"),
 ];
 
-fn expect_role_permissions(
-    rt: &impl Abort,
-    alloc: Global,
-    office: &Office,
-    role: &str,
-    texts: &[(&str, &str)],
-) {
-    let permissions = parts(office).role_permissions(alloc, &name(rt, alloc, role));
-    assert_permissions(rt, &permissions.expect(rt, "memory"), texts);
+fn expect_role_permissions(rt: &impl Abort, office: &Office, role: &str, texts: &[(&str, &str)]) {
+    let role = name(rt, office.alloc, role);
+    let found = parts(office).role_permissions(office.alloc, &role);
+    assert_permissions(rt, found, texts);
 }
 
-fn expect_user_permissions(
-    rt: &impl Abort,
-    alloc: Global,
-    office: &Office,
-    user: &str,
-    texts: &[(&str, &str)],
-) {
-    let permissions = parts(office).user_permissions(alloc, &name(rt, alloc, user));
-    assert_permissions(rt, &permissions.expect(rt, "memory"), texts);
+fn expect_user_permissions(rt: &impl Abort, office: &Office, user: &str, texts: &[(&str, &str)]) {
+    let user = name(rt, office.alloc, user);
+    let found = parts(office).user_permissions(office.alloc, &user);
+    assert_permissions(rt, found, texts);
 }
 
 #[test]
 fn permissions_are_listed_with_inherited_ones(rt: HostRuntime) {
-    let alloc = rt.alloc();
-    let office = small_office(&rt, alloc);
-    expect_role_permissions(&rt, alloc, &office, "boss", &ALL);
-    expect_role_permissions(&rt, alloc, &office, "payer", &[("pay", "invoice")]);
-    expect_user_permissions(&rt, alloc, &office, "ann", &ALL);
-    expect_user_permissions(&rt, alloc, &office, "bob", &[("read", "ledger")]);
+    let office = small_office(&rt, rt.alloc());
+    expect_role_permissions(&rt, &office, "boss", &ALL);
+    expect_role_permissions(&rt, &office, "payer", &[("pay", "invoice")]);
+    expect_user_permissions(&rt, &office, "ann", &ALL);
+    expect_user_permissions(&rt, &office, "bob", &[("read", "ledger")]);
 }
 
+// Compares the roles that are active in a session, and its permissions.
 fn expect_session(
     rt: &impl Abort,
-    alloc: Global,
     office: &Office,
     session: &str,
     roles: &[&str],
     texts: &[(&str, &str)],
 ) {
-    let session = name(rt, alloc, session);
-    let active = parts(office).session_roles(alloc, &session);
-    assert_names(rt, &active.expect(rt, "memory"), roles);
-    let permissions = parts(office).session_permissions(alloc, &session);
-    assert_permissions(rt, &permissions.expect(rt, "memory"), texts);
+    let session = name(rt, office.alloc, session);
+    assert_found(
+        rt,
+        parts(office).session_roles(office.alloc, &session),
+        roles,
+    );
+    let permissions = parts(office).session_permissions(office.alloc, &session);
+    assert_permissions(rt, permissions, texts);
 }
 
 #[test]
 fn sessions_are_reviewed(rt: HostRuntime) {
-    let alloc = rt.alloc();
-    let office = small_office(&rt, alloc);
-    expect_session(&rt, alloc, &office, "s1", &["payer"], &[("pay", "invoice")]);
-    expect_session(&rt, alloc, &office, "zz", &[], &[]);
+    let office = small_office(&rt, rt.alloc());
+    expect_session(&rt, &office, "s1", &["payer"], &[("pay", "invoice")]);
+    expect_session(&rt, &office, "zz", &[], &[]);
 }
 
-fn expect_role_operations(
-    rt: &impl Abort,
-    alloc: Global,
-    office: &Office,
-    (role, object): (&str, &str),
-    texts: &[&str],
-) {
-    let (role, object) = (name(rt, alloc, role), name(rt, alloc, object));
-    let operations = parts(office).role_operations_on_object(alloc, &role, &object);
-    assert_names(rt, &operations.expect(rt, "memory"), texts);
+// Compares the operations on an object that a role has.
+fn expect_role_operations(rt: &impl Abort, office: &Office, texts: (&str, &str), wanted: &[&str]) {
+    let role = name(rt, office.alloc, texts.0);
+    let object = name(rt, office.alloc, texts.1);
+    let found = parts(office).role_operations_on_object(office.alloc, &role, &object);
+    assert_found(rt, found, wanted);
 }
 
-fn expect_user_operations(
-    rt: &impl Abort,
-    alloc: Global,
-    office: &Office,
-    (user, object): (&str, &str),
-    texts: &[&str],
-) {
-    let (user, object) = (name(rt, alloc, user), name(rt, alloc, object));
-    let operations = parts(office).user_operations_on_object(alloc, &user, &object);
-    assert_names(rt, &operations.expect(rt, "memory"), texts);
+fn expect_user_operations(rt: &impl Abort, office: &Office, texts: (&str, &str), wanted: &[&str]) {
+    let user = name(rt, office.alloc, texts.0);
+    let object = name(rt, office.alloc, texts.1);
+    let found = parts(office).user_operations_on_object(office.alloc, &user, &object);
+    assert_found(rt, found, wanted);
 }
 
 #[test]
 fn operations_on_an_object_are_listed(rt: HostRuntime) {
-    let alloc = rt.alloc();
-    let office = small_office(&rt, alloc);
-    expect_role_operations(
-        &rt,
-        alloc,
-        &office,
-        ("boss", "invoice"),
-        &["approve", "pay"],
-    );
-    expect_role_operations(&rt, alloc, &office, ("payer", "ledger"), &[]);
-    expect_user_operations(&rt, alloc, &office, ("ann", "ledger"), &["read"]);
-    expect_user_operations(&rt, alloc, &office, ("bob", "invoice"), &[]);
+    let office = small_office(&rt, rt.alloc());
+    let both = ["approve", "pay"];
+    expect_role_operations(&rt, &office, ("boss", "invoice"), &both);
+    expect_role_operations(&rt, &office, ("payer", "ledger"), &[]);
+    expect_user_operations(&rt, &office, ("ann", "ledger"), &["read"]);
+    expect_user_operations(&rt, &office, ("bob", "invoice"), &[]);
 }
 
+// Compares the roles of a set, and how many of them are too many.
 fn expect_set(
     rt: &impl Abort,
-    alloc: Global,
     office: &Office,
     (kind, text): (Separation, &str),
     roles: &[&str],
     n: u32,
 ) {
-    let set = name(rt, alloc, text);
-    let listed = parts(office).role_set_roles(alloc, kind, &set);
-    assert_names(rt, &listed.expect(rt, "memory"), roles);
+    let set = name(rt, office.alloc, text);
+    let listed = parts(office).role_set_roles(office.alloc, kind, &set);
+    assert_found(rt, listed, roles);
     assert_eq!(rt; parts(office).role_set_cardinality(kind, &set), n);
 }
 
-fn expect_sets(rt: &impl Abort, alloc: Global, office: &Office, kind: Separation, texts: &[&str]) {
-    let names = parts(office).role_sets(alloc, kind);
-    assert_names(rt, &names.expect(rt, "memory"), texts);
+fn expect_sets(rt: &impl Abort, office: &Office, kind: Separation, texts: &[&str]) {
+    assert_found(rt, parts(office).role_sets(office.alloc, kind), texts);
 }
 
 #[test]
 fn sets_of_separation_are_reviewed(rt: HostRuntime) {
-    let alloc = rt.alloc();
-    let office = small_office(&rt, alloc);
-    expect_sets(&rt, alloc, &office, Separation::Static, &["duty", "late"]);
-    expect_sets(&rt, alloc, &office, Separation::Dynamic, &["duty"]);
-    let duty = (Separation::Static, "duty");
-    expect_set(&rt, alloc, &office, duty, &["Auditor", "payer"], 2);
-    let late = (Separation::Static, "late");
-    expect_set(&rt, alloc, &office, late, &["Auditor", "boss", "payer"], 3);
-    let none = (Separation::Dynamic, "late");
-    expect_set(&rt, alloc, &office, none, &[], 0);
+    let office = small_office(&rt, rt.alloc());
+    expect_sets(&rt, &office, Separation::Static, &["duty", "late"]);
+    expect_sets(&rt, &office, Separation::Dynamic, &["duty"]);
+    for (set, roles, n) in [
+        (
+            (Separation::Static, "duty"),
+            ["Auditor", "payer"].as_slice(),
+            2,
+        ),
+        (
+            (Separation::Static, "late"),
+            &["Auditor", "boss", "payer"],
+            3,
+        ),
+        ((Separation::Dynamic, "late"), &[], 0),
+    ] {
+        expect_set(&rt, &office, set, roles, n);
+    }
 }

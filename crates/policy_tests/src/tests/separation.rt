@@ -1,12 +1,11 @@
 //! Each public call of `rbac_separation` with ample memory. What is expected was written by hand.
 ghost use Rattle.std.specs.Prelude.{◌≤◌, length};
 
-use crate::named::{assert_names, name, name_set};
+use super::named::{assert_names, name, name_set};
 use rbac_separation::{CountChange, CountPlan, Counts, RoleSet, SetChange, SetPlan, SetTable};
 use sorted_keys::{Duplicate, Same};
 use std::alloc::Global;
 use std::process::Abort;
-use std::test::Fail;
 
 fn create(rt: &impl Abort, alloc: Global, sets: &mut SetTable, set: &str, texts: &[&str]) {
     let set = name(rt, alloc, set);
@@ -65,17 +64,16 @@ fn assert_holds(rt: &impl Abort, alloc: Global, sets: &SetTable, role: &str, is:
 }
 
 #[test]
-fn an_empty_table_has_no_sets(rt: HostRuntime) -> Result<(), Fail> {
+fn an_empty_table_has_no_sets(rt: HostRuntime) {
     let alloc = rt.alloc();
     let sets = SetTable::empty(alloc);
     assert_eq!(rt; sets.len(), 0);
     assert_contains(&rt, alloc, &sets, "d", false);
     assert_none_over(&rt, alloc, &sets, &["a", "b"]);
-    Ok(())
 }
 
 #[test]
-fn a_set_has_its_roles_and_its_number(rt: HostRuntime) -> Result<(), Fail> {
+fn a_set_has_its_roles_and_its_number(rt: HostRuntime) {
     let alloc = rt.alloc();
     let sets = two_sets(&rt, alloc);
     assert_eq!(rt; sets.len(), 2);
@@ -83,64 +81,62 @@ fn a_set_has_its_roles_and_its_number(rt: HostRuntime) -> Result<(), Fail> {
     assert_roles(&rt, alloc, &sets, "d", &["a", "b", "c"]);
     assert_roles(&rt, alloc, &sets, "e", &["a", "c"]);
     assert_cardinality(&rt, alloc, &sets, "d", 2);
-    Ok(())
 }
 
 #[test]
-fn a_set_is_lent(rt: HostRuntime) -> Result<(), Fail> {
+fn a_set_is_lent(rt: HostRuntime) {
     let alloc = rt.alloc();
     let sets = two_sets(&rt, alloc);
     let set = sets.get(&name(&rt, alloc, "e")).expect(&rt, "a set");
     assert_eq!(rt; set.cardinality, 2);
     assert_names(&rt, &set.roles, &["a", "c"]);
     assert!(rt; sets.get(&name(&rt, alloc, "a")).is_none());
-    Ok(())
 }
 
 #[test]
-fn a_set_that_is_not_there_has_neither(rt: HostRuntime) -> Result<(), Fail> {
+fn a_set_that_is_not_there_has_neither(rt: HostRuntime) {
     let alloc = rt.alloc();
     let sets = two_sets(&rt, alloc);
     let other = name(&rt, alloc, "f");
     assert!(rt; !sets.contains(&other));
     assert!(rt; sets.roles(&other).is_none());
     assert!(rt; sets.cardinality(&other).is_none());
-    Ok(())
 }
 
 #[test]
-fn the_names_come_in_order(rt: HostRuntime) -> Result<(), Fail> {
+fn the_names_come_in_order(rt: HostRuntime) {
     let alloc = rt.alloc();
     let mut sets = two_sets(&rt, alloc);
     create(&rt, alloc, &mut sets, "c", &["a"]);
-    assert_names(&rt, &sets.names(alloc)?, &["c", "d", "e"]);
-    Ok(())
+    assert_names(
+        &rt,
+        &sets.names(alloc).expect(&rt, "memory"),
+        &["c", "d", "e"],
+    );
 }
 
 #[test]
-fn as_many_roles_as_the_number_are_over(rt: HostRuntime) -> Result<(), Fail> {
+fn as_many_roles_as_the_number_are_over(rt: HostRuntime) {
     let alloc = rt.alloc();
     let sets = one_set(&rt, alloc);
     assert_over(&rt, alloc, &sets, &["a", "c"], "d");
     assert_over(&rt, alloc, &sets, &["a", "b", "c"], "d");
     assert_none_over(&rt, alloc, &sets, &["a"]);
     assert_none_over(&rt, alloc, &sets, &["a", "y", "z"]);
-    Ok(())
 }
 
 #[test]
-fn the_first_set_by_name_is_told(rt: HostRuntime) -> Result<(), Fail> {
+fn the_first_set_by_name_is_told(rt: HostRuntime) {
     let alloc = rt.alloc();
     let mut sets = two_sets(&rt, alloc);
     assert_over(&rt, alloc, &sets, &["a", "c"], "d");
     sets.delete(&name(&rt, alloc, "d"));
     assert_over(&rt, alloc, &sets, &["a", "c"], "e");
     assert_none_over(&rt, alloc, &sets, &["a", "b"]);
-    Ok(())
 }
 
 #[test]
-fn a_greater_number_lets_more_roles_come_together(rt: HostRuntime) -> Result<(), Fail> {
+fn a_greater_number_lets_more_roles_come_together(rt: HostRuntime) {
     let alloc = rt.alloc();
     let mut sets = one_set(&rt, alloc);
     assert_over(&rt, alloc, &sets, &["a", "b"], "d");
@@ -148,90 +144,82 @@ fn a_greater_number_lets_more_roles_come_together(rt: HostRuntime) -> Result<(),
     assert_cardinality(&rt, alloc, &sets, "d", 3);
     assert_none_over(&rt, alloc, &sets, &["a", "b"]);
     assert_over(&rt, alloc, &sets, &["a", "b", "c"], "d");
-    Ok(())
 }
 
 #[test]
-fn a_role_of_any_set_is_held(rt: HostRuntime) -> Result<(), Fail> {
+fn a_role_of_any_set_is_held(rt: HostRuntime) {
     let alloc = rt.alloc();
     let mut sets = two_sets(&rt, alloc);
     add(&rt, alloc, &mut sets, "e", "g");
-    assert_holds(&rt, alloc, &sets, "a", true);
-    assert_holds(&rt, alloc, &sets, "g", true);
-    assert_holds(&rt, alloc, &sets, "z", false);
-    Ok(())
+    for (role, is) in [("a", true), ("g", true), ("z", false)] {
+        assert_holds(&rt, alloc, &sets, role, is);
+    }
 }
 
 #[test]
-fn a_role_is_taken_out(rt: HostRuntime) -> Result<(), Fail> {
+fn a_role_is_taken_out(rt: HostRuntime) {
     let alloc = rt.alloc();
     let mut sets = two_sets(&rt, alloc);
     sets.remove_member(&name(&rt, alloc, "d"), &name(&rt, alloc, "c"));
     assert_roles(&rt, alloc, &sets, "d", &["a", "b"]);
     assert_roles(&rt, alloc, &sets, "e", &["a", "c"]);
     assert_over(&rt, alloc, &sets, &["a", "c"], "e");
-    Ok(())
 }
 
 #[test]
-fn a_set_of_the_same_name_is_replaced(rt: HostRuntime) -> Result<(), Fail> {
+fn a_set_of_the_same_name_is_replaced(rt: HostRuntime) {
     let alloc = rt.alloc();
     let mut sets = two_sets(&rt, alloc);
     let roles = name_set(&rt, alloc, &["z", "y"]);
-    sets.create(name(&rt, alloc, "d"), roles, 5)?;
+    let created = sets.create(name(&rt, alloc, "d"), roles, 5);
+    created.expect(&rt, "memory");
     assert_eq!(rt; sets.len(), 2);
-    assert_roles(&rt, alloc, &sets, "d", &["y", "z"]);
     assert_cardinality(&rt, alloc, &sets, "d", 5);
-    Ok(())
+    assert_roles(&rt, alloc, &sets, "d", &["y", "z"]);
 }
 
 #[test]
-fn a_change_of_a_set_that_is_not_there_changes_nothing(rt: HostRuntime) -> Result<(), Fail> {
+fn a_change_of_a_set_that_is_not_there_changes_nothing(rt: HostRuntime) {
     let alloc = rt.alloc();
     let sets = two_sets(&rt, alloc);
-    let mut copy = sets.copy()?;
+    let mut copy = sets.copy().expect(&rt, "memory");
     let other = name(&rt, alloc, "f");
     add(&rt, alloc, &mut copy, "f", "a");
     copy.remove_member(&other, &name(&rt, alloc, "a"));
     copy.set_cardinality(&other, 3);
     copy.delete(&other);
     assert!(rt; copy.same(&sets));
-    Ok(())
 }
 
 #[test]
-fn a_copy_is_the_same_until_a_number_changes(rt: HostRuntime) -> Result<(), Fail> {
-    let alloc = rt.alloc();
-    let sets = two_sets(&rt, alloc);
-    let mut copy = sets.copy()?;
+fn a_copy_is_the_same_until_a_number_changes(rt: HostRuntime) {
+    let sets = two_sets(&rt, rt.alloc());
+    let mut copy = sets.copy().expect(&rt, "memory");
     assert!(rt; copy.same(&sets));
-    copy.set_cardinality(&name(&rt, alloc, "e"), 3);
+    copy.set_cardinality(&name(&rt, rt.alloc(), "e"), 3);
     assert!(rt; !copy.same(&sets));
-    Ok(())
 }
 
 #[test]
-fn a_copy_is_the_same_until_roles_change(rt: HostRuntime) -> Result<(), Fail> {
+fn a_copy_is_the_same_until_roles_change(rt: HostRuntime) {
     let alloc = rt.alloc();
     let sets = two_sets(&rt, alloc);
-    let mut copy = sets.copy()?;
+    let mut copy = sets.copy().expect(&rt, "memory");
     add(&rt, alloc, &mut copy, "e", "b");
     assert!(rt; !copy.same(&sets));
-    Ok(())
 }
 
 #[test]
-fn one_set_is_copied_and_compared(rt: HostRuntime) -> Result<(), Fail> {
+fn one_set_is_copied_and_compared(rt: HostRuntime) {
     let alloc = rt.alloc();
     let set = RoleSet {
         roles: name_set(&rt, alloc, &["a", "b"]),
         cardinality: 2,
     };
-    let mut copy = set.duplicate()?;
+    let mut copy = set.duplicate().expect(&rt, "memory");
     assert!(rt; copy.same(&set));
     copy.cardinality = 3;
     assert!(rt; !copy.same(&set));
-    Ok(())
 }
 
 fn put(rt: &impl Abort, alloc: Global, counts: &mut Counts, set: &str, user: &str, number: u32) {
@@ -272,11 +260,24 @@ fn a_number_is_that_of_a_set_and_a_user(rt: HostRuntime) {
     let alloc = rt.alloc();
     let empty = Counts::empty(alloc);
     assert_numbers(&rt, alloc, &empty, (0, 0, 0));
+    drop(empty);
     let counts = some_counts(&rt, alloc);
     assert_numbers(&rt, alloc, &counts, (1, 1, 2));
     assert_eq!(rt; number(&rt, alloc, &counts, "e", "bob"), 0);
     drop(counts);
-    drop(empty);
+}
+
+#[test]
+fn a_set_or_a_user_is_forgotten(rt: HostRuntime) {
+    let alloc = rt.alloc();
+    let mut counts = some_counts(&rt, alloc);
+    let mut copy = counts.copy().expect(&rt, "memory");
+    counts.forget_set(&name(&rt, alloc, "d"));
+    assert_numbers(&rt, alloc, &counts, (0, 1, 0));
+    copy.forget_user(&name(&rt, alloc, "ann"));
+    assert_numbers(&rt, alloc, &copy, (0, 0, 2));
+    drop(copy);
+    drop(counts);
 }
 
 #[test]
@@ -301,23 +302,6 @@ fn numbers_are_put_where_there_is_room(rt: HostRuntime) {
     counts.put_ready(ann, 3);
     counts.put_ready(bob, 0);
     assert_numbers(&rt, alloc, &counts, (3, 1, 0));
-    drop(counts);
-}
-
-#[test]
-fn a_set_or_a_user_is_forgotten(rt: HostRuntime) {
-    let alloc = rt.alloc();
-    let mut counts = some_counts(&rt, alloc);
-    let mut copy = counts.copy().expect(&rt, "memory");
-    let set = name(&rt, alloc, "d");
-    counts.forget_set(&set);
-    assert_numbers(&rt, alloc, &counts, (0, 1, 0));
-    let user = name(&rt, alloc, "ann");
-    copy.forget_user(&user);
-    assert_numbers(&rt, alloc, &copy, (0, 0, 2));
-    drop(user);
-    drop(set);
-    drop(copy);
     drop(counts);
 }
 

@@ -1,6 +1,6 @@
 use Rattle.std.proofs.Common.{◌≡◌, ap, Result, Ok, Err, OnOk}
 use Rattle.rbac_hierarchy.proofs.WalkLemmas.{added_before, added_itself}
-use Rattle.policy_tests.proofs.reviews.office_hierarchy.Goals as goal
+use Rattle.policy_tests.proofs.tests.reviews.office_hierarchy.Goals as goal
 
 -- what is so of a call that was made
 made : {X E P : Type 0} {x : X} (r : Result X E) → r ≡ Ok x → OnOk r P → P

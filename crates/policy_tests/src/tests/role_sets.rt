@@ -1,7 +1,7 @@
 //! Each public call of `rbac_rolesets` with ample memory. What is expected was written by hand.
 ghost use Rattle.std.specs.Prelude.{◌≤◌, length};
 
-use crate::named::{After, assert_names, name};
+use super::named::{After, assert_called, assert_found, name};
 use rbac_rolesets::{Change, Plan, RoleSets};
 use rbac_terms::Name;
 use std::alloc::Global;
@@ -12,16 +12,9 @@ fn assign(rt: &impl Abort, alloc: Global, sets: &mut RoleSets, user: &str, role:
     sets.assign(user, role).expect(rt, "memory");
 }
 
-fn grant(
-    rt: &impl Abort,
-    alloc: Global,
-    sets: &mut RoleSets,
-    operation: &str,
-    object: &str,
-    role: &str,
-) {
-    let (operation, object) = (name(rt, alloc, operation), name(rt, alloc, object));
-    let role = name(rt, alloc, role);
+fn grant(rt: &impl Abort, alloc: Global, sets: &mut RoleSets, texts: [&str; 3]) {
+    let (operation, object) = (name(rt, alloc, texts[0]), name(rt, alloc, texts[1]));
+    let role = name(rt, alloc, texts[2]);
     sets.grant(operation, object, role).expect(rt, "memory");
 }
 
@@ -29,16 +22,9 @@ fn deassign(rt: &impl Abort, alloc: Global, sets: &mut RoleSets, user: &str, rol
     sets.deassign(&name(rt, alloc, user), &name(rt, alloc, role));
 }
 
-fn revoke(
-    rt: &impl Abort,
-    alloc: Global,
-    sets: &mut RoleSets,
-    operation: &str,
-    object: &str,
-    role: &str,
-) {
-    let (operation, object) = (name(rt, alloc, operation), name(rt, alloc, object));
-    sets.revoke(&operation, &object, &name(rt, alloc, role));
+fn revoke(rt: &impl Abort, alloc: Global, sets: &mut RoleSets, texts: [&str; 3]) {
+    let (operation, object) = (name(rt, alloc, texts[0]), name(rt, alloc, texts[1]));
+    sets.revoke(&operation, &object, &name(rt, alloc, texts[2]));
 }
 
 fn remove_user(rt: &impl Abort, alloc: Global, sets: &mut RoleSets, user: &str) {
@@ -65,10 +51,39 @@ fn fill(rt: &impl Abort, alloc: Global, sets: &mut RoleSets) {
 fn small_office(rt: &impl Abort, alloc: Global) -> RoleSets {
     let mut sets = RoleSets::empty(alloc);
     fill(rt, alloc, &mut sets);
-    grant(rt, alloc, &mut sets, "pay", "invoice", "payer");
-    grant(rt, alloc, &mut sets, "read", "ledger", "clerk");
+    grant(rt, alloc, &mut sets, ["pay", "invoice", "payer"]);
+    grant(rt, alloc, &mut sets, ["read", "ledger", "clerk"]);
     sets
 }
+
+// Plans that cleo becomes an auditor, who reads the ledger.
+fn plan_an_auditor(rt: &impl Abort, alloc: Global, sets: &mut RoleSets) -> Plan
+    ensures { length result ≤ sets.new.room }
+{
+    let (cleo, auditor) = (name(rt, alloc, "cleo"), name(rt, alloc, "auditor"));
+    let (read, ledger) = (name(rt, alloc, "read"), name(rt, alloc, "ledger"));
+    let changes = [
+        Change::AddUser { user: &cleo },
+        Change::AddRole { role: &auditor },
+        Change::Assign {
+            user: &cleo,
+            role: &auditor,
+        },
+        Change::Grant {
+            operation: &read,
+            object: &ledger,
+            role: &auditor,
+        },
+    ];
+    sets.plan(alloc, &changes).expect(rt, "memory")
+}
+
+// The roles of users of the small office, and of one that it does not have.
+const ASSIGNED: [(&str, &[&str]); 3] = [
+    ("bob", &["clerk", "payer"]),
+    ("alice", &["clerk"]),
+    ("clerk", &[]),
+];
 
 fn is_user(rt: &impl Abort, alloc: Global, sets: &RoleSets, user: &str) -> bool {
     sets.has_user(&name(rt, alloc, user))
@@ -88,37 +103,33 @@ fn reads(rt: &impl Abort, alloc: Global, sets: &RoleSets, role: &str) -> bool {
     sets.granted(&read, &ledger, &name(rt, alloc, role))
 }
 
-fn assert_called(rt: &impl Abort, name: &Name, text: &str) {
-    assert_eq!(rt; name.as_bytes(), text.as_bytes());
-}
-
-fn assert_bytes(rt: &impl Abort, names: &[Name], texts: &[&str]) {
-    assert_eq!(rt; names.len(), texts.len());
-    for (name, text) in names.iter().zip(texts) {
-        assert_called(rt, name, text);
-    }
-}
-
 // The second names of pairs.
 fn assert_seconds<T>(rt: &impl Abort, pairs: &[(T, Name)], texts: &[&str]) {
     assert_eq!(rt; pairs.len(), texts.len());
     for (pair, text) in pairs.iter().zip(texts) {
-        assert_called(rt, &pair.1, text);
+        assert_eq!(rt; pair.1.as_bytes(), text.as_bytes());
     }
 }
 
 fn assert_users(rt: &impl Abort, alloc: Global, sets: &RoleSets, role: &str, texts: &[&str]) {
-    let found = sets.users_of(alloc, &name(rt, alloc, role));
-    let users = found.expect(rt, "memory");
-    assert_names(rt, &users, texts);
-    drop(users);
+    assert_found(rt, sets.users_of(alloc, &name(rt, alloc, role)), texts);
 }
 
 fn assert_roles(rt: &impl Abort, alloc: Global, sets: &RoleSets, user: &str, texts: &[&str]) {
-    let found = sets.roles_of(alloc, &name(rt, alloc, user));
-    let roles = found.expect(rt, "memory");
-    assert_names(rt, &roles, texts);
-    drop(roles);
+    assert_found(rt, sets.roles_of(alloc, &name(rt, alloc, user)), texts);
+}
+
+fn assert_users_after(
+    rt: &impl Abort,
+    alloc: Global,
+    sets: &RoleSets,
+    before: &str,
+    texts: &[&str],
+) {
+    let after = After {
+        name: name(rt, alloc, before),
+    };
+    assert_found(rt, sets.users_where(alloc, &after), texts);
 }
 
 #[test]
@@ -126,7 +137,7 @@ fn users_and_roles_are_there(rt: HostRuntime) {
     let alloc = rt.alloc();
     let sets = small_office(&rt, alloc);
     assert_eq!(rt; sets.user_count(), 2);
-    assert_bytes(&rt, sets.users(), &["alice", "bob"]);
+    assert_called(&rt, sets.users(), &["alice", "bob"]);
     assert_eq!(rt; sets.role_count(), 2);
     assert!(rt; is_user(&rt, alloc, &sets, "bob"));
     assert!(rt; !is_user(&rt, alloc, &sets, "clerk"));
@@ -154,9 +165,9 @@ fn permissions_are_granted(rt: HostRuntime) {
     let mut sets = small_office(&rt, alloc);
     assert!(rt; reads(&rt, alloc, &sets, "clerk"));
     assert!(rt; !reads(&rt, alloc, &sets, "payer"));
-    revoke(&rt, alloc, &mut sets, "ledger", "read", "clerk");
+    revoke(&rt, alloc, &mut sets, ["ledger", "read", "clerk"]);
     assert!(rt; reads(&rt, alloc, &sets, "clerk"));
-    revoke(&rt, alloc, &mut sets, "read", "ledger", "clerk");
+    revoke(&rt, alloc, &mut sets, ["read", "ledger", "clerk"]);
     assert!(rt; !reads(&rt, alloc, &sets, "clerk"));
     drop(sets);
 }
@@ -168,25 +179,10 @@ fn users_and_roles_are_gathered(rt: HostRuntime) {
     assert_users(&rt, alloc, &sets, "clerk", &["alice", "bob"]);
     assert_users(&rt, alloc, &sets, "payer", &["bob"]);
     assert_users(&rt, alloc, &sets, "bob", &[]);
-    assert_roles(&rt, alloc, &sets, "bob", &["clerk", "payer"]);
-    assert_roles(&rt, alloc, &sets, "alice", &["clerk"]);
-    assert_roles(&rt, alloc, &sets, "clerk", &[]);
+    for (user, roles) in ASSIGNED {
+        assert_roles(&rt, alloc, &sets, user, roles);
+    }
     drop(sets);
-}
-
-fn assert_users_after(
-    rt: &impl Abort,
-    alloc: Global,
-    sets: &RoleSets,
-    before: &str,
-    texts: &[&str],
-) {
-    let after = After {
-        name: name(rt, alloc, before),
-    };
-    let users = sets.users_where(alloc, &after).expect(rt, "memory");
-    assert_names(rt, &users, texts);
-    drop(users);
 }
 
 #[test]
@@ -202,7 +198,7 @@ fn assert_assignments(rt: &impl Abort, alloc: Global, sets: &RoleSets, user: &st
     let name = name(rt, alloc, user);
     let pairs = sets.assignments_of(&name);
     for (assigned, _) in pairs {
-        assert_called(rt, assigned, user);
+        assert_eq!(rt; assigned.as_bytes(), user.as_bytes());
     }
     assert_seconds(rt, pairs, roles);
 }
@@ -211,9 +207,9 @@ fn assert_assignments(rt: &impl Abort, alloc: Global, sets: &RoleSets, user: &st
 fn assignments_are_lent(rt: HostRuntime) {
     let alloc = rt.alloc();
     let sets = small_office(&rt, alloc);
-    assert_assignments(&rt, alloc, &sets, "bob", &["clerk", "payer"]);
-    assert_assignments(&rt, alloc, &sets, "alice", &["clerk"]);
-    assert_assignments(&rt, alloc, &sets, "clerk", &[]);
+    for (user, roles) in ASSIGNED {
+        assert_assignments(&rt, alloc, &sets, user, roles);
+    }
     drop(sets);
 }
 
@@ -233,7 +229,7 @@ fn assert_grants(
 fn grants_are_lent(rt: HostRuntime) {
     let alloc = rt.alloc();
     let mut sets = small_office(&rt, alloc);
-    grant(&rt, alloc, &mut sets, "read", "ledger", "auditor");
+    grant(&rt, alloc, &mut sets, ["read", "ledger", "auditor"]);
     assert_grants(&rt, alloc, &sets, "read", "ledger", &["auditor", "clerk"]);
     assert_grants(&rt, alloc, &sets, "pay", "invoice", &["payer"]);
     assert_grants(&rt, alloc, &sets, "ledger", "read", &[]);
@@ -244,8 +240,9 @@ fn grants_are_lent(rt: HostRuntime) {
 fn a_user_is_removed_with_its_roles(rt: HostRuntime) {
     let alloc = rt.alloc();
     let mut sets = small_office(&rt, alloc);
-    remove_user(&rt, alloc, &mut sets, "bob");
-    remove_user(&rt, alloc, &mut sets, "clerk");
+    for user in ["bob", "clerk"] {
+        remove_user(&rt, alloc, &mut sets, user);
+    }
     assert_eq!(rt; sets.user_count(), 1);
     assert_roles(&rt, alloc, &sets, "bob", &[]);
     assert_roles(&rt, alloc, &sets, "alice", &["clerk"]);
@@ -266,6 +263,20 @@ fn a_role_is_removed_with_its_users_and_permissions(rt: HostRuntime) {
 }
 
 #[test]
+fn a_plan_changes_nothing_until_its_commit(rt: HostRuntime) {
+    let alloc = rt.alloc();
+    let mut sets = small_office(&rt, alloc);
+    let plan = plan_an_auditor(&rt, alloc, &mut sets);
+    assert_eq!(rt; (sets.user_count(), sets.role_count()), (2, 2));
+    sets.commit(plan);
+    assert_called(&rt, sets.users(), &["alice", "bob", "cleo"]);
+    assert!(rt; is_role(&rt, alloc, &sets, "auditor"));
+    assert!(rt; is_assigned(&rt, alloc, &sets, "cleo", "auditor"));
+    assert!(rt; reads(&rt, alloc, &sets, "auditor"));
+    drop(sets);
+}
+
+#[test]
 fn a_copy_is_the_same_until_it_is_changed(rt: HostRuntime) {
     let alloc = rt.alloc();
     let sets = small_office(&rt, alloc);
@@ -275,41 +286,5 @@ fn a_copy_is_the_same_until_it_is_changed(rt: HostRuntime) {
     assert!(rt; added.is_ok());
     assert!(rt; !copy.same(&sets));
     drop(copy);
-    drop(sets);
-}
-
-// Plans that cleo becomes an auditor, who reads the ledger.
-fn plan_an_auditor(rt: &impl Abort, alloc: Global, sets: &mut RoleSets) -> Plan
-    ensures { length result ≤ sets.new.room }
-{
-    let (cleo, auditor) = (name(rt, alloc, "cleo"), name(rt, alloc, "auditor"));
-    let (read, ledger) = (name(rt, alloc, "read"), name(rt, alloc, "ledger"));
-    let changes = [
-        Change::AddUser { user: &cleo },
-        Change::AddRole { role: &auditor },
-        Change::Assign {
-            user: &cleo,
-            role: &auditor,
-        },
-        Change::Grant {
-            operation: &read,
-            object: &ledger,
-            role: &auditor,
-        },
-    ];
-    sets.plan(alloc, &changes).expect(rt, "memory")
-}
-
-#[test]
-fn a_plan_changes_nothing_until_its_commit(rt: HostRuntime) {
-    let alloc = rt.alloc();
-    let mut sets = small_office(&rt, alloc);
-    let plan = plan_an_auditor(&rt, alloc, &mut sets);
-    assert_eq!(rt; (sets.user_count(), sets.role_count()), (2, 2));
-    sets.commit(plan);
-    assert_bytes(&rt, sets.users(), &["alice", "bob", "cleo"]);
-    assert!(rt; is_role(&rt, alloc, &sets, "auditor"));
-    assert!(rt; is_assigned(&rt, alloc, &sets, "cleo", "auditor"));
-    assert!(rt; reads(&rt, alloc, &sets, "auditor"));
     drop(sets);
 }

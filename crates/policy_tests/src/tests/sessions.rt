@@ -3,13 +3,12 @@ ghost use Rattle.std.specs.Prelude.{◌≤◌, length};
 ghost use Rattle.std.specs.Ordering.{eq_by_cmp};
 ghost use Rattle.rbac_terms.specs.Name.{name_cmp};
 
-use crate::named::{name, name_set};
+use super::named::{assert_names, name, name_set};
 use rbac_sessions::{Change, Plan, Session, SessionTest, Sessions};
 use rbac_terms::{Name, NameSet};
 use sorted_keys::{Duplicate, Same};
 use std::alloc::Global;
 use std::process::Abort;
-use std::test::Fail;
 
 // The sessions of one owner.
 #[derive(Drop)]
@@ -56,126 +55,15 @@ fn assert_roles(
 ) {
     let session = name(rt, alloc, session);
     let active = sessions.roles(&session).expect(rt, "a session");
-    assert_eq!(rt; active.len(), roles.len());
-    for (role, text) in active.names().iter().zip(roles) {
-        assert_eq!(rt; role.as_bytes(), text.as_bytes());
-    }
+    assert_names(rt, active, roles);
 }
 
 fn assert_contains(rt: &impl Abort, alloc: Global, sessions: &Sessions, session: &str, is: bool) {
     assert_eq!(rt; sessions.contains(&name(rt, alloc, session)), is);
 }
 
-#[test]
-fn a_session_has_its_owner_and_its_roles(rt: HostRuntime) -> Result<(), Fail> {
-    let alloc = rt.alloc();
-    let sessions = two_sessions(&rt, alloc);
-    assert_eq!(rt; sessions.len(), 2);
-    assert_contains(&rt, alloc, &sessions, "s1", true);
-    assert_contains(&rt, alloc, &sessions, "s3", false);
-    assert_roles(&rt, alloc, &sessions, "s1", &["clerk"]);
-    assert_roles(&rt, alloc, &sessions, "s2", &["clerk", "payer"]);
-    Ok(())
-}
-
-#[test]
-fn a_session_is_got_by_its_name(rt: HostRuntime) -> Result<(), Fail> {
-    let alloc = rt.alloc();
-    let sessions = two_sessions(&rt, alloc);
-    let (second, third) = (name(&rt, alloc, "s2"), name(&rt, alloc, "s3"));
-    let owner = sessions.owner(&second).expect(&rt, "a session");
-    assert_eq!(rt; owner.as_bytes(), b"bob".as_slice());
-    assert!(rt; sessions.owner(&third).is_none());
-    assert!(rt; sessions.roles(&third).is_none());
-    let session = sessions.get(&second).expect(&rt, "a session");
-    assert_eq!(rt; session.active.len(), 2);
-    assert!(rt; sessions.get(&third).is_none());
-    Ok(())
-}
-
-#[test]
-fn a_deleted_session_is_gone(rt: HostRuntime) -> Result<(), Fail> {
-    let alloc = rt.alloc();
-    let mut sessions = two_sessions(&rt, alloc);
-    sessions.delete(&name(&rt, alloc, "s3"));
-    assert_eq!(rt; sessions.len(), 2);
-    sessions.delete(&name(&rt, alloc, "s1"));
-    assert_contains(&rt, alloc, &sessions, "s1", false);
-    assert_contains(&rt, alloc, &sessions, "s2", true);
-    Ok(())
-}
-
-#[test]
-fn a_role_is_activated(rt: HostRuntime) -> Result<(), Fail> {
-    let alloc = rt.alloc();
-    let mut sessions = two_sessions(&rt, alloc);
-    sessions.activate(&name(&rt, alloc, "s1"), name(&rt, alloc, "auditor"))?;
-    sessions.activate(&name(&rt, alloc, "s3"), name(&rt, alloc, "auditor"))?;
-    assert_eq!(rt; sessions.len(), 2);
-    assert_roles(&rt, alloc, &sessions, "s1", &["auditor", "clerk"]);
-    assert_roles(&rt, alloc, &sessions, "s2", &["clerk", "payer"]);
-    Ok(())
-}
-
-#[test]
-fn a_role_is_dropped(rt: HostRuntime) -> Result<(), Fail> {
-    let alloc = rt.alloc();
-    let mut sessions = two_sessions(&rt, alloc);
-    let clerk = name(&rt, alloc, "clerk");
-    sessions.drop_role(&name(&rt, alloc, "s2"), &clerk);
-    sessions.drop_role(&name(&rt, alloc, "s3"), &clerk);
-    assert_eq!(rt; sessions.len(), 2);
-    assert_roles(&rt, alloc, &sessions, "s1", &["clerk"]);
-    assert_roles(&rt, alloc, &sessions, "s2", &["payer"]);
-    Ok(())
-}
-
-#[test]
-fn some_session_passes_a_test(rt: HostRuntime) -> Result<(), Fail> {
-    let alloc = rt.alloc();
-    let sessions = two_sessions(&rt, alloc);
-    for (owner, is) in [("alice", true), ("bob", true), ("clerk", false)] {
-        let owner = name(&rt, alloc, owner);
-        assert_eq!(rt; sessions.any(&OwnedBy { owner }), is);
-    }
-    Ok(())
-}
-
-#[test]
-fn the_sessions_that_pass_a_test_are_deleted(rt: HostRuntime) -> Result<(), Fail> {
-    let alloc = rt.alloc();
-    let mut sessions = two_sessions(&rt, alloc);
-    sessions.delete_where(&OwnedBy {
-        owner: name(&rt, alloc, "alice"),
-    });
-    assert_contains(&rt, alloc, &sessions, "s1", false);
-    assert_contains(&rt, alloc, &sessions, "s2", true);
-    Ok(())
-}
-
-#[test]
-fn a_copy_is_the_same_until_it_is_changed(rt: HostRuntime) -> Result<(), Fail> {
-    let alloc = rt.alloc();
-    let sessions = two_sessions(&rt, alloc);
-    let mut copy = sessions.copy()?;
-    assert!(rt; copy.same(&sessions));
-    copy.drop_role(&name(&rt, alloc, "s2"), &name(&rt, alloc, "clerk"));
-    assert!(rt; !copy.same(&sessions));
-    Ok(())
-}
-
-#[test]
-fn one_session_is_copied_and_compared(rt: HostRuntime) -> Result<(), Fail> {
-    let alloc = rt.alloc();
-    let session = Session {
-        owner: name(&rt, alloc, "alice"),
-        active: name_set(&rt, alloc, &["clerk"]),
-    };
-    let mut copy = session.duplicate()?;
-    assert!(rt; copy.same(&session));
-    copy.active.remove(&name(&rt, alloc, "clerk"));
-    assert!(rt; !copy.same(&session));
-    Ok(())
+fn activating<'a>(session: &'a Name, role: &'a Name) -> Change<'a> {
+    Change::Activate { session, role }
 }
 
 // Plans s3 of cleo as auditor, who then is a clerk too, as bob in s2 is an auditor.
@@ -194,16 +82,117 @@ fn plan_an_auditor(rt: &impl Abort, alloc: Global, sessions: &mut Sessions) -> P
             user: &cleo,
             roles: &roles,
         },
-        Change::Activate {
-            session: &third,
-            role: &clerk,
-        },
-        Change::Activate {
-            session: &second,
-            role: &auditor,
-        },
+        activating(&third, &clerk),
+        activating(&second, &auditor),
     ];
     sessions.plan(alloc, &changes).expect(rt, "memory")
+}
+
+#[test]
+fn a_session_has_its_owner_and_its_roles(rt: HostRuntime) {
+    let alloc = rt.alloc();
+    let sessions = two_sessions(&rt, alloc);
+    assert_contains(&rt, alloc, &sessions, "s1", true);
+    assert_contains(&rt, alloc, &sessions, "s3", false);
+    assert_roles(&rt, alloc, &sessions, "s1", &["clerk"]);
+    assert_roles(&rt, alloc, &sessions, "s2", &["clerk", "payer"]);
+    assert_eq!(rt; sessions.len(), 2);
+}
+
+#[test]
+fn a_session_is_got_by_its_name(rt: HostRuntime) {
+    let alloc = rt.alloc();
+    let sessions = two_sessions(&rt, alloc);
+    let (second, third) = (name(&rt, alloc, "s2"), name(&rt, alloc, "s3"));
+    let owner = sessions.owner(&second).expect(&rt, "a session");
+    assert_eq!(rt; owner.as_bytes(), b"bob".as_slice());
+    assert!(rt; sessions.owner(&third).is_none());
+    assert!(rt; sessions.roles(&third).is_none());
+    let session = sessions.get(&second).expect(&rt, "a session");
+    assert_eq!(rt; session.active.len(), 2);
+    assert!(rt; sessions.get(&third).is_none());
+}
+
+#[test]
+fn a_deleted_session_is_gone(rt: HostRuntime) {
+    let alloc = rt.alloc();
+    let mut sessions = two_sessions(&rt, alloc);
+    sessions.delete(&name(&rt, alloc, "s3"));
+    assert_eq!(rt; sessions.len(), 2);
+    sessions.delete(&name(&rt, alloc, "s1"));
+    assert_contains(&rt, alloc, &sessions, "s1", false);
+    assert_contains(&rt, alloc, &sessions, "s2", true);
+}
+
+#[test]
+fn a_role_is_activated(rt: HostRuntime) {
+    let alloc = rt.alloc();
+    let mut sessions = two_sessions(&rt, alloc);
+    for session in ["s1", "s3"] {
+        let auditor = name(&rt, alloc, "auditor");
+        let activated = sessions.activate(&name(&rt, alloc, session), auditor);
+        activated.expect(&rt, "memory");
+    }
+    assert_eq!(rt; sessions.len(), 2);
+    assert_roles(&rt, alloc, &sessions, "s1", &["auditor", "clerk"]);
+    assert_roles(&rt, alloc, &sessions, "s2", &["clerk", "payer"]);
+}
+
+#[test]
+fn a_role_is_dropped(rt: HostRuntime) {
+    let alloc = rt.alloc();
+    let mut sessions = two_sessions(&rt, alloc);
+    let clerk = name(&rt, alloc, "clerk");
+    sessions.drop_role(&name(&rt, alloc, "s2"), &clerk);
+    sessions.drop_role(&name(&rt, alloc, "s3"), &clerk);
+    assert_eq!(rt; sessions.len(), 2);
+    assert_roles(&rt, alloc, &sessions, "s1", &["clerk"]);
+    assert_roles(&rt, alloc, &sessions, "s2", &["payer"]);
+}
+
+#[test]
+fn some_session_passes_a_test(rt: HostRuntime) {
+    let alloc = rt.alloc();
+    let sessions = two_sessions(&rt, alloc);
+    for (owner, is) in [("alice", true), ("bob", true), ("clerk", false)] {
+        let owner = name(&rt, alloc, owner);
+        assert_eq!(rt; sessions.any(&OwnedBy { owner }), is);
+    }
+}
+
+#[test]
+fn the_sessions_that_pass_a_test_are_deleted(rt: HostRuntime) {
+    let alloc = rt.alloc();
+    let mut sessions = two_sessions(&rt, alloc);
+    sessions.delete_where(&OwnedBy {
+        owner: name(&rt, alloc, "alice"),
+    });
+    assert_contains(&rt, alloc, &sessions, "s1", false);
+    assert_contains(&rt, alloc, &sessions, "s2", true);
+}
+
+#[test]
+fn a_copy_is_the_same_until_it_is_changed(rt: HostRuntime) {
+    let alloc = rt.alloc();
+    let (second, clerk) = (name(&rt, alloc, "s2"), name(&rt, alloc, "clerk"));
+    let sessions = two_sessions(&rt, alloc);
+    let mut copy = sessions.copy().expect(&rt, "memory");
+    assert!(rt; copy.same(&sessions));
+    copy.drop_role(&second, &clerk);
+    assert!(rt; !copy.same(&sessions));
+}
+
+#[test]
+fn one_session_is_copied_and_compared(rt: HostRuntime) {
+    let alloc = rt.alloc();
+    let session = Session {
+        owner: name(&rt, alloc, "alice"),
+        active: name_set(&rt, alloc, &["clerk"]),
+    };
+    let mut copy = session.duplicate().expect(&rt, "memory");
+    assert!(rt; copy.same(&session));
+    copy.active.remove(&name(&rt, alloc, "clerk"));
+    assert!(rt; !copy.same(&session));
 }
 
 #[test]

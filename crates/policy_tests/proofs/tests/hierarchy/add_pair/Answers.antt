@@ -1,6 +1,6 @@
 use Rattle.std.proofs.Common.{ap}
 use Rattle.rbac_hierarchy.proofs.WalkLemmas.{added_before, added_itself}
-use Rattle.policy_tests.proofs.hierarchy.add_pair.Goals as goal
+use Rattle.policy_tests.proofs.tests.hierarchy.add_pair.Goals as goal
 
 pub declare-requires-clause-ascendant : goal.declare-requires-clause-ascendant
 declare-requires-clause-ascendant g c =

@@ -1,6 +1,6 @@
 //! Each public call of `rbac_decide` with ample memory, and the limits of roles and sets. What commands answer is played by the goldens.
 
-use crate::named::{name, name_set, names};
+use super::named::{name, name_set, names};
 use rbac_decide::Policy;
 use rbac_terms::{Answer, Command, Denial, Review, Separation, Vocabulary};
 use std::alloc::Global;

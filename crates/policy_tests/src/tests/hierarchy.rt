@@ -1,5 +1,5 @@
 //! Each public call of `rbac_hierarchy` with ample memory. What is expected was written by hand.
-use crate::named::{After, assert_names, name};
+use super::named::{After, assert_found, assert_names, name};
 use rbac_hierarchy::laws::run_order;
 use rbac_hierarchy::{BitOrder, Change, ListOrder, RoleOrder};
 use rbac_terms::{Name, NameSet};
@@ -53,52 +53,44 @@ fn remove_role<O: RoleOrder>(rt: &impl Abort, alloc: Global, hierarchy: &mut O, 
         .expect(rt, "memory");
 }
 
-// Whether each senior inherits its junior.
-fn assert_inherits<O: RoleOrder>(
+// How two roles stand to each other.
+#[derive(Clone, Copy)]
+enum Link {
+    // The pair is declared, and so the first one inherits the second.
+    Declared,
+    // The first one inherits the second, and the pair is not declared.
+    Inherited,
+    Absent,
+}
+
+// Compares how the roles of each pair stand to each other.
+fn assert_links<O: RoleOrder>(
     rt: &impl Abort,
     alloc: Global,
     hierarchy: &O,
-    rows: &[(&str, &str, bool)],
+    rows: &[(&str, &str, Link)],
 ) {
-    for (senior, junior, expected) in rows {
+    for (senior, junior, link) in rows {
         let (senior, junior) = (name(rt, alloc, senior), name(rt, alloc, junior));
-        assert_eq!(rt; hierarchy.inherits(&senior, &junior), *expected);
+        let is_declared = matches!(link, Link::Declared);
+        let is_inherited = is_declared || matches!(link, Link::Inherited);
+        assert_eq!(rt; hierarchy.declared(&senior, &junior), is_declared);
+        assert_eq!(rt; hierarchy.inherits(&senior, &junior), is_inherited);
     }
 }
 
-// Whether each pair is declared.
-fn assert_declared<O: RoleOrder>(
-    rt: &impl Abort,
-    alloc: Global,
-    hierarchy: &O,
-    rows: &[(&str, &str, bool)],
-) {
-    for (ascendant, descendant, expected) in rows {
-        let (ascendant, descendant) = (name(rt, alloc, ascendant), name(rt, alloc, descendant));
-        assert_eq!(rt; hierarchy.declared(&ascendant, &descendant), *expected);
-    }
-}
-
-fn assert_juniors<O: RoleOrder>(
+// Compares what a role inherits, and what inherits it.
+fn assert_around<O: RoleOrder>(
     rt: &impl Abort,
     alloc: Global,
     hierarchy: &O,
     role: &str,
-    texts: &[&str],
+    juniors: &[&str],
+    seniors: &[&str],
 ) {
-    let juniors = hierarchy.juniors(alloc, &name(rt, alloc, role));
-    assert_names(rt, &juniors.expect(rt, "memory"), texts);
-}
-
-fn assert_seniors<O: RoleOrder>(
-    rt: &impl Abort,
-    alloc: Global,
-    hierarchy: &O,
-    role: &str,
-    texts: &[&str],
-) {
-    let seniors = hierarchy.seniors(alloc, &name(rt, alloc, role));
-    assert_names(rt, &seniors.expect(rt, "memory"), texts);
+    let role = name(rt, alloc, role);
+    assert_found(rt, hierarchy.juniors(alloc, &role), juniors);
+    assert_found(rt, hierarchy.seniors(alloc, &role), seniors);
 }
 
 fn copy_of<O: RoleOrder>(rt: &impl Abort, alloc: Global, hierarchy: &O) -> O {
@@ -110,10 +102,8 @@ const TWO_PATHS: [(&str, &str); 3] = [("b", "c"), ("a", "c"), ("a", "b")];
 
 fn among_no_roles_nothing_is_inherited<O: RoleOrder + Drop>(rt: &impl Abort, alloc: Global) {
     let hierarchy = O::empty(alloc);
-    assert_inherits(rt, alloc, &hierarchy, &[("a", "a", false)]);
-    assert_declared(rt, alloc, &hierarchy, &[("a", "a", false)]);
-    assert_juniors(rt, alloc, &hierarchy, "a", &[]);
-    assert_seniors(rt, alloc, &hierarchy, "a", &[]);
+    assert_links(rt, alloc, &hierarchy, &[("a", "a", Link::Absent)]);
+    assert_around(rt, alloc, &hierarchy, "a", &[], &[]);
     drop(hierarchy);
 }
 
@@ -122,44 +112,53 @@ fn a_role_inherits_itself_and_what_pairs_lead_to<O: RoleOrder + Drop>(
     alloc: Global,
 ) {
     let hierarchy: O = hierarchy_of(rt, alloc, &[("b", "c"), ("a", "b")]);
-    let inherited = [("a", "a", true), ("a", "b", true), ("a", "c", true)];
-    let others = [("b", "c", true), ("c", "a", false), ("b", "a", false)];
-    let no_roles = [("z", "z", false), ("a", "z", false), ("z", "a", false)];
-    assert_inherits(rt, alloc, &hierarchy, &inherited);
-    assert_inherits(rt, alloc, &hierarchy, &others);
-    assert_inherits(rt, alloc, &hierarchy, &no_roles);
+    let rows = [
+        ("a", "a", Link::Inherited),
+        ("a", "b", Link::Declared),
+        ("a", "c", Link::Inherited),
+        ("b", "c", Link::Declared),
+        ("c", "a", Link::Absent),
+        ("b", "a", Link::Absent),
+        ("z", "z", Link::Absent),
+        ("a", "z", Link::Absent),
+        ("z", "a", Link::Absent),
+    ];
+    assert_links(rt, alloc, &hierarchy, &rows);
     drop(hierarchy);
 }
 
 fn a_pair_is_declared_as_it_stands<O: RoleOrder + Drop>(rt: &impl Abort, alloc: Global) {
     let hierarchy: O = hierarchy_of(rt, alloc, &[("b", "c"), ("a", "b")]);
-    let rows = [("a", "b", true), ("b", "a", false), ("a", "c", false)];
-    assert_declared(rt, alloc, &hierarchy, &rows);
+    let up = ("b", "a", Link::Absent);
+    let rows = [("a", "b", Link::Declared), up, ("a", "c", Link::Inherited)];
+    assert_links(rt, alloc, &hierarchy, &rows);
     drop(hierarchy);
 }
 
 fn a_second_path_still_gives_what_one_gave<O: RoleOrder + Drop>(rt: &impl Abort, alloc: Global) {
     let mut hierarchy: O = hierarchy_of(rt, alloc, &TWO_PATHS);
-    retract(rt, alloc, &mut hierarchy, "b", "c");
-    let second = [("a", "c", true), ("b", "c", false), ("a", "b", true)];
-    assert_inherits(rt, alloc, &hierarchy, &second);
-    retract(rt, alloc, &mut hierarchy, "a", "c");
-    let none = [("a", "c", false), ("a", "b", true)];
-    assert_inherits(rt, alloc, &hierarchy, &none);
-    retract(rt, alloc, &mut hierarchy, "a", "b");
-    let alone = [("a", "b", false), ("a", "a", true)];
-    assert_inherits(rt, alloc, &hierarchy, &alone);
+    for (ascendant, descendant, c_of_a, c_of_b, b_of_a) in [
+        ("b", "c", Link::Declared, Link::Absent, Link::Declared),
+        ("a", "c", Link::Absent, Link::Absent, Link::Declared),
+        ("a", "b", Link::Absent, Link::Absent, Link::Absent),
+    ] {
+        retract(rt, alloc, &mut hierarchy, ascendant, descendant);
+        let rows = [("a", "c", c_of_a), ("b", "c", c_of_b), ("a", "b", b_of_a)];
+        assert_links(rt, alloc, &hierarchy, &rows);
+    }
+    assert_links(rt, alloc, &hierarchy, &[("a", "a", Link::Inherited)]);
     drop(hierarchy);
 }
 
 fn juniors_and_seniors_are_listed<O: RoleOrder + Drop>(rt: &impl Abort, alloc: Global) {
     let hierarchy: O = hierarchy_of(rt, alloc, &[("b", "c"), ("a", "b"), ("d", "c")]);
-    assert_juniors(rt, alloc, &hierarchy, "a", &["a", "b", "c"]);
-    assert_juniors(rt, alloc, &hierarchy, "c", &["c"]);
-    assert_juniors(rt, alloc, &hierarchy, "z", &[]);
-    assert_seniors(rt, alloc, &hierarchy, "c", &["a", "b", "c", "d"]);
-    assert_seniors(rt, alloc, &hierarchy, "a", &["a"]);
-    assert_seniors(rt, alloc, &hierarchy, "z", &[]);
+    for (role, juniors, seniors) in [
+        ("a", ["a", "b", "c"].as_slice(), ["a"].as_slice()),
+        ("c", &["c"], &["a", "b", "c", "d"]),
+        ("z", &[], &[]),
+    ] {
+        assert_around(rt, alloc, &hierarchy, role, juniors, seniors);
+    }
     drop(hierarchy);
 }
 
@@ -211,8 +210,8 @@ fn roles_that_pass_are_listed<O: RoleOrder + Drop>(rt: &impl Abort, alloc: Globa
 
 fn roles_in_a_circle_inherit_one_another<O: RoleOrder + Drop>(rt: &impl Abort, alloc: Global) {
     let hierarchy: O = hierarchy_of(rt, alloc, &[("a", "b"), ("b", "c"), ("c", "a")]);
-    assert_juniors(rt, alloc, &hierarchy, "b", &["a", "b", "c"]);
-    assert_seniors(rt, alloc, &hierarchy, "b", &["a", "b", "c"]);
+    let all = ["a", "b", "c"];
+    assert_around(rt, alloc, &hierarchy, "b", &all, &all);
     drop(hierarchy);
 }
 
@@ -220,11 +219,12 @@ fn a_role_is_removed_with_its_pairs<O: RoleOrder + Drop>(rt: &impl Abort, alloc:
     let mut hierarchy: O = hierarchy_of(rt, alloc, &[("b", "c"), ("a", "b"), ("a", "d")]);
     remove_role(rt, alloc, &mut hierarchy, "z");
     remove_role(rt, alloc, &mut hierarchy, "b");
-    let pairs = [("a", "b", false), ("b", "c", false), ("a", "d", true)];
-    assert_declared(rt, alloc, &hierarchy, &pairs);
-    assert_juniors(rt, alloc, &hierarchy, "a", &["a", "d"]);
-    assert_juniors(rt, alloc, &hierarchy, "b", &[]);
-    assert_seniors(rt, alloc, &hierarchy, "c", &["c"]);
+    let gone = [("a", "b", Link::Absent), ("b", "c", Link::Absent)];
+    assert_links(rt, alloc, &hierarchy, &gone);
+    assert_links(rt, alloc, &hierarchy, &[("a", "d", Link::Declared)]);
+    assert_around(rt, alloc, &hierarchy, "a", &["a", "d"], &["a"]);
+    assert_around(rt, alloc, &hierarchy, "b", &[], &[]);
+    assert_around(rt, alloc, &hierarchy, "c", &["c"], &["c"]);
     drop(hierarchy);
 }
 
@@ -235,15 +235,15 @@ fn a_role_that_is_there_is_not_added<O: RoleOrder + Drop>(rt: &impl Abort, alloc
     assert!(rt; hierarchy.same(&before));
     add_role(rt, alloc, &mut hierarchy, "d");
     assert!(rt; !hierarchy.same(&before));
-    assert_juniors(rt, alloc, &hierarchy, "d", &["d"]);
+    assert_around(rt, alloc, &hierarchy, "d", &["d"], &["d"]);
     drop(hierarchy);
     drop(before);
 }
 
 // Adds both, and the first one with the pair that puts it above the second.
 fn add_above<O: RoleOrder>(
-    alloc: Global,
     hierarchy: &mut O,
+    alloc: Global,
     role: &Name,
     junior: &Name,
 ) -> Result<(), AllocError> {
@@ -254,10 +254,11 @@ fn add_above<O: RoleOrder>(
 fn a_role_is_added_with_a_pair<O: RoleOrder + Drop>(rt: &impl Abort, alloc: Global) {
     let mut hierarchy: O = hierarchy_of(rt, alloc, &[("b", "c")]);
     let (a, b) = (name(rt, alloc, "a"), name(rt, alloc, "b"));
-    add_above(alloc, &mut hierarchy, &a, &b).expect(rt, "memory");
-    let declared = [("a", "b", true), ("b", "c", true), ("a", "c", false)];
-    assert_declared(rt, alloc, &hierarchy, &declared);
-    assert_juniors(rt, alloc, &hierarchy, "a", &["a", "b", "c"]);
+    add_above(&mut hierarchy, alloc, &a, &b).expect(rt, "memory");
+    let declared = [("a", "b", Link::Declared), ("b", "c", Link::Declared)];
+    assert_links(rt, alloc, &hierarchy, &declared);
+    assert_links(rt, alloc, &hierarchy, &[("a", "c", Link::Inherited)]);
+    assert_around(rt, alloc, &hierarchy, "a", &["a", "b", "c"], &["a"]);
     drop(hierarchy);
 }
 
@@ -291,12 +292,12 @@ fn the_last_role_takes_the_place_of_a_removed_one<O: RoleOrder + Drop>(
 ) {
     let mut hierarchy: O = hierarchy_of(rt, alloc, &[("b", "c"), ("a", "b"), ("d", "c")]);
     remove_role(rt, alloc, &mut hierarchy, "b");
-    let kept = [("d", "c", true), ("a", "c", false), ("c", "c", true)];
-    assert_inherits(rt, alloc, &hierarchy, &kept);
-    assert_seniors(rt, alloc, &hierarchy, "c", &["c", "d"]);
+    let kept = [("d", "c", Link::Declared), ("a", "c", Link::Absent)];
+    assert_links(rt, alloc, &hierarchy, &kept);
+    assert_around(rt, alloc, &hierarchy, "c", &["c"], &["c", "d"]);
     remove_role(rt, alloc, &mut hierarchy, "d");
     add_role(rt, alloc, &mut hierarchy, "d");
-    assert_juniors(rt, alloc, &hierarchy, "d", &["d"]);
+    assert_around(rt, alloc, &hierarchy, "d", &["d"], &["d"]);
     drop(hierarchy);
 }
 
@@ -307,77 +308,77 @@ fn run<O: RoleOrder>(rt: &impl Abort, alloc: Global, hierarchy: &mut O, change: 
     drop(changes);
 }
 
-fn run_add<O: RoleOrder>(rt: &impl Abort, alloc: Global, hierarchy: &mut O, role: &str) {
-    let role = name(rt, alloc, role);
-    run(rt, alloc, hierarchy, Change::AddRole { role });
+fn adding(rt: &impl Abort, alloc: Global, role: &str) -> Change {
+    Change::AddRole {
+        role: name(rt, alloc, role),
+    }
 }
 
-fn run_remove<O: RoleOrder>(rt: &impl Abort, alloc: Global, hierarchy: &mut O, role: &str) {
-    let role = name(rt, alloc, role);
-    run(rt, alloc, hierarchy, Change::RemoveRole { role });
+fn removing(rt: &impl Abort, alloc: Global, role: &str) -> Change {
+    Change::RemoveRole {
+        role: name(rt, alloc, role),
+    }
 }
 
-fn run_declare<O: RoleOrder>(
-    rt: &impl Abort,
-    alloc: Global,
-    hierarchy: &mut O,
-    ascendant: &str,
-    descendant: &str,
-) {
-    let change = Change::Declare {
+fn declaring(rt: &impl Abort, alloc: Global, ascendant: &str, descendant: &str) -> Change {
+    Change::Declare {
         ascendant: name(rt, alloc, ascendant),
         descendant: name(rt, alloc, descendant),
-    };
-    run(rt, alloc, hierarchy, change);
+    }
 }
 
-fn run_retract<O: RoleOrder>(
-    rt: &impl Abort,
-    alloc: Global,
-    hierarchy: &mut O,
-    ascendant: &str,
-    descendant: &str,
-) {
-    let change = Change::Retract {
-        ascendant: name(rt, alloc, ascendant),
-        descendant: name(rt, alloc, descendant),
-    };
-    run(rt, alloc, hierarchy, change);
+fn retracting(rt: &impl Abort, alloc: Global, ascendant: &str, descendant: &str) -> Change {
+    let (ascendant, descendant) = (name(rt, alloc, ascendant), name(rt, alloc, descendant));
+    Change::Retract {
+        ascendant,
+        descendant,
+    }
 }
 
 // Four roles, and two ways from a to d.
 fn run_two_ways<O: RoleOrder>(rt: &impl Abort, alloc: Global, hierarchy: &mut O) {
     for role in ["a", "b", "c", "d"] {
-        run_add(rt, alloc, hierarchy, role);
+        run(rt, alloc, hierarchy, adding(rt, alloc, role));
     }
     for (ascendant, descendant) in [("a", "b"), ("a", "c"), ("b", "d"), ("c", "d")] {
-        run_declare(rt, alloc, hierarchy, ascendant, descendant);
+        let change = declaring(rt, alloc, ascendant, descendant);
+        run(rt, alloc, hierarchy, change);
     }
 }
 
 fn changes_are_made_in_order<O: RoleOrder + Drop>(rt: &impl Abort, alloc: Global) {
     let mut hierarchy = O::empty(alloc);
     run_two_ways(rt, alloc, &mut hierarchy);
-    run_retract(rt, alloc, &mut hierarchy, "b", "d");
-    let second = [("a", "d", true), ("b", "d", false)];
-    assert_inherits(rt, alloc, &hierarchy, &second);
-    run_remove(rt, alloc, &mut hierarchy, "b");
-    let still = [("a", "d", true), ("a", "b", false)];
-    assert_inherits(rt, alloc, &hierarchy, &still);
-    run_retract(rt, alloc, &mut hierarchy, "c", "d");
-    let none = [("a", "d", false), ("d", "d", true)];
-    assert_inherits(rt, alloc, &hierarchy, &none);
+    for (change, b_of_a, d_of_a) in [
+        (
+            retracting(rt, alloc, "b", "d"),
+            Link::Declared,
+            Link::Inherited,
+        ),
+        (removing(rt, alloc, "b"), Link::Absent, Link::Inherited),
+        (retracting(rt, alloc, "c", "d"), Link::Absent, Link::Absent),
+    ] {
+        run(rt, alloc, &mut hierarchy, change);
+        let rows = [("a", "b", b_of_a), ("a", "d", d_of_a)];
+        assert_links(rt, alloc, &hierarchy, &rows);
+        assert_links(rt, alloc, &hierarchy, &[("b", "d", Link::Absent)]);
+    }
+    assert_links(rt, alloc, &hierarchy, &[("d", "d", Link::Inherited)]);
     drop(hierarchy);
 }
 
 fn changes_that_do_not_hold_are_passed_over<O: RoleOrder + Drop>(rt: &impl Abort, alloc: Global) {
     let mut hierarchy: O = hierarchy_of(rt, alloc, &TWO_PATHS);
     let before = copy_of(rt, alloc, &hierarchy);
-    run_declare(rt, alloc, &mut hierarchy, "c", "a");
-    run_declare(rt, alloc, &mut hierarchy, "a", "z");
-    run_add(rt, alloc, &mut hierarchy, "a");
-    run_remove(rt, alloc, &mut hierarchy, "z");
-    run_retract(rt, alloc, &mut hierarchy, "c", "a");
+    for change in [
+        declaring(rt, alloc, "c", "a"),
+        declaring(rt, alloc, "a", "z"),
+        adding(rt, alloc, "a"),
+        removing(rt, alloc, "z"),
+        retracting(rt, alloc, "c", "a"),
+    ] {
+        run(rt, alloc, &mut hierarchy, change);
+    }
     assert!(rt; hierarchy.same(&before));
     drop(hierarchy);
     drop(before);
@@ -429,17 +430,23 @@ fn rows_grow_past_a_word(rt: HostRuntime) -> Result<(), Fail> {
     let alloc = rt.alloc();
     let mut hierarchy = BitOrder::empty(alloc);
     add_seventy(&rt, alloc, &mut hierarchy);
-    run_declare(&rt, alloc, &mut hierarchy, "r00", "r69");
-    run_declare(&rt, alloc, &mut hierarchy, "r69", "r63");
+    for change in [
+        declaring(&rt, alloc, "r00", "r69"),
+        declaring(&rt, alloc, "r69", "r63"),
+    ] {
+        run(&rt, alloc, &mut hierarchy, change);
+    }
     let rows = [
-        ("r00", "r63", true),
-        ("r63", "r00", false),
-        ("r64", "r69", false),
+        ("r00", "r63", Link::Inherited),
+        ("r63", "r00", Link::Absent),
+        ("r64", "r69", Link::Absent),
     ];
-    assert_inherits(&rt, alloc, &hierarchy, &rows);
-    assert_seniors(&rt, alloc, &hierarchy, "r63", &["r00", "r63", "r69"]);
-    run_remove(&rt, alloc, &mut hierarchy, "r01");
-    assert_juniors(&rt, alloc, &hierarchy, "r00", &["r00", "r63", "r69"]);
+    assert_links(&rt, alloc, &hierarchy, &rows);
+    let row = ["r00", "r63", "r69"];
+    assert_around(&rt, alloc, &hierarchy, "r63", &["r63"], &row);
+    let change = removing(&rt, alloc, "r01");
+    run(&rt, alloc, &mut hierarchy, change);
+    assert_around(&rt, alloc, &hierarchy, "r00", &row, &["r00"]);
     drop(hierarchy);
     Ok(())
 }

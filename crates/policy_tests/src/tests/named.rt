@@ -4,7 +4,7 @@ ghost use Rattle.rbac_terms.specs.Name.{name_cmp};
 
 use rbac_terms::{Name, NameSet};
 use sorted_keys::KeyTest;
-use std::alloc::Global;
+use std::alloc::{AllocError, Global};
 use std::process::Abort;
 
 // The names that come after one.
@@ -42,8 +42,19 @@ pub(crate) fn name_set(rt: &impl Abort, alloc: Global, texts: &[&str]) -> NameSe
 }
 
 pub(crate) fn assert_names(rt: &impl Abort, names: &NameSet, texts: &[&str]) {
+    assert_called(rt, names.names(), texts);
+}
+
+pub(crate) fn assert_called(rt: &impl Abort, names: &[Name], texts: &[&str]) {
     assert_eq!(rt; names.len(), texts.len());
-    for (name, text) in names.names().iter().zip(texts) {
+    for (name, text) in names.iter().zip(texts) {
         assert_eq!(rt; name.as_bytes(), text.as_bytes());
     }
+}
+
+// Compares names that were found, and lets them go.
+pub(crate) fn assert_found(rt: &impl Abort, found: Result<NameSet, AllocError>, texts: &[&str]) {
+    let names = found.expect(rt, "memory");
+    assert_names(rt, &names, texts);
+    drop(names);
 }
