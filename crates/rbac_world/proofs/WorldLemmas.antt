@@ -18,7 +18,7 @@ use Rattle.rbac_order.proofs.GroupLemmas.{node-of_member, inside, apart}
 use Rattle.rbac_order.proofs.SenderLemmas.{decide}
 use Rattle.rbac_order.proofs.StepLemmas.{founded_members, founding_are, founded-nodes}
 use Rattle.rbac_member.specs.Calls.{taken_of}
-use Rattle.std.proofs.lemmas.Bool.{eq-eqb, ne_eqb}
+use Rattle.std.proofs.lemmas.Bool.{eqb-true, eq-eqb, ne_eqb}
 use Rattle.rbac_world.specs.Inside.{IsGroupOf, shown_by, founded_all, has_read}
 use Rattle.rbac_world.specs.Moves.{IsGroupStep}
 use Rattle.rbac_world.proofs.PlaceLemmas.{each_of_all, all_of_each}
@@ -100,7 +100,7 @@ module _ (group : Group) (vocabulary : Vocabulary) (ms : List Member) (are : Are
   pub end_if : list_all (λ v. list_all (has_read v) ms) ms ≡ true → IsReadToEnd (world_of group vocabulary ms)
   end_if all i j hi hj d =
       let hi' = inside group vocabulary ms are i hi in let hj' = inside group vocabulary ms are j hj in
-      equal _ _ (sym (test_is i j hi' hj' (λ e. d (sym e))) ∙ each_of_all (has_read (at i)) ms no_member (each_of_all (λ v. list_all (has_read v) ms) ms no_member all i hi') j hj')
+      eqb-true _ _ (sym (test_is i j hi' hj' (λ e. d (sym e))) ∙ each_of_all (has_read (at i)) ms no_member (each_of_all (λ v. list_all (has_read v) ms) ms no_member all i hi') j hj')
 
   pub only_if : IsReadToEnd (world_of group vocabulary ms) → list_all (λ v. list_all (has_read v) ms) ms ≡ true
   only_if end = all_of_each (λ v. list_all (has_read v) ms) ms no_member (λ i hi. all_of_each (has_read (at i)) ms no_member (λ j hj. one i j hi hj))

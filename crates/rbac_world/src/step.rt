@@ -31,15 +31,24 @@ fn submit(
 ) -> Result<Outcome, Refusal>
     ensures { (group : GroupValue) (vocabulary : VocabularyValue) → AreMembers group vocabulary members.old → IsGroupStep group vocabulary members.old (event.Submit at caller serial command.now) result members.new }
 {
-    let place = place_of(members, at)?;
+    let place = match place_of(members, at) {
+        Ok(place) => place,
+        Err(refusal) => return Err(refusal),
+    };
     moves::submit(&mut members[place], caller, serial, command)
 }
 
 fn receive(members: &mut [Member], at: u32, from: u32, number: u32) -> Result<Outcome, Refusal>
     ensures { (group : GroupValue) (vocabulary : VocabularyValue) → AreMembers group vocabulary members.old → IsGroupStep group vocabulary members.old (event.Receive at from number) result members.new }
 {
-    let place = place_of(members, at)?;
-    let sender = place_of(members, from)?;
+    let place = match place_of(members, at) {
+        Ok(place) => place,
+        Err(refusal) => return Err(refusal),
+    };
+    let sender = match place_of(members, from) {
+        Ok(sender) => sender,
+        Err(refusal) => return Err(refusal),
+    };
     if place == sender {
         return Err(Refusal::FromSelf);
     }
@@ -49,7 +58,10 @@ fn receive(members: &mut [Member], at: u32, from: u32, number: u32) -> Result<Ou
 fn deliver(members: &mut [Member], alloc: Global, at: u32) -> Result<Outcome, Refusal>
     ensures { (group : GroupValue) (vocabulary : VocabularyValue) → AreMembers group vocabulary members.old → IsGroupStep group vocabulary members.old (event.Deliver at) result members.new }
 {
-    let place = place_of(members, at)?;
+    let place = match place_of(members, at) {
+        Ok(place) => place,
+        Err(refusal) => return Err(refusal),
+    };
     moves::deliver(&mut members[place], alloc)
 }
 
