@@ -8,7 +8,7 @@ use std::marker::Model;
 
 /// A row of bits: as many as its words have. A bit past its last word isn't set.
 #[derive(Drop)]
-pub struct BitRow {
+pub(crate) struct BitRow {
     words: Vec<u64>,
 }
 
@@ -22,7 +22,7 @@ impl Model for BitRow {
 
 impl BitRow {
     /// The row without words, which takes no memory.
-    pub fn new(alloc: Global) -> BitRow
+    pub(crate) fn new(alloc: Global) -> BitRow
         ensures { result ≡ [] }
     {
         BitRow {
@@ -31,7 +31,7 @@ impl BitRow {
     }
 
     /// The row with one bit set, and no words past it.
-    pub fn lone(alloc: Global, bit: usize) -> Result<BitRow, AllocError>
+    pub(crate) fn lone(alloc: Global, bit: usize) -> Result<BitRow, AllocError>
         ensures { IfOk result (λ row. (bit < 64 * length row) × ((j : ℕ) → has_bit row j ≡ nat_eq j bit)) }
     {
         let mut row = BitRow::new(alloc);
@@ -43,7 +43,7 @@ impl BitRow {
     }
 
     /// Whether the bit is set.
-    pub fn has(&self, bit: usize) -> bool
+    pub(crate) fn has(&self, bit: usize) -> bool
         ensures { result ≡ has_bit self.now bit }
     {
         bit / 64 < self.words.len() && (self.words[bit / 64] >> (bit % 64)) & 1 == 1
@@ -70,7 +70,7 @@ impl BitRow {
     }
 
     /// Sets or clears a bit.
-    pub fn put(&mut self, bit: usize, value: bool)
+    pub(crate) fn put(&mut self, bit: usize, value: bool)
         requires { bit < 64 * length self.old }
         ensures length { length self.new ≡ length self.old }
         ensures bits { (j : ℕ) → has_bit self.new j ≡ (if nat_eq j bit then value else has_bit self.old j) }
@@ -83,7 +83,7 @@ impl BitRow {
     }
 
     /// Clears all bits but one, which it sets.
-    pub fn leave(&mut self, bit: usize)
+    pub(crate) fn leave(&mut self, bit: usize)
         requires { bit < 64 * length self.old }
         ensures length { length self.new ≡ length self.old }
         ensures bits { (j : ℕ) → has_bit self.new j ≡ nat_eq j bit }
@@ -95,7 +95,7 @@ impl BitRow {
     }
 
     /// Clears a bit, and writes what it was at another place.
-    pub fn move_bit(&mut self, from: usize, to: usize)
+    pub(crate) fn move_bit(&mut self, from: usize, to: usize)
         requires from { from < 64 * length self.old }
         requires to { to < 64 * length self.old }
         ensures length { length self.new ≡ length self.old }
@@ -107,16 +107,16 @@ impl BitRow {
     }
 
     /// Makes room for 64 more bits.
-    pub fn widen(&mut self) -> Result<(), AllocError>
-        ensures ok { OnOk result (length self.new ≡ length self.old + 1) }
-        ensures err { OnErr result (self.new ≡ self.old) }
+    pub(crate) fn widen(&mut self) -> Result<(), AllocError>
+        ensures longer { OnOk result (length self.new ≡ length self.old + 1) }
+        ensures unchanged { OnErr result (self.new ≡ self.old) }
         ensures bits { (j : ℕ) → has_bit self.new j ≡ has_bit self.old j }
     {
         Ok(self.words.push(0)?)
     }
 
     /// Sets the bits that are set in another row, as far as this one has room. Whether one of them was not.
-    pub fn join(&mut self, other: &BitRow) -> bool
+    pub(crate) fn join(&mut self, other: &BitRow) -> bool
         ensures length { length self.new ≡ length self.old }
         ensures bits { (j : ℕ) → j < 64 * length self.old → has_bit self.new j ≡ (has_bit self.old j || has_bit other.now j) }
         ensures same { result ≡ false → self.new ≡ self.old }

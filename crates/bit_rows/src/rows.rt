@@ -8,7 +8,7 @@ use std::alloc::{AllocError, Global};
 use std::mem::replace;
 
 /// Joins one row into another. Whether it had a bit more.
-pub fn join_row(alloc: Global, rows: &mut [BitRow], above: usize, below: usize) -> bool
+pub(crate) fn join_row(alloc: Global, rows: &mut [BitRow], above: usize, below: usize) -> bool
     requires above { above < length rows.old }
     requires below { below < length rows.old }
     ensures lengths { ArePreserved rows.old rows.new }
@@ -28,7 +28,7 @@ pub fn join_row(alloc: Global, rows: &mut [BitRow], above: usize, below: usize) 
 }
 
 /// Joins a row into each row that has a bit.
-pub fn join_above(alloc: Global, rows: &mut [BitRow], above: usize, below: usize)
+pub(crate) fn join_above(alloc: Global, rows: &mut [BitRow], above: usize, below: usize)
     requires below { below < length rows.old }
     requires relation { IsRelation rows.old }
     ensures lengths { ArePreserved rows.old rows.new }
@@ -43,7 +43,7 @@ pub fn join_above(alloc: Global, rows: &mut [BitRow], above: usize, below: usize
 }
 
 /// Relates each number that is related to some number to itself alone.
-pub fn reset_above(rows: &mut [BitRow], above: usize)
+pub(crate) fn reset_above(rows: &mut [BitRow], above: usize)
     requires wide { AreWide rows.old (length rows.old) }
     ensures lengths { ArePreserved rows.old rows.new }
     ensures alone { (i j : ℕ) → i < length rows.old → bit rows.new i j ≡ (if bit rows.old i above then nat_eq j i else bit rows.old i j) }
@@ -56,7 +56,7 @@ pub fn reset_above(rows: &mut [BitRow], above: usize)
 }
 
 /// Joins the row of each pair's second number into that of its first. Whether a row had a bit more.
-pub fn join_pairs(alloc: Global, rows: &mut [BitRow], pairs: &[(usize, usize)]) -> bool
+pub(crate) fn join_pairs(alloc: Global, rows: &mut [BitRow], pairs: &[(usize, usize)]) -> bool
     requires below { AreBelow pairs.now (length rows.old) }
     ensures lengths { ArePreserved rows.old rows.new }
     ensures still { (i j : ℕ) → IsTrue (bit rows.old i j) → IsTrue (bit rows.new i j) }
@@ -74,7 +74,7 @@ pub fn join_pairs(alloc: Global, rows: &mut [BitRow], pairs: &[(usize, usize)]) 
 }
 
 /// Joins the row of each pair's second number into that of its first, until no row has a bit more by it.
-pub fn join_until_closed(alloc: Global, rows: &mut [BitRow], pairs: &[(usize, usize)])
+pub(crate) fn join_until_closed(alloc: Global, rows: &mut [BitRow], pairs: &[(usize, usize)])
     requires below { AreBelow pairs.now (length rows.old) }
     requires relation { IsRelation rows.old }
     ensures lengths { ArePreserved rows.old rows.new }
@@ -86,11 +86,11 @@ pub fn join_until_closed(alloc: Global, rows: &mut [BitRow], pairs: &[(usize, us
 }
 
 /// Makes room for one more number in each row.
-pub fn widen_all(rows: &mut [BitRow]) -> Result<(), AllocError>
+pub(crate) fn widen_all(rows: &mut [BitRow]) -> Result<(), AllocError>
     requires wide { AreWide rows.old (length rows.old) }
     ensures length { length rows.new ≡ length rows.old }
-    ensures ok { OnOk result (AreWide rows.new (length rows.old + 1)) }
-    ensures err { OnErr result (AreWide rows.new (length rows.old)) }
+    ensures wider { OnOk result (AreWide rows.new (length rows.old + 1)) }
+    ensures still_wide { OnErr result (AreWide rows.new (length rows.old)) }
     ensures bits { (i j : ℕ) → bit rows.new i j ≡ bit rows.old i j }
 {
     if rows.len() % 64 == 0 {
@@ -102,7 +102,7 @@ pub fn widen_all(rows: &mut [BitRow]) -> Result<(), AllocError>
 }
 
 /// Moves a bit of each row to another place.
-pub fn move_bits(rows: &mut [BitRow], from: usize, to: usize)
+pub(crate) fn move_bits(rows: &mut [BitRow], from: usize, to: usize)
     requires from { AreWide rows.old (from + 1) }
     requires to { AreWide rows.old (to + 1) }
     ensures lengths { ArePreserved rows.old rows.new }

@@ -20,7 +20,7 @@ use Rattle.rbac_hierarchy.proofs.LoopLemmas.{any_one_more}
 use Rattle.rbac_separation.specs.Counts.{Counts, numbers_of, with_number, without_user}
 use Rattle.rbac_decide.specs.declared.tables.Tables.{Tables}
 use Rattle.rbac_decide.specs.Tables.{state_of}
-use Rattle.rbac_decide.specs.Counting.{authorized_users_by, juniors_by, count_by_tables, breaks_some, AreCountsBy, IsStep, touches, is_touched, of_touched, of_set, may_change, without_static, remaining}
+use Rattle.rbac_decide.specs.Counting.{authorized_users_by, juniors_by, count_by_tables, breaks_some, AreCountsBy, IsCommandStep, touches, is_touched, of_touched, of_set, may_change, without_static, remaining}
 use Rattle.rbac_decide.proofs.CountingSteps.{IsShift, IsSetStep, left, unchanged, assigned_shift, deassigned_shift, deleted_role_shift, inheritance_shift, deleted_inheritance_shift, created_set, added_member, deleted_member, deleted_set, deleted_user}
 
 abbrev pub Pairs : Type 0
@@ -178,7 +178,7 @@ module _ (before after : Tables) (counts : Counts) (counted : AreCountsBy before
       same : (n : Name → Name → ℕ) → ((set user : Name) → n set user ≡ cond (has pair_cmp (set, user) pairs) (count_by_tables after set user) (numbers_of counts set user)) → n ≡ numbers_of counts
       same n made = λ i set user. (made set user ∙ ap (λ b. cond b (count_by_tables after set user) (numbers_of counts set user)) (none set user)) i
 
-  pub recountable : (c : Command) → IsStep c before after → ((set user : Name) → has pair_cmp (set, user) pairs ≡ may_change c before set user) → IsRecountable (remaining c) after counts pairs
+  pub recountable : (c : Command) → IsCommandStep c before after → ((set user : Name) → has pair_cmp (set, user) pairs ≡ may_change c before set user) → IsRecountable (remaining c) after counts pairs
   recountable (AssignUser user role) step told =
       by_shift (user ∷ []) (juniors_by before role) (assigned_shift before after counts counted user role step) (sym (ap (λ (x : State). x.static_sets) step.made)) told
   recountable (DeassignUser user role) step told =

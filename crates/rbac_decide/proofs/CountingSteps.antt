@@ -34,7 +34,7 @@ use Rattle.rbac_hierarchy.proofs.JuniorLemmas.{has_juniors}
 use Rattle.rbac_separation.specs.Counts.{Counts, numbers_of, without_user as without_user_of}
 use Rattle.rbac_decide.specs.declared.tables.Tables.{Tables}
 use Rattle.rbac_decide.specs.Tables.{state_of}
-use Rattle.rbac_decide.specs.Counting.{count_in, authorized_count, authorized_by, authorized_users_by, juniors_by, count_by_tables, AreCountsBy, IsStep, touches, without_static}
+use Rattle.rbac_decide.specs.Counting.{count_in, authorized_count, authorized_by, authorized_users_by, juniors_by, count_by_tables, AreCountsBy, IsCommandStep, touches, without_static}
 use Rattle.rbac_decide.proofs.CountingLemmas.{count_same, none_in}
 use Rattle.rbac_decide.proofs.SeparationLemmas.{unbroken}
 
@@ -336,7 +336,7 @@ unchanged c s h none e set user = refl
 
 -- ---- The counts before a command
 
-module _ (c : Command) (before after : Tables) (step : IsStep c before after) (counts : Counts) (counted : AreCountsBy before counts) where
+module _ (c : Command) (before after : Tables) (step : IsCommandStep c before after) (counts : Counts) (counted : AreCountsBy before counts) where
   abbrev s : State
   s = state_of before step.vocabulary
 
@@ -391,40 +391,40 @@ module _ (c : Command) (before after : Tables) (step : IsStep c before after) (c
 -- ---- What is right after each command but what is counted anew
 
 module _ (before after : Tables) (counts : Counts) (counted : AreCountsBy before counts) where
-  pub assigned_shift : (user role : Name) → IsStep (AssignUser user role) before after → IsShift after (user ∷ []) (juniors_by before role) counts
+  pub assigned_shift : (user role : Name) → IsCommandStep (AssignUser user role) before after → IsShift after (user ∷ []) (juniors_by before role) counts
   assigned_shift user role step =
       let s = state_of before step.vocabulary in
       let holds = none_fails (preconditions (AssignUser user role) s) step.undenied in
       shifted (AssignUser user role) before after step counts counted (user ∷ []) (juniors_by before role) refl refl
       (only user s.users (not-false _ holds.0)) (after_assignment user role s step.sound)
 
-  pub deassigned_shift : (user role : Name) → IsStep (DeassignUser user role) before after → IsShift after (user ∷ []) (juniors_by before role) counts
+  pub deassigned_shift : (user role : Name) → IsCommandStep (DeassignUser user role) before after → IsShift after (user ∷ []) (juniors_by before role) counts
   deassigned_shift user role step =
       let s = state_of before step.vocabulary in
       let holds = none_fails (preconditions (DeassignUser user role) s) step.undenied in
       shifted (DeassignUser user role) before after step counts counted (user ∷ []) (juniors_by before role) refl refl
       (only user s.users (not-false _ holds.0)) (after_deassignment user role s step.sound)
 
-  pub deleted_role_shift : (role : Name) → IsStep (DeleteRole role) before after → IsShift after (authorized_users_by before role) (juniors_by before role) counts
+  pub deleted_role_shift : (role : Name) → IsCommandStep (DeleteRole role) before after → IsShift after (authorized_users_by before role) (juniors_by before role) counts
   deleted_role_shift role step =
       let s = state_of before step.vocabulary in
       shifted (DeleteRole role) before after step counts counted (authorized_users_by before role) (juniors_by before role) refl refl
       (λ user m. (was_kept names_total names_exact (λ u. is_authorized s u role) s.users user m).1) (after_deleted_role role s step.sound)
 
-  pub inheritance_shift : (a d : Name) → IsStep (AddInheritance a d) before after → IsShift after (authorized_users_by before a) (juniors_by before d) counts
+  pub inheritance_shift : (a d : Name) → IsCommandStep (AddInheritance a d) before after → IsShift after (authorized_users_by before a) (juniors_by before d) counts
   inheritance_shift a d step =
       let s = state_of before step.vocabulary in
       shifted (AddInheritance a d) before after step counts counted (authorized_users_by before a) (juniors_by before d) refl refl
       (λ user m. (was_kept names_total names_exact (λ u. is_authorized s u a) s.users user m).1) (after_inheritance a d s step.sound)
 
-  pub deleted_inheritance_shift : (a d : Name) → IsStep (DeleteInheritance a d) before after → IsShift after (authorized_users_by before a) (juniors_by before d) counts
+  pub deleted_inheritance_shift : (a d : Name) → IsCommandStep (DeleteInheritance a d) before after → IsShift after (authorized_users_by before a) (juniors_by before d) counts
   deleted_inheritance_shift a d step =
       let s = state_of before step.vocabulary in
       shifted (DeleteInheritance a d) before after step counts counted (authorized_users_by before a) (juniors_by before d) refl refl
       (λ user m. (was_kept names_total names_exact (λ u. is_authorized s u a) s.users user m).1) (after_deleted_inheritance a d s step.sound)
 
   -- a change of one set of a kind
-  set_changed : (c : Command) (kind : Separation) (set : Name) (f : List (Name × RoleSet) → List (Name × RoleSet)) (step : IsStep c before after)
+  set_changed : (c : Command) (kind : Separation) (set : Name) (f : List (Name × RoleSet) → List (Name × RoleSet)) (step : IsCommandStep c before after)
       → change c (state_of before step.vocabulary) ≡ with_sets kind (f (sets_of kind (state_of before step.vocabulary))) (state_of before step.vocabulary)
       → ((other : Name) → eq_by_cmp name_cmp set other ≡ false → find name_cmp other (f before.static_sets.content) ≡ find name_cmp other before.static_sets.content)
       → IsSetStep kind set after counts
@@ -435,30 +435,30 @@ module _ (before after : Tables) (counts : Counts) (counted : AreCountsBy before
       one_set_step c before after step counts counted Dynamic set (ap (λ (x : State). x.users) made)
       (λ other user apart. ap (λ (x : State). authorized_count x other user) made)
 
-  pub created_set : (kind : Separation) (set : Name) (roles : List Name) (n : ℕ) → IsStep (CreateSet kind set roles n) before after → IsSetStep kind set after counts
+  pub created_set : (kind : Separation) (set : Name) (roles : List Name) (n : ℕ) → IsCommandStep (CreateSet kind set roles n) before after → IsSetStep kind set after counts
   created_set kind set roles n step =
       let x : RoleSet = record { roles = roles; cardinality = n } in
       set_changed (CreateSet kind set roles n) kind set (put name_cmp set x) step refl
       (λ other. put_elsewhere set other x before.static_sets.content)
 
-  pub added_member : (kind : Separation) (set role : Name) → IsStep (AddRoleMember kind set role) before after → IsSetStep kind set after counts
+  pub added_member : (kind : Separation) (set role : Name) → IsCommandStep (AddRoleMember kind set role) before after → IsSetStep kind set after counts
   added_member kind set role step =
       set_changed (AddRoleMember kind set role) kind set (updated name_cmp set (with_member role)) step refl
       (λ other. updated_elsewhere set other (with_member role) before.static_sets.content)
 
-  pub deleted_member : (kind : Separation) (set role : Name) → IsStep (DeleteRoleMember kind set role) before after → IsSetStep kind set after counts
+  pub deleted_member : (kind : Separation) (set role : Name) → IsCommandStep (DeleteRoleMember kind set role) before after → IsSetStep kind set after counts
   deleted_member kind set role step =
       set_changed (DeleteRoleMember kind set role) kind set (updated name_cmp set (without_member role)) step refl
       (λ other. updated_elsewhere set other (without_member role) before.static_sets.content)
 
-  pub deleted_set : (kind : Separation) (set : Name) → IsStep (DeleteSet kind set) before after → (other user : Name) → without_static kind set (numbers_of counts) other user ≡ count_by_tables after other user
+  pub deleted_set : (kind : Separation) (set : Name) → IsCommandStep (DeleteSet kind set) before after → (other user : Name) → without_static kind set (numbers_of counts) other user ≡ count_by_tables after other user
   deleted_set Static set step other user =
       ap (cond (eq_by_cmp name_cmp set other) 0) (counted other user)
       ∙ sym (deleted_count set other (authorized_by before user) before.static_sets.content)
       ∙ sym (ap (λ (x : State). authorized_count x other user) step.made)
   deleted_set Dynamic set step other user = left (DeleteSet Dynamic set) before after step counts counted other user refl
 
-  pub deleted_user : (user : Name) → IsStep (DeleteUser user) before after → (set other : Name) → without_user_of user (numbers_of counts) set other ≡ count_by_tables after set other
+  pub deleted_user : (user : Name) → IsCommandStep (DeleteUser user) before after → (set other : Name) → without_user_of user (numbers_of counts) set other ≡ count_by_tables after set other
   deleted_user user step set other = go (eq_by_cmp name_cmp user other) refl
     where
       gone : eq_by_cmp name_cmp user other ≡ true → has name_cmp other after.sets.content.users ≡ false

@@ -57,7 +57,7 @@ abbrev pub AreCountsBy : Tables → Counts → Type 0
 AreCountsBy t counts = (set user : Name) → numbers_of counts set user ≡ count_by_tables t set user
 
 -- the sets of a policy after a command that is not denied, and before it
-pub record IsStep (command : Command) (before after : Tables) : Type 0 where
+pub record IsCommandStep (command : Command) (before after : Tables) : Type 0 where
   pub vocabulary : Vocabulary
   pub sound : IsSound (state_of before vocabulary)
   pub undenied : first_denial command (state_of before vocabulary) ≡ None
@@ -107,6 +107,6 @@ may_change c t = λ set user. false
 -- the sets of a policy after a command, with the counts from before it and all pairs whose counts it may change
 pub record IsPrepared (command : Command) (pairs : List (Name × Name)) (counts : Counts) (after : Tables) : Type 0 where
   pub before : Tables
-  pub step : IsStep command before after
+  pub step : IsCommandStep command before after
   pub counted : AreCountsBy before counts
   pub told : (set user : Name) → has pair_cmp (set, user) pairs ≡ may_change command before set user

@@ -42,8 +42,8 @@ impl Model for BitOrder {
 impl BitOrder {
     // Adds a role. Where it is there, nothing changes. There is room for as many pairs as before.
     fn put_role(&mut self, alloc: Global, role: &Name) -> Result<(), AllocError>
-        ensures ok { let h = self.old.content in OnOk result (self.new.content ≡ record h { roles = with_key name_cmp role.now h.roles }) }
-        ensures err { OnErr result (self.new.content ≡ self.old.content) }
+        ensures added { let h = self.old.content in OnOk result (self.new.content ≡ record h { roles = with_key name_cmp role.now h.roles }) }
+        ensures unchanged { OnErr result (self.new.content ≡ self.old.content) }
         ensures room { self.new.room ≡ self.old.room }
     {
         if number_of(&self.numbers, role).is_some() {

@@ -19,8 +19,8 @@ fn closes_no_circle<O: RoleOrder>(order: &O, ascendant: &Name, descendant: &Name
 
 // Makes one change. A pair is declared where both are roles and it closes no circle.
 fn make<O: RoleOrder>(alloc: Global, order: &mut O, change: &Change) -> Result<(), AllocError>
-    ensures ok { OnOk result (O.content order.new ≡ after_one change.now (O.content order.old)) }
-    ensures err { OnErr result (O.content order.new ≡ O.content order.old) }
+    ensures made { OnOk result (O.content order.new ≡ after_one change.now (O.content order.old)) }
+    ensures unchanged { OnErr result (O.content order.new ≡ O.content order.old) }
 {
     match change {
         Change::AddRole { role } => order.add_role(alloc, role),
@@ -44,13 +44,16 @@ fn make<O: RoleOrder>(alloc: Global, order: &mut O, change: &Change) -> Result<(
 
 /// Makes changes one after the other, up to the first that wants memory. A change that does not hold (a role that is
 /// there is added, a pair of what is no role or that would close a circle is declared) is passed over.
+///
+/// # Errors
+/// `AllocError` where a change gets no memory. Those before it are made.
 pub fn run_order<O: RoleOrder>(
     alloc: Global,
     order: &mut O,
     changes: &[Change],
 ) -> Result<(), AllocError>
-    ensures ok { OnOk result (O.content order.new ≡ after changes.now (O.content order.old)) }
-    ensures err { OnErr result ((made : ℕ) × (made ≤ length changes.now) × (O.content order.new ≡ after (take made changes.now) (O.content order.old))) }
+    ensures all_made { OnOk result (O.content order.new ≡ after changes.now (O.content order.old)) }
+    ensures some_made { OnErr result ((made : ℕ) × (made ≤ length changes.now) × (O.content order.new ≡ after (take made changes.now) (O.content order.old))) }
 {
     for change in changes {
         make(alloc, order, change)?;

@@ -56,8 +56,8 @@ impl ListOrder {
         declared: SortedSet<(Name, Name)>,
     ) -> Result<(), AllocError>
         requires { RangesOver self.old.content.roles declared.content }
-        ensures ok { let h = self.old.content in OnOk result (self.new.content ≡ record h { declared = declared.content }) }
-        ensures err { OnErr result (self.new.content ≡ self.old.content) }
+        ensures replaced { let h = self.old.content in OnOk result (self.new.content ≡ record h { declared = declared.content }) }
+        ensures unchanged { OnErr result (self.new.content ≡ self.old.content) }
     {
         let juniors = renewed_rows(alloc, &self.juniors, &declared)?;
         self.declared = declared;

@@ -33,13 +33,13 @@ pub trait RoleOrder: Sized {
 
     /// Adds a role. Where it is there, nothing changes. What the other roles inherit is not computed anew.
     fn add_role(&mut self, alloc: Global, role: &Name) -> Result<(), AllocError>
-        ensures ok { let h = content self.old in OnOk result (content self.new ≡ record h { roles = with_key name_cmp role.now h.roles }) }
-        ensures err { OnErr result (content self.new ≡ content self.old) };
+        ensures added { let h = content self.old in OnOk result (content self.new ≡ record h { roles = with_key name_cmp role.now h.roles }) }
+        ensures unchanged { OnErr result (content self.new ≡ content self.old) };
 
     /// Takes a role out, and its pairs.
     fn remove_role(&mut self, alloc: Global, role: &Name) -> Result<(), AllocError>
-        ensures ok { let h = content self.old in OnOk result (content self.new ≡ record h { roles = without name_cmp role.now h.roles; declared = without_pairs_of role.now h.declared }) }
-        ensures err { OnErr result (content self.new ≡ content self.old) };
+        ensures removed { let h = content self.old in OnOk result (content self.new ≡ record h { roles = without name_cmp role.now h.roles; declared = without_pairs_of role.now h.declared }) }
+        ensures unchanged { OnErr result (content self.new ≡ content self.old) };
 
     /// Declares a pair of roles. Where it is declared, nothing changes.
     fn declare(
@@ -50,8 +50,8 @@ pub trait RoleOrder: Sized {
     ) -> Result<(), AllocError>
         requires ascendant { IsTrue (has name_cmp ascendant.now (content self.old).roles) }
         requires descendant { IsTrue (has name_cmp descendant.now (content self.old).roles) }
-        ensures ok { let h = content self.old in OnOk result (content self.new ≡ record h { declared = with_key pair_cmp (ascendant.now, descendant.now) h.declared }) }
-        ensures err { OnErr result (content self.new ≡ content self.old) };
+        ensures declared { let h = content self.old in OnOk result (content self.new ≡ record h { declared = with_key pair_cmp (ascendant.now, descendant.now) h.declared }) }
+        ensures unchanged { OnErr result (content self.new ≡ content self.old) };
 
     /// Adds a role, and declares a pair of roles of which it is one.
     fn add_role_with_pair(
@@ -63,8 +63,8 @@ pub trait RoleOrder: Sized {
     ) -> Result<(), AllocError>
         requires ascendant { IsTrue (has name_cmp ascendant.now (with_key name_cmp role.now (content self.old).roles)) }
         requires descendant { IsTrue (has name_cmp descendant.now (with_key name_cmp role.now (content self.old).roles)) }
-        ensures ok { let h = content self.old in OnOk result (content self.new ≡ record { roles = with_key name_cmp role.now h.roles; declared = with_key pair_cmp (ascendant.now, descendant.now) h.declared }) }
-        ensures err { OnErr result (content self.new ≡ content self.old) };
+        ensures added_and_declared { let h = content self.old in OnOk result (content self.new ≡ record { roles = with_key name_cmp role.now h.roles; declared = with_key pair_cmp (ascendant.now, descendant.now) h.declared }) }
+        ensures unchanged { OnErr result (content self.new ≡ content self.old) };
 
     /// Takes a declared pair back. Where it is not declared, nothing changes.
     fn retract(
@@ -73,8 +73,8 @@ pub trait RoleOrder: Sized {
         ascendant: &Name,
         descendant: &Name,
     ) -> Result<(), AllocError>
-        ensures ok { let h = content self.old in OnOk result (content self.new ≡ record h { declared = without pair_cmp (ascendant.now, descendant.now) h.declared }) }
-        ensures err { OnErr result (content self.new ≡ content self.old) };
+        ensures retracted { let h = content self.old in OnOk result (content self.new ≡ record h { declared = without pair_cmp (ascendant.now, descendant.now) h.declared }) }
+        ensures unchanged { OnErr result (content self.new ≡ content self.old) };
 
     /// The names, and the roles that the role inherits, itself among them.
     fn with_juniors(&self, names: NameSet, role: &Name) -> Result<NameSet, AllocError>

@@ -69,8 +69,8 @@ fn least_head(queues: &[VecDeque<Held>]) -> Option<&Held>
 // Makes queues that are empty, up to this count.
 fn make_queues(queues: &mut Vec<VecDeque<Held>>, count: usize) -> Result<(), AllocError>
     ensures made { IsWidened (lists_of queues.old.items) (lists_of queues.new.items) }
-    ensures ok { OnOk result (vec_len queues.new ≡ max (vec_len queues.old) count) }
-    ensures err { OnErr result (vec_len queues.new ≡ vec_len queues.old) }
+    ensures long_enough { OnOk result (vec_len queues.new ≡ max (vec_len queues.old) count) }
+    ensures same_length { OnErr result (vec_len queues.new ≡ vec_len queues.old) }
 {
     if queues.len() < count {
         let alloc = *queues.allocator();

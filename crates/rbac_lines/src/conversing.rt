@@ -64,9 +64,9 @@ fn ask<D: Desk>(
     command: Command,
     text: &mut Vec<u8>,
 ) -> Result<bool, AllocError>
-    ensures ok { IfOk result (λ is_refused. (own : List ℕ) × (text.new.items ≡ text.old.items ++ own)
+    ensures answered { IfOk result (λ is_refused. (own : List ℕ) × (text.new.items ≡ text.old.items ++ own)
         × Answers D.asks desk.old number (Ok (at, command)) own is_refused desk.new) }
-    ensures err { OnErr result ((desk.new ≡ desk.old)
+    ensures unchanged_or_answered { OnErr result ((desk.new ≡ desk.old)
         ⊎ ((own : List ℕ) × (is_refused : Bool) × Answers D.asks desk.old number (Ok (at, command)) own is_refused desk.new)) }
 {
     let reply = desk.call(alloc, at, command);

@@ -20,7 +20,7 @@ use Rattle.rbac_order.proofs.MessageLemmas.{submissions-append}
 use Rattle.rbac_order.proofs.SenderLemmas.{of, decide, is_of-no}
 use Rattle.rbac_order.proofs.MemberLemmas.{none, known_submitted, due_is, known_delivered, of-received_other}
 use Rattle.rbac_order.proofs.StepLemmas.{stays_read, takes_next}
-use Rattle.rbac_node.specs.Node.{NodeState, IsAnother, IsShown, seen_of, with_member}
+use Rattle.rbac_node.specs.Node.{NodeState, IsAnother, IsShown, seen_of, with_own_member}
 use Rattle.rbac_node.proofs.PrefixLemmas.{prefix_more}
 
 -- a mark that knows more
@@ -37,7 +37,7 @@ pub shown_after : (n : NodeState) (v : Member) (more : List Message) (more_histo
     → v.sent ≡ n.member.sent ++ more → v.history ≡ n.member.history ++ more_history
     → ((k : ℕ) → IsAnother v k → HasReadOf v k (seen_of n k))
     → Each (λ (x : Submission). x.caller < n.next_caller) (submissions more)
-    → IsShown (with_member n v)
+    → IsShown (with_own_member n v)
 shown_after n v more more_history s sent history reads callers = record {
   sent = subst (IsPrefixOf n.sent) (sym sent) (prefix_more n.sent n.member.sent more s.sent);
   history = subst (IsPrefixOf n.history) (sym history) (prefix_more n.history n.member.history more_history s.history);
@@ -55,7 +55,7 @@ not_own v k x own another =
     ∙ ap (λ b. of k (known v) ++ cond b (x ∷ []) []) (is_of-no k x (λ e. another.other (sym e ∙ own)))
     ∙ append-nil (of k (known v))
 
-pub shown_submitted : (n : NodeState) (caller serial : ℕ) (command : Command) → IsShown n → caller < n.next_caller → IsShown (with_member n (submitted n.member caller serial command))
+pub shown_submitted : (n : NodeState) (caller serial : ℕ) (command : Command) → IsShown n → caller < n.next_caller → IsShown (with_own_member n (submitted n.member caller serial command))
 shown_submitted n caller serial command s below =
     let v : Member = n.member in
     shown_after n (submitted v caller serial command) (Call (stamp (v.clock + 1) v.number) caller serial command ∷ []) [] s refl (sym (append-nil v.history))
@@ -66,10 +66,10 @@ shown_submitted n caller serial command s below =
 
 -- ---- A delivery
 
-pub shown_delivered : (n : NodeState) → IsShown n → IsShown (with_member n (deliver_due n.member (due_at n.member)))
+pub shown_delivered : (n : NodeState) → IsShown n → IsShown (with_own_member n (deliver_due n.member (due_at n.member)))
 shown_delivered n s = go (due_at n.member) refl
   where
-    go : (o : Option Submission) → due_at n.member ≡ o → IsShown (with_member n (deliver_due n.member o))
+    go : (o : Option Submission) → due_at n.member ≡ o → IsShown (with_own_member n (deliver_due n.member o))
     go None e = s
     go (Some x) e =
         let v : Member = n.member in
@@ -113,7 +113,7 @@ no_callers P None = tt
 no_callers P (Some s) = tt
 
 pub shown_received : (n : NodeState) (from : ℕ) (m : Message) → IsShown n → IsMember n.member → IsNext n.member from m → slice_get (seen_of n from) (read_of (node_of n.member) from) ≡ Some m
-    → IsShown (with_member n (received n.member from m))
+    → IsShown (with_own_member n (received n.member from m))
 shown_received n from m s kept next is =
     let v : Member = n.member in
     shown_after n (received v from m) (acks (acknowledgement (node_of v) m)) [] s refl (sym (append-nil v.history)) reads

@@ -34,8 +34,8 @@ founded_node group number vocabulary = record {
   is_stopped = false;
 }
 
-abbrev pub with_member : NodeState → Member → NodeState
-with_member n v = record n { member = v }
+abbrev pub with_own_member : NodeState → Member → NodeState
+with_own_member n v = record n { member = v }
 
 -- what a node knows of the sent row of member k
 abbrev pub seen_of : NodeState → ℕ → List Message
@@ -85,7 +85,7 @@ pub record Takes (k : ℕ) (messages : List Message) (old : Member) (stamp : Opt
 -- a node's member receives the next message of member k, which the node knows, and all else is as it was
 pub record TakesNext (k : ℕ) (old : NodeState) (stamp : Option Stamp) (new : NodeState) : Type 0 where
   pub takes : Takes k (seen_of old k) old.member stamp new.member
-  pub same : new ≡ with_member old new.member
+  pub same : new ≡ with_own_member old new.member
 
 -- a node first learns of the message, if it does not know it yet
 pub record ReceivesNext (k : ℕ) (old : NodeState) (stamp : Option Stamp) (new : NodeState) : Type 0 where

@@ -5,7 +5,6 @@ ghost use Rattle.rbac_board.specs.Known.{AreOfOneRow, IsOf};
 ghost use Rattle.rbac_node.specs.Cells.{history_cells};
 
 mod answer;
-mod same_command;
 mod ticket;
 
 use crate::group_name::GroupName;
@@ -67,7 +66,7 @@ impl<G: GroupName> Pass<G> {
     ghost use Rattle.rbac_words.specs.Front.{IsLegalFront};
     ghost use Rattle.rbac_words.specs.World.{submit_refusal};
     ghost use Rattle.rbac_words.specs.Keeping.Member.{node_of, submission, submitted};
-    ghost use Rattle.rbac_node.specs.Node.{with_member};
+    ghost use Rattle.rbac_node.specs.Node.{with_own_member};
     ghost use Rattle.rbac_node.specs.Told.{if_told};
     ghost use Rattle.rbac_node.specs.Pass.{PassState, Owns, pass_refusal};
 
@@ -118,7 +117,7 @@ impl<G: GroupName> Pass<G> {
     pub fn submit(&mut self, node: &mut Node<G>, command: Command) -> Result<Ticket, ServiceRefusal>
         ensures call { IfOk result (λ ticket. ticket.call ≡ submission node.old.member self.old.caller self.old.next command) }
         ensures seen { IfOk result (λ ticket. ticket.seen ≡ length self.old.front) }
-        ensures submitted { OnOk result (node.new ≡ with_member node.old (submitted node.old.member self.old.caller self.old.next command)) }
+        ensures submitted { OnOk result (node.new ≡ with_own_member node.old (submitted node.old.member self.old.caller self.old.next command)) }
         ensures pass { OnOk result (self.new ≡ record self.old { next = self.old.next + 1; is_waiting = true }) }
         ensures accepted { OnOk result (pass_refusal node.old self.old ≡ None) }
         ensures first_refusal { IfErr result (λ refusal. (refusal ≢ ServiceRefusal.NoMemory → pass_refusal node.old self.old ≡ Some refusal) × (refusal ≡ ServiceRefusal.NoMemory → pass_refusal node.old self.old ≡ None)) }

@@ -5,7 +5,8 @@ use Rattle.staged.specs.Entries.{with_entry}
 use Rattle.staged.proofs.EntryLemmas.{updated_is}
 use Rattle.rbac_terms.specs.Name.{Name, name_cmp}
 use Rattle.rbac_terms.specs.Separation.{RoleSet}
-use Rattle.rbac_separation.specs.Changes.{becomes, changed, set_of_change, with_member}
+use Rattle.rbac_separation.specs.Changes.{becomes, changed, set_of_change}
+use Rattle.rbac_terms.specs.Change.{with_member}
 use Rattle.rbac_separation.specs.declared.set_plan.SetChange.{SetChange}
 use Rattle.rbac_separation.specs.declared.set_plan.SetChange.TheVariants.{Create, AddMember}
 

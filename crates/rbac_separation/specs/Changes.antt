@@ -3,15 +3,12 @@
 use Rattle.std.specs.Prelude.{List, Option, Some}
 use Rattle.std.specs.Option.{option_map}
 use Rattle.std.specs.FinMap.Entries.{put}
-use Rattle.sorted_keys.specs.Keys.{with_key, updated}
+use Rattle.sorted_keys.specs.Keys.{updated}
 use Rattle.rbac_terms.specs.Name.{Name, name_cmp}
 use Rattle.rbac_terms.specs.Separation.{RoleSet}
+use Rattle.rbac_terms.specs.Change.{with_member}
 use Rattle.rbac_separation.specs.declared.set_plan.SetChange.{SetChange}
 use Rattle.rbac_separation.specs.declared.set_plan.SetChange.TheVariants.{Create, AddMember}
-
--- a set with one more role
-abbrev pub with_member : Name → RoleSet → RoleSet
-with_member role s = record s { roles = with_key name_cmp role s.roles }
 
 -- a set that is made, and a role that is put into a set that is there
 abbrev pub changed : SetChange → List (Name × RoleSet) → List (Name × RoleSet)

@@ -88,11 +88,11 @@ impl EntryTest<(Name, Name), Positive> for OtherSets<'_> {
 
 // The entries of other users.
 #[derive(Drop)]
-struct OtherUsers<'a> {
+struct EntriesOfOthers<'a> {
     user: &'a Name,
 }
 
-impl EntryTest<(Name, Name), Positive> for OtherUsers<'_> {
+impl EntryTest<(Name, Name), Positive> for EntriesOfOthers<'_> {
     ghost passes = { λ others key _. not (eq_by_cmp name_cmp others.user.now key.1) };
 
     fn test(&self, key: &(Name, Name), _number: &Positive) -> bool {
@@ -160,9 +160,12 @@ impl Counts {
 
     /// Gives a set and a user a number. Names are copied where there was none, and 0 takes the number out: that needs no memory,
     /// nor does another number for the same pair.
+    ///
+    /// # Errors
+    /// `AllocError` where there is no memory for it. Nothing has changed.
     pub fn put(&mut self, set: &Name, user: &Name, number: u32) -> Result<(), AllocError>
-        ensures ok { OnOk result (numbers_of self.new ≡ with_number set.now user.now number (numbers_of self.old)) }
-        ensures err { OnErr result (self.new.content ≡ self.old.content) }
+        ensures put { OnOk result (numbers_of self.new ≡ with_number set.now user.now number (numbers_of self.old)) }
+        ensures unchanged { OnErr result (self.new.content ≡ self.old.content) }
         ensures absent { OnErr result (numbers_of self.old set.now user.now ≡ 0) }
         ensures above { OnErr result (0 < number) }
     {
@@ -185,9 +188,12 @@ impl Counts {
     }
 
     /// Makes room for the numbers of so many more pairs. The numbers stay as they are, also where memory ends.
+    ///
+    /// # Errors
+    /// `AllocError` where there is no memory for so many more. No number has changed.
     pub fn reserve(&mut self, more: usize) -> Result<(), AllocError>
         ensures numbers { numbers_of self.new ≡ numbers_of self.old }
-        ensures ok { OnOk result (more ≤ self.new.room) }
+        ensures room { OnOk result (more ≤ self.new.room) }
     {
         self.numbers.reserve(more)
     }
@@ -216,7 +222,7 @@ impl Counts {
     pub fn forget_user(&mut self, user: &Name)
         ensures { numbers_of self.new ≡ without_user user.now (numbers_of self.old) }
     {
-        self.numbers.retain(&OtherUsers { user });
+        self.numbers.retain(&EntriesOfOthers { user });
     }
 
     /// The first set by name of which the user's number, and how many of its roles are among the fresh ones, come to its own
@@ -233,6 +239,9 @@ impl Counts {
     }
 
     /// Equal numbers.
+    ///
+    /// # Errors
+    /// `AllocError` where there is no memory for it.
     pub fn copy(&self) -> Result<Counts, AllocError>
         ensures { IfOk result (λ copy. copy.content ≡ self.now.content) }
     {
@@ -284,7 +293,7 @@ impl Staged<CountChange<'_>> for Counts {
 
     fn make_room(&mut self, _alloc: Global, more: usize) -> Result<(), AllocError>
         ensures content { numbers_of self.new ≡ numbers_of self.old }
-        ensures ok { OnOk result (more ≤ self.new.room) }
+        ensures room { OnOk result (more ≤ self.new.room) }
     {
         self.reserve(more)
     }
@@ -301,6 +310,9 @@ impl Staged<CountChange<'_>> for Counts {
 
 impl Counts {
     /// Makes the names of the changes, and room for them. The numbers stay as they are, also where memory ends.
+    ///
+    /// # Errors
+    /// `AllocError` where there is no memory for the plan. Nothing that it is about has changed.
     pub fn plan(&mut self, alloc: Global, changes: &[CountChange]) -> Result<CountPlan, AllocError>
         ensures content { numbers_of self.new ≡ numbers_of self.old }
         ensures changes { IfOk result (λ plan. with_numbers plan (numbers_of self.old) ≡ made_all numbers_after changes.now (numbers_of self.old)) }

@@ -1,11 +1,9 @@
 //! A set of roles and its number.
-ghost use Rattle.std.specs.Prelude.{◌≡◌, ◌↔◌, IsTrue, IfOk, count_by};
-ghost use Rattle.sorted_keys.specs.Keys.{has};
-ghost use Rattle.rbac_terms.specs.Name.{name_cmp};
+ghost use Rattle.std.specs.Prelude.{◌≡◌, ◌↔◌, IsTrue, IfOk};
 ghost use Rattle.rbac_terms.specs.Separation.{is_broken};
 ghost use Rattle.rbac_separation.specs.Counts.{is_over};
 
-use rbac_terms::{Name, NameSet};
+use rbac_terms::NameSet;
 use sorted_keys::{Duplicate, Same};
 use std::alloc::AllocError;
 use std::marker::Model;
@@ -25,33 +23,19 @@ impl Model for RoleSet {
     ghost view = { λ s. record { roles = s.roles; cardinality = s.cardinality } };
 }
 
-// How many of these names are in the set.
-fn count_among(names: &[Name], set: &NameSet) -> usize
-    ensures { result ≡ count_by (λ n. has name_cmp n set.now) names.now }
-{
-    names.iter().filter(|name| set.contains(name)).count()
-}
-
 impl RoleSet {
-    // How many of its roles are among these.
-    fn count_among(&self, roles: &NameSet) -> usize
-        ensures { result ≡ count_by (λ r. has name_cmp r roles.now) self.now.roles }
-    {
-        count_among(self.roles.names(), roles)
-    }
-
     // Whether its number of its roles, or more, are among these.
     pub(crate) fn is_broken_by(&self, roles: &NameSet) -> bool
         ensures { result ≡ is_broken roles.now self.now }
     {
-        self.cardinality as usize <= self.count_among(roles)
+        self.cardinality as usize <= self.roles.count_in(roles)
     }
 
     // Whether this number, and how many of its roles are among these, come to its own number or more.
     pub(crate) fn is_over(&self, number: u32, fresh: &NameSet) -> bool
         ensures { result ≡ is_over number fresh.now self.now }
     {
-        self.cardinality.saturating_sub(number) as usize <= self.count_among(fresh)
+        self.cardinality.saturating_sub(number) as usize <= self.roles.count_in(fresh)
     }
 }
 

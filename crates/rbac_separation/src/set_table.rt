@@ -6,7 +6,6 @@ ghost use Rattle.std.specs.FinMap.Entries.{find, put};
 ghost use Rattle.sorted_keys.specs.Keys.{by_key, with_key, without, without_key, updated};
 ghost use Rattle.rbac_terms.specs.Name.{name_cmp};
 ghost use Rattle.rbac_terms.specs.Separation.{first_broken, is_constrained};
-ghost use Rattle.rbac_separation.specs.SetTable.{AreInOrder};
 
 use crate::change::{CardinalityChange, MemberAddition, MemberRemoval};
 use crate::role_set::RoleSet;
@@ -121,6 +120,9 @@ impl SetTable {
     }
 
     /// The names of the sets.
+    ///
+    /// # Errors
+    /// `AllocError` where there is no memory for it.
     pub fn names(&self, alloc: Global) -> Result<NameSet, AllocError>
         ensures { IfOk result (λ names. names ≡ map (λ e. e.0) self.now.content) }
     {
@@ -143,9 +145,12 @@ impl SetTable {
 
     /// Makes a set of these roles with this number, which it takes as it is: whether the roles are
     /// enough for the number is for the caller to see. A set of the same name is replaced.
+    ///
+    /// # Errors
+    /// `AllocError` where there is no memory for it. Nothing has changed.
     pub fn create(&mut self, set: Name, roles: NameSet, cardinality: u32) -> Result<(), AllocError>
-        ensures ok { OnOk result (self.new.content ≡ put name_cmp set (record { roles = roles; cardinality = cardinality }) self.old.content) }
-        ensures err { OnErr result (self.new.content ≡ self.old.content) }
+        ensures created { OnOk result (self.new.content ≡ put name_cmp set (record { roles = roles; cardinality = cardinality }) self.old.content) }
+        ensures unchanged { OnErr result (self.new.content ≡ self.old.content) }
     {
         self.sets.insert(set, RoleSet { roles, cardinality })
     }
@@ -158,9 +163,12 @@ impl SetTable {
     }
 
     /// Puts a role into a set. Where the set is not there, nothing changes.
+    ///
+    /// # Errors
+    /// `AllocError` where there is no memory for it. Nothing has changed.
     pub fn add_member(&mut self, set: &Name, role: Name) -> Result<(), AllocError>
-        ensures ok { OnOk result (self.new.content ≡ updated name_cmp set.now (λ s. record s { roles = with_key name_cmp role s.roles }) self.old.content) }
-        ensures err { OnErr result (self.new.content ≡ self.old.content) }
+        ensures added { OnOk result (self.new.content ≡ updated name_cmp set.now (λ s. record s { roles = with_key name_cmp role s.roles }) self.old.content) }
+        ensures unchanged { OnErr result (self.new.content ≡ self.old.content) }
     {
         self.sets.update(set, MemberAddition { role })
     }
@@ -187,12 +195,15 @@ impl SetTable {
 
     /// The sets are a map: in the order of their names, each once.
     pub fn invariants(&self)
-        ensures { AreInOrder self.now.content }
+        ensures { IsStrictlySortedBy (by_key name_cmp) self.now.content }
     {
         let _sets = self.sets.entries();
     }
 
     /// Equal sets.
+    ///
+    /// # Errors
+    /// `AllocError` where there is no memory for it.
     pub fn copy(&self) -> Result<SetTable, AllocError>
         ensures { IfOk result (λ copy. copy.content ≡ self.now.content) }
     {

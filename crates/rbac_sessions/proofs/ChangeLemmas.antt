@@ -5,7 +5,8 @@ use Rattle.staged.specs.Entries.{with_entry}
 use Rattle.staged.proofs.EntryLemmas.{updated_is}
 use Rattle.rbac_terms.specs.Name.{Name, name_cmp}
 use Rattle.rbac_terms.specs.State.{Session}
-use Rattle.rbac_sessions.specs.Changes.{becomes, changed, session_of, with_active}
+use Rattle.rbac_sessions.specs.Changes.{becomes, changed, session_of}
+use Rattle.rbac_terms.specs.Change.{with_active}
 use Rattle.rbac_sessions.specs.declared.plan.Change.{Change}
 use Rattle.rbac_sessions.specs.declared.plan.Change.TheVariants.{Create, Activate}
 

@@ -2,15 +2,12 @@
 use Rattle.std.specs.Prelude.{List, Option, Some}
 use Rattle.std.specs.Option.{option_map}
 use Rattle.std.specs.FinMap.Entries.{put}
-use Rattle.sorted_keys.specs.Keys.{with_key, updated}
+use Rattle.sorted_keys.specs.Keys.{updated}
 use Rattle.rbac_terms.specs.Name.{Name, name_cmp}
 use Rattle.rbac_terms.specs.State.{Session}
+use Rattle.rbac_terms.specs.Change.{with_active}
 use Rattle.rbac_sessions.specs.declared.plan.Change.{Change}
 use Rattle.rbac_sessions.specs.declared.plan.Change.TheVariants.{Create, Activate}
-
--- a session in which one more role is active
-abbrev pub with_active : Name → Session → Session
-with_active role s = record s { active = with_key name_cmp role s.active }
 
 -- a session that is opened, and a role that is made active in a session that is there
 abbrev pub changed : Change → List (Name × Session) → List (Name × Session)

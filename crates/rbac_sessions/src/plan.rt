@@ -3,7 +3,8 @@ ghost use Rattle.std.specs.Prelude.{◌≡◌, ◌≤◌, length, IfOk};
 ghost use Rattle.staged.specs.Entries.{after_entries};
 ghost use Rattle.staged.specs.Made.{made_all};
 ghost use Rattle.rbac_terms.specs.Name.{name_cmp};
-ghost use Rattle.rbac_sessions.specs.Changes.{becomes, changed, session_of, with_active};
+ghost use Rattle.rbac_sessions.specs.Changes.{becomes, changed, session_of};
+ghost use Rattle.rbac_terms.specs.Change.{with_active};
 
 use crate::session::Session;
 use crate::sessions::Sessions;
@@ -70,6 +71,9 @@ pub type Plan = staged::Plan<(Name, Option<Session>)>;
 
 impl Sessions {
     /// Makes the names and sets of the changes, and room for them. The sessions stay as they are, also where memory ends.
+    ///
+    /// # Errors
+    /// `AllocError` where there is no memory for the plan. No session has changed.
     pub fn plan(&mut self, alloc: Global, changes: &[Change]) -> Result<Plan, AllocError>
         ensures content { self.new.content ≡ self.old.content }
         ensures changes { IfOk result (λ plan. after_entries name_cmp plan self.old.content ≡ made_all changed changes.now self.old.content) }

@@ -10,7 +10,7 @@ use std::alloc::AllocError;
 /// A command of RBAC (ANSI INCITS 359-2004, 6.1 to 6.4), one variant for each that may change a policy or checks access, and one
 /// for all reviews. Those about sets of separation serve both kinds: CreateSsdSet is `CreateSet` of the static kind,
 /// CreateDsdSet of the dynamic one.
-#[derive(Clone, Drop)]
+#[derive(Clone, PartialEq, Eq, Drop)]
 pub enum Command {
     AddUser {
         user: Name,
@@ -129,6 +129,9 @@ impl Command {
     }
 
     /// An equal command.
+    ///
+    /// # Errors
+    /// `AllocError` where there is no memory for it.
     pub fn copy(&self) -> Result<Command, AllocError>
         ensures { IfOk result (λ copy. copy ≡ self.now) }
     {

@@ -1,5 +1,5 @@
 //! Sets of names.
-ghost use Rattle.std.specs.Prelude.{◌≡◌, ◌↔◌, [], length, IsTrue, IfOk, OnOk, OnErr, false};
+ghost use Rattle.std.specs.Prelude.{◌≡◌, ◌↔◌, [], length, count_by, IsTrue, IfOk, OnOk, OnErr, false};
 ghost use Rattle.std.specs.List.Sorted.{IsStrictlySortedBy};
 ghost use Rattle.sorted_keys.specs.Keys.{has, with_key, without};
 ghost use Rattle.rbac_terms.specs.Name.{name_cmp};
@@ -61,9 +61,22 @@ impl NameSet {
         self.names.contains(name)
     }
 
+    /// How many of its names are in another set.
+    pub fn count_in(&self, other: &NameSet) -> usize
+        ensures { result ≡ count_by (λ name. has name_cmp name other.now) self.now }
+    {
+        self.names()
+            .iter()
+            .filter(|name| other.contains(name))
+            .count()
+    }
+
     /// Adds a name. Where it is there, nothing changes.
+    ///
+    /// # Errors
+    /// `AllocError` where there is no memory for it. Nothing has changed.
     pub fn add(&mut self, name: Name) -> Result<(), AllocError>
-        ensures ok { OnOk result (self.new ≡ with_key name_cmp name self.old) }
+        ensures added { OnOk result (self.new ≡ with_key name_cmp name self.old) }
         ensures unchanged { OnErr result (self.new ≡ self.old) }
         ensures absent { OnErr result (has name_cmp name self.old ≡ false) }
     {
@@ -71,8 +84,11 @@ impl NameSet {
     }
 
     /// Adds a copy of a name. Where it is there, nothing changes.
+    ///
+    /// # Errors
+    /// `AllocError` where there is no memory for it. Nothing has changed.
     pub fn add_copy(&mut self, name: &Name) -> Result<(), AllocError>
-        ensures ok { OnOk result (self.new ≡ with_key name_cmp name.now self.old) }
+        ensures added { OnOk result (self.new ≡ with_key name_cmp name.now self.old) }
         ensures unchanged { OnErr result (self.new ≡ self.old) }
         ensures absent { OnErr result (has name_cmp name.now self.old ≡ false) }
     {
@@ -95,6 +111,9 @@ impl NameSet {
     }
 
     /// An equal set.
+    ///
+    /// # Errors
+    /// `AllocError` where there is no memory for it.
     pub fn copy(&self) -> Result<NameSet, AllocError>
         ensures { IfOk result (λ copy. copy ≡ self.now) }
     {
@@ -102,6 +121,27 @@ impl NameSet {
             names: self.names.copy()?,
         })
     }
+}
+
+impl PartialEq for NameSet {
+    ghost use Rattle.std.specs.Prelude.{◌==◌};
+    ghost use Rattle.std.specs.Cmp.Lexicographic.{pointwise};
+    ghost use Rattle.std.specs.Cmp.{partial_equiv_from_equiv};
+    ghost use Rattle.std.proofs.lemmas.Cmp.{nat_list_eq_equiv, lists_equiv};
+
+    ghost eq = { pointwise (pointwise ◌==◌) };
+
+    ghost laws = { partial_equiv_from_equiv (lists_equiv nat_list_eq_equiv) };
+
+    fn eq(&self, other: &NameSet) -> bool {
+        self.names() == other.names()
+    }
+}
+
+impl Eq for NameSet {
+    ghost use Rattle.std.proofs.lemmas.Cmp.{nat_list_eq_equiv, lists_equiv};
+
+    ghost laws = { lists_equiv nat_list_eq_equiv };
 }
 
 /// A clone is equal.

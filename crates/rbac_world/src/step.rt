@@ -31,24 +31,15 @@ fn submit(
 ) -> Result<Outcome, Refusal>
     ensures { (group : GroupValue) (vocabulary : VocabularyValue) → AreMembers group vocabulary members.old → IsGroupStep group vocabulary members.old (event.Submit at caller serial command.now) result members.new }
 {
-    let place = match place_of(members, at) {
-        Ok(place) => place,
-        Err(refusal) => return Err(refusal),
-    };
+    let place = place_of(members, at)?;
     moves::submit(&mut members[place], caller, serial, command)
 }
 
 fn receive(members: &mut [Member], at: u32, from: u32, number: u32) -> Result<Outcome, Refusal>
     ensures { (group : GroupValue) (vocabulary : VocabularyValue) → AreMembers group vocabulary members.old → IsGroupStep group vocabulary members.old (event.Receive at from number) result members.new }
 {
-    let place = match place_of(members, at) {
-        Ok(place) => place,
-        Err(refusal) => return Err(refusal),
-    };
-    let sender = match place_of(members, from) {
-        Ok(sender) => sender,
-        Err(refusal) => return Err(refusal),
-    };
+    let place = place_of(members, at)?;
+    let sender = place_of(members, from)?;
     if place == sender {
         return Err(Refusal::FromSelf);
     }
@@ -58,10 +49,7 @@ fn receive(members: &mut [Member], at: u32, from: u32, number: u32) -> Result<Ou
 fn deliver(members: &mut [Member], alloc: Global, at: u32) -> Result<Outcome, Refusal>
     ensures { (group : GroupValue) (vocabulary : VocabularyValue) → AreMembers group vocabulary members.old → IsGroupStep group vocabulary members.old (event.Deliver at) result members.new }
 {
-    let place = match place_of(members, at) {
-        Ok(place) => place,
-        Err(refusal) => return Err(refusal),
-    };
+    let place = place_of(members, at)?;
     moves::deliver(&mut members[place], alloc)
 }
 

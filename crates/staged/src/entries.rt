@@ -17,10 +17,16 @@ pub trait EntryChange<K, V> {
     ghost becomes: { Self → Option V → Option V };
 
     /// The key, with memory of its own.
+    ///
+    /// # Errors
+    /// `AllocError` where the key gets no memory.
     fn key(&self) -> Result<K, AllocError>
         ensures { IfOk result (λ own. own ≡ key self.now) };
 
     /// The value after the change, with memory of its own.
+    ///
+    /// # Errors
+    /// `AllocError` where the value gets no memory.
     fn value(&self, alloc: Global, found: Option<&V>) -> Result<Option<V>, AllocError>
         ensures { IfOk result (λ value. value ≡ becomes self.now (option_copied found.entry)) };
 }

@@ -39,6 +39,9 @@ pub trait Staged<C> {
     ghost made: { Self.Step → Content → Content };
 
     /// The step that makes a change after these steps.
+    ///
+    /// # Errors
+    /// `AllocError` where the step gets no memory.
     fn prepare(
         &self,
         alloc: Global,
@@ -48,9 +51,12 @@ pub trait Staged<C> {
         ensures { let reached = made_all made before.now (content self.now) in IfOk result (λ step. made step reached ≡ changed change.now reached) };
 
     /// Makes room for so many more steps. What is in it stays, also where memory ends.
+    ///
+    /// # Errors
+    /// `AllocError` where it has less room and gets no memory.
     fn make_room(&mut self, alloc: Global, more: usize) -> Result<(), AllocError>
         ensures content { content self.new ≡ content self.old }
-        ensures ok { OnOk result (more ≤ room self.new) };
+        ensures room { OnOk result (more ≤ room self.new) };
 
     /// Makes a step.
     fn make(&mut self, step: Self::Step)
@@ -77,6 +83,9 @@ fn prepare_all<C, S: Staged<C>>(
 }
 
 /// The steps that make these changes one after the other, and room for them. What is in the structure stays, also where memory ends.
+///
+/// # Errors
+/// `AllocError` where the steps, or the room for them, get no memory.
 pub fn make_plan<C, S: Staged<C>>(
     alloc: Global,
     staged: &mut S,

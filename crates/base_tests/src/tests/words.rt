@@ -5,7 +5,7 @@ ghost use Rattle.std.specs.Ordering.{eq_by_cmp};
 ghost use Rattle.rbac_terms.specs.Name.{name_cmp};
 
 use rbac_terms::{
-    Denial, Name, NameRefusal, NameSet, PermissionSet, Vocabulary, VocabularyRefusal,
+    Command, Denial, Name, NameRefusal, NameSet, PermissionSet, Vocabulary, VocabularyRefusal,
 };
 use sorted_keys::{KeyTest, Same};
 use std::alloc::Global;
@@ -353,6 +353,59 @@ fn are_same_names(rt: &impl Abort, alloc: Global, first: &str, second: &str) -> 
 
 fn are_same_sets(rt: &impl Abort, alloc: Global, first: &[&str], second: &[&str]) -> bool {
     set(rt, alloc, first).same(&set(rt, alloc, second))
+}
+
+#[test]
+fn names_of_a_set_are_counted_in_another(rt: HostRuntime) {
+    let alloc = rt.alloc();
+    let first = set(&rt, alloc, &["boss", "clerk", "payer", "writer"]);
+    let second = set(&rt, alloc, &["payer", "auditor", "boss"]);
+    assert_eq!(rt; first.count_in(&second), 2);
+    assert_eq!(rt; second.count_in(&first), 2);
+    assert_eq!(rt; first.count_in(&first), 4);
+    assert_eq!(rt; first.count_in(&NameSet::new(alloc)), 0);
+    drop(second);
+    drop(first);
+}
+
+// Whether the two commands are equal. They end here: the drop of a command is a case for each of them.
+fn are_equal(first: Command, second: Command) -> bool {
+    let equal = first == second;
+    drop(second);
+    drop(first);
+    equal
+}
+
+fn session_of(rt: &impl Abort, alloc: Global, roles: &[&str]) -> Command {
+    Command::CreateSession {
+        user: name(rt, alloc, "ann"),
+        session: name(rt, alloc, "s1"),
+        roles: set(rt, alloc, roles),
+    }
+}
+
+fn user_added(rt: &impl Abort, alloc: Global, user: &str) -> Command {
+    Command::AddUser {
+        user: name(rt, alloc, user),
+    }
+}
+
+fn user_deleted(rt: &impl Abort, alloc: Global, user: &str) -> Command {
+    Command::DeleteUser {
+        user: name(rt, alloc, user),
+    }
+}
+
+#[test]
+fn commands_are_equal_where_all_they_name_is(rt: HostRuntime) {
+    let alloc = rt.alloc();
+    let session = |roles: &[&str]| session_of(&rt, alloc, roles);
+    assert!(rt; are_equal(session(&["boss", "clerk"]), session(&["clerk", "boss"])));
+    assert!(rt; !are_equal(session(&["boss", "clerk"]), session(&["boss"])));
+    let added = |user: &str| user_added(&rt, alloc, user);
+    assert!(rt; are_equal(added("ann"), added("ann")));
+    assert!(rt; !are_equal(added("ann"), added("bob")));
+    assert!(rt; !are_equal(added("ann"), user_deleted(&rt, alloc, "ann")));
 }
 
 #[test]

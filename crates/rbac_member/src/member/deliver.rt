@@ -42,18 +42,24 @@ impl Member {
 
     /// Delivers the command that is due, if one is: it leaves what is held, its record joins the history, and the policy
     /// becomes its effect. Answers the record's place in the history.
+    ///
+    /// # Errors
+    /// `AllocError` where a command is due and there is no memory for it. The member is as before.
     pub fn deliver(&mut self, alloc: Global) -> Result<Option<usize>, AllocError>
         ensures place { IfOk result (λ place. place ≡ place_of (node_of self.old) (due_at self.old)) }
         ensures delivered { OnOk result (self.new ≡ deliver_due self.old (due_at self.old)) }
         ensures unchanged { OnErr result (self.new ≡ self.old) }
         ensures was_due { OnErr result (is_some (due_at self.old) ≡ true) }
     {
+        // It waits until each other member has sent something of a greater stamp (Lamport 1978, "Ordering the Events Totally", rule 5).
         if !self.is_due() {
             return Ok(None);
         }
+        // The command of the least stamp is first in the total order (rule 5).
         let Some(next) = self.held.least() else {
             return Ok(None);
         };
+        // All memory is taken before anything changes.
         self.history.reserve(1)?;
         let answer = self.policy.apply(alloc, &next.command)?;
         let place = self.history.len();

@@ -46,6 +46,10 @@ impl Member {
 
     /// Receives message `number` of member `from`, which is the next one that it has not received: a command is held and
     /// acknowledged, and no message of a smaller stamp is taken of that member any more. Answers the acknowledgement's stamp.
+    ///
+    /// # Errors
+    /// The first that applies: `UnknownMember`, `FromSelf`, `Repeat`, `Gap`, `StampNotRising` of the links; `ClockFull`,
+    /// `SentFull`, `BadSerial`; `NoMemory`. The member is as before.
     pub fn receive(
         &mut self,
         from: u32,
@@ -59,10 +63,7 @@ impl Member {
         ensures memory_needed { IfErr result (λ refusal. refusal ≡ ReceiveRefusal.NoMemory → must_acknowledge (node_of self.old) message.now ≡ true) }
         ensures unchanged { OnErr result (self.new ≡ self.old) }
     {
-        let clock = match self.clock_upon(from, number, message) {
-            Ok(clock) => clock,
-            Err(refusal) => return Err(refusal),
-        };
+        let clock = self.clock_upon(from, number, message)?;
         let stamp = self.acknowledgement(message, clock);
         match self.take(from, number, message, clock, stamp) {
             Ok(()) => Ok(stamp),
@@ -70,7 +71,8 @@ impl Member {
         }
     }
 
-    // Whether a message is acknowledged: it is where it has a command.
+    // Whether a message is acknowledged: it is where it has a command (Lamport 1978, "Ordering the Events Totally", rule 2: upon a
+    // request it is queued, and a timestamped acknowledgement is sent).
     fn must_acknowledge(&self, message: &Message) -> bool
         ensures { result ≡ must_acknowledge (node_of self.now) message.now }
     {
@@ -99,11 +101,13 @@ impl Member {
         ensures first_refusal { IfErr result (λ refusal. (room_refusal self.now.group (node_of self.now) message.now ≡ rule_of (receipt_refused refusal)) × (refusal ≢ ReceiveRefusal.NoMemory)) }
     {
         let is_acknowledged = self.must_acknowledge(message);
+        // The clock passes the message's stamp (Lamport 1978, "Logical Clocks", rule IR2), and the acknowledgement is one event more.
         let steps = if is_acknowledged { 2 } else { 1 };
         let seen = self.clock.max(message.stamp().clock);
         if LAST_CLOCK - steps < seen {
             return Err(ReceiveRefusal::ClockFull);
         }
+        // What must be acknowledged is received only where the acknowledgement can be sent: its sender waits for it.
         if is_acknowledged && self.outbox.is_full() {
             return Err(ReceiveRefusal::SentFull);
         }
@@ -124,6 +128,7 @@ impl Member {
         else {
             return Ok(());
         };
+        // A caller's commands are numbered from 0 without a gap, so that each is held once.
         let next = next_serial(&self.serials, stamp.member, *caller);
         if u64::from(*serial) != next {
             return Err(ReceiveRefusal::BadSerial { next });
@@ -137,6 +142,7 @@ impl Member {
         ensures accepted { OnOk result (message_refusal self.now from number message.now ≡ None) }
         ensures first_refusal { IfErr result (λ refusal. (message_refusal self.now from number message.now ≡ rule_of (receipt_refused refusal)) × (refusal ≢ ReceiveRefusal.NoMemory)) }
     {
+        // Messages of one member are received in the order in which they were sent (Lamport 1978, "Ordering the Events Totally").
         self.links.check(from, number, message.stamp())?;
         let clock = self.room_for(message)?;
         self.serial_in_turn(message)?;
@@ -159,6 +165,7 @@ impl Member {
         ensures memory_needed { OnErr result (must_acknowledge (node_of self.old) message.now ≡ true) }
         ensures unchanged { OnErr result (self.new ≡ self.old) }
     {
+        // All memory is taken before anything changes.
         make_room(&mut self.outbox, stamp)?;
         hold(&mut self.serials, &mut self.held, message)?;
         let Ok(()) = self.links.accept(from, number, message.stamp()) else {

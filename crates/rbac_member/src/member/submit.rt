@@ -53,6 +53,9 @@ impl Member {
     ghost use Rattle.rbac_member.specs.Calls.{submit_refused, rule_of};
 
     /// Sends a caller's next command to all members, and holds it. Serials count a caller's commands from 0.
+    ///
+    /// # Errors
+    /// The first that applies: `ClockFull`, `SentFull`, `BadSerial`, `NoMemory`. The member is as before.
     pub fn submit(
         &mut self,
         caller: u32,
@@ -65,10 +68,7 @@ impl Member {
         ensures first_refusal { IfErr result (λ refusal. submit_refusal self.old.group (node_of self.old) caller serial ≡ rule_of (submit_refused refusal)) }
         ensures unchanged { OnErr result (self.new ≡ self.old) }
     {
-        let next = match self.next_stamp(caller, serial) {
-            Ok(next) => next,
-            Err(refusal) => return Err(refusal),
-        };
+        let next = self.next_stamp(caller, serial)?;
         match self.send_call(next, caller, serial, command) {
             Ok(()) => Ok(next),
             Err(AllocError) => Err(SubmitRefusal::NoMemory),
@@ -76,6 +76,9 @@ impl Member {
     }
 
     /// Submits a copy of a command, which is made only where nothing but memory stands in its way.
+    ///
+    /// # Errors
+    /// As `submit`.
     pub fn submit_copy(
         &mut self,
         caller: u32,
@@ -105,12 +108,15 @@ impl Member {
         ensures accepted { OnOk result (submit_refusal self.now.group (node_of self.now) caller serial ≡ None) }
         ensures first_refusal { IfErr result (λ refusal. submit_refusal self.now.group (node_of self.now) caller serial ≡ rule_of (submit_refused refusal)) }
     {
+        // A command is an event of its member, and its stamp is the clock after it (Lamport 1978, "Logical Clocks", rule IR1).
         if LAST_CLOCK <= self.clock {
             return Err(SubmitRefusal::ClockFull);
         }
+        // It is sent to each other member (Lamport 1978, "Ordering the Events Totally", rule 1).
         if self.outbox.is_full() {
             return Err(SubmitRefusal::SentFull);
         }
+        // A caller's commands are numbered from 0 without a gap, so that each is submitted once.
         let next = next_serial(&self.serials, self.number, caller);
         if u64::from(serial) != next {
             return Err(SubmitRefusal::BadSerial { next });
@@ -140,6 +146,7 @@ impl Member {
             serial,
             command,
         };
+        // It joins the member's own queue too (rule 1).
         send(&mut self.serials, &mut self.outbox, &mut self.held, message)?;
         self.clock = next.clock;
         Ok(())

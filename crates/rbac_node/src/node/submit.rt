@@ -11,9 +11,12 @@ impl<G: GroupName> Node<G> {
     ghost use Rattle.rbac_words.specs.Keeping.Member.{submitted, node_of, due_at, deliver_due};
     ghost use Rattle.rbac_words.specs.World.{stamp, submit_refusal, place_of};
     ghost use Rattle.rbac_member.specs.Calls.{submit_refused, rule_of};
-    ghost use Rattle.rbac_node.specs.Node.{with_member, AreDeliveries};
+    ghost use Rattle.rbac_node.specs.Node.{with_own_member, AreDeliveries};
 
     /// One submit of its member. The caller's number is one that this node gave.
+    ///
+    /// # Errors
+    /// The first refusal of `Member::submit`. Nothing has changed.
     pub fn submit(
         &mut self,
         caller: u32,
@@ -22,7 +25,7 @@ impl<G: GroupName> Node<G> {
     ) -> Result<Stamp, SubmitRefusal>
         requires { caller < self.old.next_caller }
         ensures stamp { IfOk result (λ s. s ≡ stamp (self.old.member.clock + 1) self.old.member.number) }
-        ensures submitted { OnOk result (self.new ≡ with_member self.old (submitted self.old.member caller serial command)) }
+        ensures submitted { OnOk result (self.new ≡ with_own_member self.old (submitted self.old.member caller serial command)) }
         ensures accepted { OnOk result (submit_refusal self.old.member.group (node_of self.old.member) caller serial ≡ None) }
         ensures first_refusal { IfErr result (λ refusal. submit_refusal self.old.member.group (node_of self.old.member) caller serial ≡ rule_of (submit_refused refusal)) }
         ensures unchanged { OnErr result (self.new ≡ self.old) }
@@ -32,6 +35,9 @@ impl<G: GroupName> Node<G> {
 
     /// One submit of a copy of a command, which is made only where nothing but memory stands in its way. The caller's number is
     /// one that this node gave.
+    ///
+    /// # Errors
+    /// The first refusal of `Member::submit`. Nothing has changed.
     pub fn submit_copy(
         &mut self,
         caller: u32,
@@ -40,7 +46,7 @@ impl<G: GroupName> Node<G> {
     ) -> Result<Stamp, SubmitRefusal>
         requires { caller < self.old.next_caller }
         ensures stamp { IfOk result (λ s. s ≡ stamp (self.old.member.clock + 1) self.old.member.number) }
-        ensures submitted { OnOk result (self.new ≡ with_member self.old (submitted self.old.member caller serial command.now)) }
+        ensures submitted { OnOk result (self.new ≡ with_own_member self.old (submitted self.old.member caller serial command.now)) }
         ensures accepted { OnOk result (submit_refusal self.old.member.group (node_of self.old.member) caller serial ≡ None) }
         ensures first_refusal { IfErr result (λ refusal. submit_refusal self.old.member.group (node_of self.old.member) caller serial ≡ rule_of (submit_refused refusal)) }
         ensures unchanged { OnErr result (self.new ≡ self.old) }
@@ -49,9 +55,12 @@ impl<G: GroupName> Node<G> {
     }
 
     /// One delivery of its member.
+    ///
+    /// # Errors
+    /// `AllocError` where there is no memory for it. Nothing has changed.
     pub fn deliver(&mut self, alloc: Global) -> Result<Option<usize>, AllocError>
         ensures place { IfOk result (λ place. place ≡ place_of (node_of self.old.member) (due_at self.old.member)) }
-        ensures delivered { OnOk result (self.new ≡ with_member self.old (deliver_due self.old.member (due_at self.old.member))) }
+        ensures delivered { OnOk result (self.new ≡ with_own_member self.old (deliver_due self.old.member (due_at self.old.member))) }
         ensures was_due { OnErr result (is_some (due_at self.old.member) ≡ true) }
         ensures unchanged { OnErr result (self.new ≡ self.old) }
     {
@@ -67,7 +76,7 @@ impl<G: GroupName> Node<G> {
         ensures to_the_end { OnOk result (is_some (due_at self.new.member) ≡ false) }
         ensures some { OnErr result ((n : ℕ) × AreDeliveries n self.old.member self.new.member) }
         ensures was_due { OnErr result (is_some (due_at self.new.member) ≡ true) }
-        ensures nothing_else { self.new ≡ with_member self.old self.new.member }
+        ensures nothing_else { self.new ≡ with_own_member self.old self.new.member }
     {
         let before = self.member().history().len();
         while self.deliver(alloc)?.is_some() {}

@@ -20,7 +20,7 @@ loop-name-preserved g c =
     let so_far = λ (r : Name). ap (λ (l : List Name). has name_cmp r kept || (has name_cmp r l && passes r)) (sym (dropped names i x lt is)) ∙ c.loop-name.invariant r in
     elim c.if-test.branch [
       | then-test+in_ok-add_copy w ↦ λ r.
-          ap (λ (l : List Name). has name_cmp r l || (has name_cmp r rest && passes r)) (w.kept-is ∙ w.in_ok-add_copy.ensures.ok)
+          ap (λ (l : List Name). has name_cmp r l || (has name_cmp r rest && passes r)) (w.kept-is ∙ w.in_ok-add_copy.ensures.added)
           ∙ kept_one passes x rest kept names so_far (sym c.test.ensures ∙ w.if-test.true) r
       | else-test w ↦ λ r.
           ap (λ (l : List Name). has name_cmp r l || (has name_cmp r rest && passes r)) w.kept-is

@@ -13,12 +13,12 @@ declare-requires-clause-descendant g c =
     let h = g.O.RoleOrder.content c.args.order.now in
     (and_parts _ _ (and_parts _ _ (sym (both_roles h c.in-Declare.ascendant c.in-Declare.descendant _ c.closes_no_circle.ensures) ∙ c.if-closes_no_circle.true)).1).0
 
-pub returns-then-closes_no_circle-clause-ok : goal.returns-then-closes_no_circle-clause-ok
-returns-then-closes_no_circle-clause-ok g c =
+pub returns-then-closes_no_circle-clause-made : goal.returns-then-closes_no_circle-clause-made
+returns-then-closes_no_circle-clause-made g c =
     let h = g.O.RoleOrder.content c.args.order.now in
-    rw (c.in-Declare.is, sym (both_roles h c.in-Declare.ascendant c.in-Declare.descendant _ c.closes_no_circle.ensures) ∙ c.if-closes_no_circle.true) c.declare.ensures.ok
+    rw (c.in-Declare.is, sym (both_roles h c.in-Declare.ascendant c.in-Declare.descendant _ c.closes_no_circle.ensures) ∙ c.if-closes_no_circle.true) c.declare.ensures.declared
 
-pub returns-else-closes_no_circle-clause-ok : goal.returns-else-closes_no_circle-clause-ok
-returns-else-closes_no_circle-clause-ok g c =
+pub returns-else-closes_no_circle-clause-made : goal.returns-else-closes_no_circle-clause-made
+returns-else-closes_no_circle-clause-made g c =
     let h = g.O.RoleOrder.content c.args.order.now in
     rw (c.in-Declare.is, sym (both_roles h c.in-Declare.ascendant c.in-Declare.descendant _ c.closes_no_circle.ensures) ∙ c.if-closes_no_circle.false) refl

@@ -5,6 +5,6 @@ use Rattle.rbac_hierarchy.proofs.laws.run_order.Goals as goal
 
 pub loop-change-preserved : goal.loop-change-preserved
 loop-change-preserved g c =
-    c.in_ok-make.ensures.ok
+    c.in_ok-make.ensures.made
     ∙ ap (after_one c.change-item.result) c.loop-change.invariant
     ∙ sym (one_change_more c.args.changes.now c.loop-change.change-index c.change-item.result (g.O.RoleOrder.content c.args.order.now) c.loop-change-test.true c.change-item.is)

@@ -9,7 +9,7 @@ loop-name-init c = λ r. or_nothing (has name_cmp r c.args.names)
 
 pub loop-name-preserved : goal.loop-name-preserved
 loop-name-preserved c = λ r.
-    ap (has name_cmp r) c.in_ok-add_copy.ensures.ok
+    ap (has name_cmp r) c.in_ok-add_copy.ensures.added
     ∙ has_one_more c.args.names c.loop-name.more c.args.added.now c.loop-name.name-index c.name-item.result c.loop-name-test.true c.name-item.is c.loop-name.invariant r
 
 pub returns : goal.returns

@@ -14,5 +14,5 @@ loop-entry-preserved c =
     let sorted : IsStrictlySortedBy (by_key name_cmp) entries = rw c.entries-entry-items.ensures.entries c.entries-entry-items.ensures.in_order in
     let is_role = rw c.entries-entry-items.ensures.entries at (key_among entries c.loop-entry.entry-index c.entry-item.result c.loop-entry-test.true c.entry-item.is) in
     let names = c.in_ok-names.ensures all (sorted_keys name_cmp _ c.entries-entry-items.ensures.in_order) is_role c.requires in
-    c.in_ok-insert.ensures.ok
+    c.in_ok-insert.ensures.put
     ∙ rw c.in_ok-role.ensures (rows_more all c.args.declared.now.content entries c.loop-entry.entry-index c.entry-item.result _ _ sorted c.loop-entry-test.true c.entry-item.is names c.loop-entry.invariant)

@@ -9,7 +9,7 @@ pub loop-entry-preserved : goal.loop-entry-preserved
 loop-entry-preserved g c =
     elim c.if-test.branch [
       | then-test+in_ok-add_copy w ↦
-          w.roles-is ∙ w.in_ok-add_copy.ensures.ok
+          w.roles-is ∙ w.in_ok-add_copy.ensures.added
           ∙ key_more (λ e. g.T.KeyTest.passes c.args.test.now e.0) c.args.rows.now c.loop-entry.entry-index c.entry-item.result _ c.requires c.loop-entry-test.true c.entry-item.is (sym c.test.ensures ∙ w.if-test.true) c.loop-entry.invariant
       | else-test w ↦
           w.roles-is

@@ -4,7 +4,7 @@ use Rattle.rbac_hierarchy.proofs.WalkLemmas.{walk_begins, walk_goes_on, walk_shr
 use Rattle.rbac_hierarchy.proofs.walk.walk.Goals as goal
 
 pub loop-ascendant-init : goal.loop-ascendant-init
-loop-ascendant-init c = rw (c.in_ok-push.ensures.items, c.new-pending.ensures.items, c.in_ok-copy-2.ensures, c.in_ok-add.ensures.ok, c.in_ok-copy.ensures, c.new-found.ensures) (walk_begins _ _)
+loop-ascendant-init c = rw (c.in_ok-push.ensures.items, c.new-pending.ensures.items, c.in_ok-copy-2.ensures, c.in_ok-add.ensures.added, c.in_ok-copy.ensures, c.new-found.ensures) (walk_begins _ _)
 
 pub loop-ascendant-smaller : goal.loop-ascendant-smaller
 loop-ascendant-smaller c =

@@ -23,7 +23,7 @@ loop-entry-preserved c =
     let entries = c.args.sets.now in
     let i = c.loop-entry.entry-index in
     let entry = c.entry-item.result in
-    c.in_ok-add.ensures.ok
+    c.in_ok-add.ensures.added
     ∙ ap (λ k. with_key name_cmp k c.loop-entry.names) c.in_ok-copy.ensures
     ∙ ap (λ t. with_key name_cmp entry.0 t) c.loop-entry.invariant
     ∙ ap (λ (e : _ × _). with_key name_cmp e.0 (map (λ e. e.0) (take i entries))) c.entry-item.is

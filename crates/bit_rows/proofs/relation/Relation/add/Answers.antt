@@ -13,7 +13,7 @@ count_is : (c : goal.In_ok-push) → c.len-number.result ≡ length c.self.insid
 count_is c = c.len-number.ensures ∙ c.self.inside.rows.ok.0
 
 wider : (c : goal.In_ok-push) → AreWide c.widen_all.new.rows (length c.self.inside.rows.items + 1)
-wider c = ap_rows (c.in_ok-widen_all.ensures.ok)
+wider c = ap_rows (c.in_ok-widen_all.ensures.wider)
   where
     ap_rows : AreWide c.widen_all.new.rows (length c.deref_mut.result.now + 1) → AreWide c.widen_all.new.rows (length c.self.inside.rows.items + 1)
     ap_rows w = subst (λ rows. AreWide c.widen_all.new.rows (length rows + 1)) c.deref_mut.ensures.value w
@@ -30,8 +30,8 @@ invariant_of-self-2 c =
     let same = c.deref_mut.ensures.value in
     subst IsRelation (sym (items c)) (relation_added old c.widen_all.new.rows c.in_ok-row.row c.self.invariant (rw same at c.widen_all.ensures.length) (wider c) (rw same at c.widen_all.ensures.bits) (room c) (own c))
 
-pub returns-clause-ok_related : goal.returns-clause-ok_related
-returns-clause-ok_related c = λ i j.
+pub returns-clause-related_to_itself : goal.returns-clause-related_to_itself
+returns-clause-related_to_itself c = λ i j.
     let old = c.self.inside.rows.items in
     let same = c.deref_mut.ensures.value in
     ap (λ rows. bit rows i j) (items c)

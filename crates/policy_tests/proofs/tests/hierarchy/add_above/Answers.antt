@@ -7,4 +7,4 @@ add_role_with_pair-requires-clause-ascendant g c = added_itself c.args.role.now 
 
 pub add_role_with_pair-requires-clause-descendant : goal.add_role_with_pair-requires-clause-descendant
 add_role_with_pair-requires-clause-descendant g c =
-    rw (ap (λ h. h.roles) c.in_ok-add_role.ensures.ok) (added_before c.args.junior.now c.args.role.now (g.O.RoleOrder.content c.args.hierarchy.now).roles)
+    rw (ap (λ h. h.roles) c.in_ok-add_role.ensures.added) (added_before c.args.junior.now c.args.role.now (g.O.RoleOrder.content c.args.hierarchy.now).roles)

@@ -4,7 +4,7 @@ use Rattle.policy_tests.proofs.tests.hierarchy.add_pair.Goals as goal
 
 pub declare-requires-clause-ascendant : goal.declare-requires-clause-ascendant
 declare-requires-clause-ascendant g c =
-    rw (ap (λ h. h.roles) c.in_ok-add_role-2.ensures.ok, ap (λ h. h.roles) c.in_ok-add_role.ensures.ok) (added_before c.args.ascendant.now c.args.descendant.now (g.O.RoleOrder.content c.args.hierarchy.now).roles)
+    rw (ap (λ h. h.roles) c.in_ok-add_role-2.ensures.added, ap (λ h. h.roles) c.in_ok-add_role.ensures.added) (added_before c.args.ascendant.now c.args.descendant.now (g.O.RoleOrder.content c.args.hierarchy.now).roles)
 
 pub declare-requires-clause-descendant : goal.declare-requires-clause-descendant
-declare-requires-clause-descendant g c = rw (ap (λ h. h.roles) c.in_ok-add_role-2.ensures.ok) (added_itself c.args.descendant.now (g.O.RoleOrder.content c.add_role.new.self).roles)
+declare-requires-clause-descendant g c = rw (ap (λ h. h.roles) c.in_ok-add_role-2.ensures.added) (added_itself c.args.descendant.now (g.O.RoleOrder.content c.add_role.new.self).roles)

@@ -9,11 +9,11 @@ made (Err f) e p = let no : ⊥ = cc in absurd no
 
 pub declare-requires-clause-ascendant : goal.declare-requires-clause-ascendant
 declare-requires-clause-ascendant g c =
-    let first = made c.add_role-in-loop-junior.result c.expect-in-loop-junior.ensures c.add_role-in-loop-junior.ensures.ok in
-    let second = made c.add_role-in-loop-junior-2.result c.expect-in-loop-junior-2.ensures c.add_role-in-loop-junior-2.ensures.ok in
+    let first = made c.add_role-in-loop-junior.result c.expect-in-loop-junior.ensures c.add_role-in-loop-junior.ensures.added in
+    let second = made c.add_role-in-loop-junior-2.result c.expect-in-loop-junior-2.ensures c.add_role-in-loop-junior-2.ensures.added in
     rw (ap (λ h. h.roles) second, ap (λ h. h.roles) first) (added_before c.name-boss.result c.name-junior.result c.loop-junior.hierarchy.content.roles)
 
 pub declare-requires-clause-descendant : goal.declare-requires-clause-descendant
 declare-requires-clause-descendant g c =
-    let second = made c.add_role-in-loop-junior-2.result c.expect-in-loop-junior-2.ensures c.add_role-in-loop-junior-2.ensures.ok in
+    let second = made c.add_role-in-loop-junior-2.result c.expect-in-loop-junior-2.ensures c.add_role-in-loop-junior-2.ensures.added in
     rw (ap (λ h. h.roles) second) (added_itself c.name-junior.result c.add_role-in-loop-junior.new.self.content.roles)

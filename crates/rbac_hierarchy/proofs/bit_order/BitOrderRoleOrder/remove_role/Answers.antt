@@ -11,8 +11,8 @@ use Rattle.rbac_hierarchy.proofs.PairLemmas.{all_without_absent, fewer, roles_wi
 use Rattle.rbac_hierarchy.proofs.RangeLemmas.{ranges_without}
 use Rattle.rbac_hierarchy.proofs.bit_order.BitOrderRoleOrder.remove_role.Goals as goal
 
-pub returns-in_default-clause-ok : goal.returns-in_default-clause-ok
-returns-in_default-clause-ok c =
+pub returns-in_default-clause-removed : goal.returns-in_default-clause-removed
+returns-in_default-clause-removed c =
     let inside = c.self.inside in
     let roles = roles_of inside.numbers.keys in
     let absent = has_role inside.numbers.keys c.args.role.now ∙ c.in_default.ensures.absent in
@@ -42,5 +42,5 @@ both c =
 pub invariant_of-self : goal.invariant_of-self
 invariant_of-self c = (both c).0
 
-pub returns-clause-ok : goal.returns-clause-ok
-returns-clause-ok c = rw (← ap (λ h. h.content) c.self.view_is) (λ i. record { roles = (both c).1 i; declared = c.retain.ensures.content i })
+pub returns-clause-removed : goal.returns-clause-removed
+returns-clause-removed c = rw (← ap (λ h. h.content) c.self.view_is) (λ i. record { roles = (both c).1 i; declared = c.retain.ensures.content i })

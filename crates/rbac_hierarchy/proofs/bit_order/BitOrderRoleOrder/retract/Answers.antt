@@ -7,8 +7,8 @@ use Rattle.rbac_hierarchy.proofs.NumberLemmas.{has_role}
 use Rattle.rbac_hierarchy.proofs.PairLemmas.{all_but_one_absent, fewer, still_but_one}
 use Rattle.rbac_hierarchy.proofs.bit_order.BitOrderRoleOrder.retract.Goals as goal
 
-pub returns-in_default-clause-ok : goal.returns-in_default-clause-ok
-returns-in_default-clause-ok c =
+pub returns-in_default-clause-retracted : goal.returns-in_default-clause-retracted
+returns-in_default-clause-retracted c =
     let inside = c.self.inside in
     let absent = has_role inside.numbers.keys c.args.ascendant.now ∙ c.in_default.ensures.absent in
     let same = all_but_one_absent (roles_of inside.numbers.keys) inside.declared.content c.self.invariant.ranges c.args.ascendant.now c.args.descendant.now absent in

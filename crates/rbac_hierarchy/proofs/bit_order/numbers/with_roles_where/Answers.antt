@@ -16,7 +16,7 @@ loop-number-preserved g c =
     let tested : g.T.NumberedTest.passes c.args.test.now at (role_at roles at) ≡ c.test.result = ap (g.T.NumberedTest.passes c.args.test.now at) (sym item) ∙ sym c.test.ensures in
     elim c.if-test.branch [
       | then-test+in_ok-add_copy w ↦ λ p same r.
-          ap (has name_cmp r) (w.more-is ∙ rw item at w.in_ok-add_copy.ensures.ok)
+          ap (has name_cmp r) (w.more-is ∙ rw item at w.in_ok-add_copy.ensures.added)
           ∙ gather_passed c.args.names roles p at lt (sym (same at lt) ∙ tested ∙ w.if-test.true) c.loop-number.more r (c.loop-number.invariant p same r)
       | else-test w ↦ λ p same r.
           ap (has name_cmp r) w.more-is

@@ -8,14 +8,14 @@ replace_pairs-requires c = rw (← ap (λ h. h.content) c.self.view_is, c.retain
 
 pub invariant_of-self : goal.invariant_of-self
 invariant_of-self c =
-    let replaced = ap (λ h. h.content) c.self-2.view_is ∙ c.in_ok-replace_pairs.ensures.ok in
+    let replaced = ap (λ h. h.content) c.self-2.view_is ∙ c.in_ok-replace_pairs.ensures.replaced in
     let same_roles = ap (λ h. h.roles) replaced ∙ sym (ap (λ h. h.content.roles) c.self.view_is) in
     let pairs = ap (λ h. h.declared) replaced ∙ rw c.in_ok-declared.ensures at c.retain.ensures.content in
     (role_taken c.args.role.now _ _ _ _ _ c.self.invariant c.self-2.invariant same_roles pairs c.remove.ensures.content).0
 
-pub returns-clause-ok : goal.returns-clause-ok
-returns-clause-ok c =
-    let replaced = ap (λ h. h.content) c.self-2.view_is ∙ c.in_ok-replace_pairs.ensures.ok in
+pub returns-clause-removed : goal.returns-clause-removed
+returns-clause-removed c =
+    let replaced = ap (λ h. h.content) c.self-2.view_is ∙ c.in_ok-replace_pairs.ensures.replaced in
     let same_roles = ap (λ h. h.roles) replaced ∙ sym (ap (λ h. h.content.roles) c.self.view_is) in
     let pairs = ap (λ h. h.declared) replaced ∙ rw c.in_ok-declared.ensures at c.retain.ensures.content in
     let roles = (role_taken c.args.role.now _ _ _ _ _ c.self.invariant c.self-2.invariant same_roles pairs c.remove.ensures.content).1 in

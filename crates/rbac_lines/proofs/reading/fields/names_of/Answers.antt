@@ -22,7 +22,7 @@ loop-value-preserved c =
     let next = names_from_next c.loop-value.names c.args.array.now c.loop-value.value-index c.value-item.result c.text_of.result.now (Ok c.in_ok-name.name) c.loop-value-test.true c.value-item.is c.text_of.ensures in
     c.loop-value.invariant
     ∙ next c.in_ok-name.ensures
-    ∙ ap (λ set. names_from set (map text_of (drop (c.loop-value.value-index + 1) c.args.array.now))) (sym c.in_ok-add.ensures.ok)
+    ∙ ap (λ set. names_from set (map text_of (drop (c.loop-value.value-index + 1) c.args.array.now))) (sym c.in_ok-add.ensures.added)
 
 pub returns : goal.returns
 returns c = c.loop-value.invariant ∙ names_from_end c.loop-value.names c.args.array.now c.loop-value.value-index c.loop-value-test.false

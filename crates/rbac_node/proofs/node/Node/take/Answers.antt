@@ -1,7 +1,7 @@
 use Rattle.std.proofs.Common.{◌≡◌, ◌-◌, List, set, IfOk, refl, sym, ap, subst, ◌∙◌}
 use Rattle.std.proofs.lemmas.Result.{IfOk-weaker, IfErr-weaker}
 use Rattle.rbac_words.specs.declared.message.Message.{Message}
-use Rattle.rbac_node.specs.Node.{NodeState, Takes, TakesNext, seen_of, with_member}
+use Rattle.rbac_node.specs.Node.{NodeState, Takes, TakesNext, seen_of, with_own_member}
 use Rattle.rbac_node.specs.Refused.{IsRefusedOf}
 use Rattle.rbac_node.proofs.MarkLemmas.{IsMarkOf, seen_by, put_back}
 use Rattle.rbac_node.proofs.KeptLemmas.{Keeps, state, state_with, mark_of, kept_received}
@@ -29,7 +29,7 @@ invariant_of-self g c =
 
 -- only the member is another one then
 same : (g : Over) (c : goal.After-self-1 g)
-    → state_with g.G.GroupName c.self.inside c.receive_known.new.member (set c.self.inside.reads.items (c.args.from - 1) c.receive_known.new.mark) ≡ with_member (state g.G.GroupName c.self.inside) c.receive_known.new.member
+    → state_with g.G.GroupName c.self.inside c.receive_known.new.member (set c.self.inside.reads.items (c.args.from - 1) c.receive_known.new.mark) ≡ with_own_member (state g.G.GroupName c.self.inside) c.receive_known.new.member
 same g c = ap (state_with g.G.GroupName c.self.inside c.receive_known.new.member) (same_marks g c)
 
 pub returns-clause-taken : goal.returns-clause-taken
@@ -53,4 +53,4 @@ returns-clause-first_refusal g c =
 
 pub returns-clause-unchanged : goal.returns-clause-unchanged
 returns-clause-unchanged g c =
-    IfErr-weaker c.receive_known.result _ _ (λ refusal unchanged. same g c ∙ ap (with_member (state g.G.GroupName c.self.inside)) unchanged ∙ c.self.view_is) c.receive_known.ensures.unchanged
+    IfErr-weaker c.receive_known.result _ _ (λ refusal unchanged. same g c ∙ ap (with_own_member (state g.G.GroupName c.self.inside)) unchanged ∙ c.self.view_is) c.receive_known.ensures.unchanged

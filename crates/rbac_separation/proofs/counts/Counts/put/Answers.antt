@@ -11,8 +11,8 @@ on_ok : {A E : Type 0} {P Q : Type 0} (r : Result A E) → (P → Q) → OnOk r 
 on_ok (Ok a) f h = f h
 on_ok (Err e) f h = tt
 
-pub returns-then-number-eq0-clause-ok : goal.returns-then-number-eq0-clause-ok
-returns-then-number-eq0-clause-ok c =
+pub returns-then-number-eq0-clause-put : goal.returns-then-number-eq0-clause-put
+returns-then-number-eq0-clause-put c =
     let set = c.args.set.now in
     let user = c.args.user.now in
     ap numbers c.remove.ensures.content
@@ -20,8 +20,8 @@ returns-then-number-eq0-clause-ok c =
     ∙ ap (λ (seen : Counts). with_number set user 0 (numbers_of seen)) c.self.view_is
     ∙ ap (λ n. with_number set user n (numbers_of c.args.self.now)) (sym c.if-number-eq0.true)
 
-pub returns-then-not-contains-clause-ok : goal.returns-then-not-contains-clause-ok
-returns-then-not-contains-clause-ok c =
+pub returns-then-not-contains-clause-put : goal.returns-then-not-contains-clause-put
+returns-then-not-contains-clause-put c =
     let set = c.args.set.now in
     let user = c.args.user.now in
     on_ok c.insert.result
@@ -30,13 +30,13 @@ returns-then-not-contains-clause-ok c =
     ∙ (λ i. numbers (put pair_cmp (c.in_ok-copy.ensures i, c.in_ok-copy-2.ensures i) (c.new-number.ensures i) c.self.inside.numbers.content))
     ∙ put_numbers set user c.args.number c.self.inside.numbers.content
     ∙ ap (λ (seen : Counts). with_number set user c.args.number (numbers_of seen)) c.self.view_is)
-    c.insert.ensures.ok
+    c.insert.ensures.put
 
-pub returns-clause-ok : goal.returns-clause-ok
-returns-clause-ok c =
+pub returns-clause-put : goal.returns-clause-put
+returns-clause-put c =
     let set = c.args.set.now in
     let user = c.args.user.now in
-    ap numbers c.in-Ok.ensures.ok
+    ap numbers c.in-Ok.ensures.updated
     ∙ (λ i. numbers (updated pair_cmp (set, user) (λ _. c.new-number.ensures i) c.self.inside.numbers.content))
     ∙ updated_numbers set user c.args.number c.self.inside.numbers.content (sym c.contains.ensures ∙ c.if-not-contains.false)
     ∙ ap (λ (seen : Counts). with_number set user c.args.number (numbers_of seen)) c.self.view_is
