@@ -1,4 +1,5 @@
-//! Each public call of `rbac_terms` with ample memory. What is expected was written by hand.
+//! Each public call of `rbac_terms` with ample memory, but for copies of commands and reviews, which stand beside those of records
+//! and messages (`group_tests`). What is expected was written by hand.
 ghost use Rattle.std.specs.Prelude.{◌≡◌};
 ghost use Rattle.std.specs.Ordering.{eq_by_cmp};
 ghost use Rattle.rbac_terms.specs.Name.{name_cmp};

@@ -1,5 +1,6 @@
-//! Each public call of `rbac_words` with ample memory: groups, stamps, and copies of commands, reviews, records and messages. Copies end in `drop`, since
-//! the proof of a value that goes out of scope writes its drop out in place, a case for each variant.
+//! Each public call of `rbac_words` with ample memory: groups, stamps, and copies of records and messages, and of the commands and
+//! reviews of `rbac_terms`. Copies end in `drop`, since the proof of a value that goes out of scope writes its drop out in place, a
+//! case for each variant.
 
 use rbac_words::{
     Answer, Command, Denial, Group, GroupRefusal, Message, Name, Record, Review, Stamp,

@@ -309,15 +309,13 @@ fn run<O: RoleOrder>(rt: &impl Abort, alloc: Global, hierarchy: &mut O, change: 
 }
 
 fn adding(rt: &impl Abort, alloc: Global, role: &str) -> Change {
-    Change::AddRole {
-        role: name(rt, alloc, role),
-    }
+    let role = name(rt, alloc, role);
+    Change::AddRole { role }
 }
 
 fn removing(rt: &impl Abort, alloc: Global, role: &str) -> Change {
-    Change::RemoveRole {
-        role: name(rt, alloc, role),
-    }
+    let role = name(rt, alloc, role);
+    Change::RemoveRole { role }
 }
 
 fn declaring(rt: &impl Abort, alloc: Global, ascendant: &str, descendant: &str) -> Change {
