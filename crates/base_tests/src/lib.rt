@@ -2,14 +2,4 @@
 #![tactic(auto)]
 
 #[cfg(test)]
-mod board;
-#[cfg(test)]
-mod keys;
-#[cfg(test)]
-mod plans;
-#[cfg(test)]
-mod relations;
-#[cfg(test)]
-mod runs;
-#[cfg(test)]
-mod words;
+mod tests;

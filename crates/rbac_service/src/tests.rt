@@ -58,15 +58,24 @@ fn roles_of_ann(rt: &impl Abort, alloc: Global) -> Command {
     Command::Review(Review::AssignedRoles { user })
 }
 
-fn group_of(rt: &impl Abort, members: u32) -> Group
-    ensures { result.members ≡ members }
-{
-    Group::build(members, 0, 16).expect(rt, "a group")
+// What a group is founded with, and its rows.
+#[derive(Drop)]
+pub(crate) struct Founding {
+    pub(crate) group: Group,
+    pub(crate) words: Vocabulary,
+    pub(crate) rows: Rows,
 }
 
-fn words_of(rt: &impl Abort, alloc: Global) -> Vocabulary {
+// The founding of so many members with no words, who may send so much.
+pub(crate) fn founding_of(rt: &impl Abort, alloc: Global, members: u32, sent_limit: u32) -> Founding
+    ensures members { result.group.members ≡ members }
+    ensures rows { length result.rows.sent ≡ members }
+{
+    let group = Group::build(members, 0, sent_limit).expect(rt, "a group");
+    let rows = Rows::found(alloc, group).expect(rt, "memory");
     let words = Vocabulary::build(Vec::new(alloc), Vec::new(alloc), Vec::new(alloc));
-    words.expect(rt, "a vocabulary")
+    let words = words.expect(rt, "a vocabulary");
+    Founding { group, words, rows }
 }
 
 // The command that asks whether a session that is not there may read the ledger.
@@ -78,23 +87,16 @@ fn check(rt: &impl Abort, alloc: Global) -> Command {
     }
 }
 
-fn rows_of(rt: &impl Abort, alloc: Global, group: Group) -> Rows
-    ensures { length result.sent ≡ group.members }
-{
-    Rows::found(alloc, group).expect(rt, "memory")
-}
-
 // The service of the founding that G names.
 fn founded<G: GroupName>(
     rt: &impl Abort,
     alloc: Global,
-    rows: Rows,
-    group: Group,
-    words: Vocabulary,
+    founding: Founding,
 ) -> Service<G, NoGate, Lost>
-    requires names { (group ≡ G.group) × (words ≡ G.vocabulary) × (rows ≡ G.cells) }
-    requires members { length rows.sent ≡ group.members }
+    requires names { (founding.group ≡ G.group) × (founding.words ≡ G.vocabulary) × (founding.rows ≡ G.cells) }
+    requires members { length founding.rows.sent ≡ founding.group.members }
 {
+    let Founding { group, words, rows } = founding;
     let service = Service::found(alloc, rows, group, words, NoGate, Lost::new());
     service.expect(rt, "memory")
 }
@@ -146,8 +148,8 @@ fn submitted<G: GroupName, R: Wait + Abort>(
 fn expect_refusal<G: GroupName, R: Wait + Abort>(
     rt: &R,
     alloc: Global,
-    service: &Service<G, NoGate, Lost>,
     pass: &mut Pass<G>,
+    service: &Service<G, NoGate, Lost>,
     wanted: ServiceRefusal,
 )
     ensures { pass.new ≡ pass.old }
@@ -219,13 +221,13 @@ fn expect_answer<G: GroupName, R: Wait + Abort>(
     rt: &R,
     alloc: Global,
     service: &Service<G, NoGate, Lost>,
-    pass: &mut Pass<G>,
     command: Command,
+    pass: &mut Pass<G>,
     place: u32,
     answer: Answer,
 ) {
     let ticket = submitted(rt, alloc, service, pass, command);
-    expect_refusal(rt, alloc, service, pass, ServiceRefusal::Busy);
+    expect_refusal(rt, alloc, pass, service, ServiceRefusal::Busy);
     turn_all(rt, alloc, service);
     expect_receipt(rt, service, pass, ticket, place, answer);
 }
@@ -291,36 +293,30 @@ fn talk<G: GroupName, R: Wait + Abort>(
     one: &mut Pass<G>,
     other: &mut Pass<G>,
 ) {
-    expect_answer(rt, alloc, service, one, add_ann(rt, alloc), 0, Answer::Done);
+    expect_answer(rt, alloc, service, add_ann(rt, alloc), one, 0, Answer::Done);
     let none = Answer::Names(NameSet::new(alloc));
     let asked = roles_of_ann(rt, alloc);
-    expect_answer(rt, alloc, service, other, asked, 1, none);
+    expect_answer(rt, alloc, service, asked, other, 1, none);
     expect_fronts(rt, one, other, (1, 2));
     expect_meeting(rt, service, one, other, Ok(()));
     expect_fronts(rt, one, other, (2, 2));
     let denied = Answer::Denied(Denial::NoSession);
-    expect_answer(rt, alloc, service, one, check(rt, alloc), 2, denied);
+    expect_answer(rt, alloc, service, check(rt, alloc), one, 2, denied);
     expect_published(rt, service, 1, 3);
 }
 
 // A member that is alone in its group, and two callers.
-fn run_alone<G: GroupName, R: Wait + Abort>(
-    rt: &R,
-    alloc: Global,
-    rows: Rows,
-    group: Group,
-    words: Vocabulary,
-)
-    requires names { (group ≡ G.group) × (words ≡ G.vocabulary) × (rows ≡ G.cells) }
-    requires members { length rows.sent ≡ group.members }
+fn run_alone<G: GroupName, R: Wait + Abort>(rt: &R, alloc: Global, founding: Founding)
+    requires names { (founding.group ≡ G.group) × (founding.words ≡ G.vocabulary) × (founding.rows ≡ G.cells) }
+    requires members { length founding.rows.sent ≡ founding.group.members }
 {
-    let service: Service<G, NoGate, Lost> = founded(rt, alloc, rows, group, words);
+    let service: Service<G, NoGate, Lost> = founded(rt, alloc, founding);
     let mut one = new_pass(rt, &service, 1);
     let mut other = new_pass(rt, &service, 1);
     expect_no_pass(rt, &service, 2, EnrollRefusal::UnknownMember);
     talk(rt, alloc, &service, &mut one, &mut other);
     expect_stop(rt, &service, 1);
-    expect_refusal(rt, alloc, &service, &mut one, ServiceRefusal::Stopped);
+    expect_refusal(rt, alloc, &mut one, &service, ServiceRefusal::Stopped);
     expect_no_pass(rt, &service, 1, EnrollRefusal::Stopped);
     let mut nodes = service.take_nodes();
     expect_audit(rt, alloc, &mut nodes, &[3]);
@@ -333,50 +329,40 @@ fn run_alone<G: GroupName, R: Wait + Abort>(
 
 #[test]
 fn two_callers_take_turns(rt: HostRuntime) {
-    let alloc = rt.alloc();
-    let group = group_of(&rt, 1);
-    let rows = rows_of(&rt, alloc, group);
-    run_alone::<Brand, _>(&rt, alloc, rows, group, words_of(&rt, alloc));
+    let founding = founding_of(&rt, rt.alloc(), 1, 16);
+    run_alone::<Brand, _>(&rt, rt.alloc(), founding);
 }
 
 // Callers of two members do not meet. What one submitted is answered once the other member has acknowledged it, and what is
 // not answered before the stop is not answered after it.
-fn run_two<G: GroupName, R: Wait + Abort>(
-    rt: &R,
-    alloc: Global,
-    rows: Rows,
-    group: Group,
-    words: Vocabulary,
-)
-    requires names { (group ≡ G.group) × (words ≡ G.vocabulary) × (rows ≡ G.cells) }
-    requires members { length rows.sent ≡ group.members }
+fn run_two<G: GroupName, R: Wait + Abort>(rt: &R, alloc: Global, founding: Founding)
+    requires names { (founding.group ≡ G.group) × (founding.words ≡ G.vocabulary) × (founding.rows ≡ G.cells) }
+    requires members { length founding.rows.sent ≡ founding.group.members }
 {
-    let service: Service<G, NoGate, Lost> = founded(rt, alloc, rows, group, words);
+    let service: Service<G, NoGate, Lost> = founded(rt, alloc, founding);
+    let apart = Err(MeetRefusal::OtherMember);
     let mut one = new_pass(rt, &service, 1);
     let mut other = new_pass(rt, &service, 2);
-    let apart = Err(MeetRefusal::OtherMember);
     expect_meeting(rt, &service, &mut one, &mut other, apart);
     let added = add_ann(rt, alloc);
-    expect_answer(rt, alloc, &service, &mut one, added, 0, Answer::Done);
+    expect_answer(rt, alloc, &service, added, &mut one, 0, Answer::Done);
     let ticket = submitted(rt, alloc, &service, &mut other, roles_of_ann(rt, alloc));
     expect_stop(rt, &service, 2);
     expect_stopped(rt, &service, &mut other, ticket);
     expect_fronts(rt, &one, &other, (1, 0));
+    drop(one);
+    drop(other);
     let mut nodes = service.take_nodes();
     expect_audit(rt, alloc, &mut nodes, &[1, 1]);
     nodes.reverse();
     assert!(rt; is_no_group(alloc, &mut nodes));
     drop(nodes);
-    drop(one);
-    drop(other);
 }
 
 #[test]
 fn two_members_answer_and_stop(rt: HostRuntime) {
-    let alloc = rt.alloc();
-    let group = group_of(&rt, 2);
-    let rows = rows_of(&rt, alloc, group);
-    run_two::<Brand, _>(&rt, alloc, rows, group, words_of(&rt, alloc));
+    let founding = founding_of(&rt, rt.alloc(), 2, 16);
+    run_two::<Brand, _>(&rt, rt.alloc(), founding);
 }
 
 // A record that no member made.
@@ -404,32 +390,24 @@ fn spoil(rt: &impl Abort, alloc: Global, rows: &Rows)
 }
 
 // A member that can't publish what it delivers gives up, and the service is stopped.
-fn run_spoiled<G: GroupName, R: Wait + Abort>(
-    rt: &R,
-    alloc: Global,
-    rows: Rows,
-    group: Group,
-    words: Vocabulary,
-)
-    requires names { (group ≡ G.group) × (words ≡ G.vocabulary) × (rows ≡ G.cells) }
-    requires members { length rows.sent ≡ group.members }
+fn run_spoiled<G: GroupName, R: Wait + Abort>(rt: &R, alloc: Global, founding: Founding)
+    requires names { (founding.group ≡ G.group) × (founding.words ≡ G.vocabulary) × (founding.rows ≡ G.cells) }
+    requires members { length founding.rows.sent ≡ founding.group.members }
 {
-    let service: Service<G, NoGate, Lost> = founded(rt, alloc, rows, group, words);
+    let service: Service<G, NoGate, Lost> = founded(rt, alloc, founding);
     assert_eq!(rt; service.pump(rt, alloc, 2), PumpEnd::UnknownMember);
     let mut pass = new_pass(rt, &service, 1);
     let ticket = submitted(rt, alloc, &service, &mut pass, add_ann(rt, alloc));
     expect_end(rt, alloc, &service, 1);
     expect_stopped(rt, &service, &mut pass, ticket);
-    expect_refusal(rt, alloc, &service, &mut pass, ServiceRefusal::Stopped);
+    expect_refusal(rt, alloc, &mut pass, &service, ServiceRefusal::Stopped);
     drop(service);
     drop(pass);
 }
 
 #[test]
 fn a_member_whose_cell_is_taken_gives_up(rt: HostRuntime) {
-    let alloc = rt.alloc();
-    let group = group_of(&rt, 1);
-    let rows = rows_of(&rt, alloc, group);
-    spoil(&rt, alloc, &rows);
-    run_spoiled::<Brand, _>(&rt, alloc, rows, group, words_of(&rt, alloc));
+    let founding = founding_of(&rt, rt.alloc(), 1, 16);
+    spoil(&rt, rt.alloc(), &founding.rows);
+    run_spoiled::<Brand, _>(&rt, rt.alloc(), founding);
 }

@@ -1,12 +1,13 @@
 //! A service whose members run in threads, beside callers in threads of their own.
 ghost use Rattle.std.specs.Prelude.{◌≡◌, length};
 
+use crate::tests::{Founding, founding_of};
 use crate::{
-    ChannelCourier, Courier, Gate, GroupName, Hint, Moment, NoGate, Pass, PumpEnd, Rows, Service,
-    Wake, audit,
+    ChannelCourier, Courier, Gate, GroupName, Hint, Moment, NoGate, Pass, PumpEnd, Service, Wake,
+    audit,
 };
 use crossbeam_channel::{Receiver, Sender, unbounded};
-use rbac_words::{Command, Group, Name, Stamp, Vocabulary};
+use rbac_words::{Command, Name, Stamp};
 use std::alloc::Global;
 use std::marker::Brand;
 use std::process::Abort;
@@ -15,21 +16,6 @@ use std::sync::atomic::{AtomicBool, AtomicU64, Ordering};
 use std::thread;
 use std::thread::Threads;
 use std::time::{Clock, Duration};
-
-fn two_members(rt: &impl Abort) -> Group {
-    Group::build(2, 0, 1024).expect(rt, "a group")
-}
-
-fn words_of(rt: &impl Abort, alloc: Global) -> Vocabulary {
-    let words = Vocabulary::build(Vec::new(alloc), Vec::new(alloc), Vec::new(alloc));
-    words.expect(rt, "a vocabulary")
-}
-
-fn rows_of(rt: &impl Abort, alloc: Global, group: Group) -> Rows
-    ensures { length result.sent ≡ group.members }
-{
-    Rows::found(alloc, group).expect(rt, "memory")
-}
 
 // The command that adds a role.
 fn add_clerk(rt: &impl Abort, alloc: Global) -> Command {
@@ -101,26 +87,50 @@ fn expect_audit<G: GroupName, K: Gate + Drop, C: Courier + Drop>(
     assert_eq!(rt; audited.delivered.first().copied(), Some(wanted));
 }
 
-fn run_with_channels<
+// The service of the founding that G names, with these commands done.
+fn served<
     G: GroupName + Send + Sync,
-    R: Threads + Wait + Clock + Abort + Copy + Send + Sync,
->(rt: &R, alloc: Global, rows: Rows, group: Group, words: Vocabulary)
-    requires names { (group ≡ G.group) × (words ≡ G.vocabulary) × (rows ≡ G.cells) }
-    requires members { length rows.sent ≡ group.members }
+    K: Gate + Drop + Send + Sync,
+    C: Courier + Drop + Send + Sync,
+    R: Threads + Wait + Abort + Send + Sync,
+>(rt: &R, alloc: Global, founding: Founding, gate: K, courier: C, count: u32) -> Service<G, K, C>
+    requires names { (founding.group ≡ G.group) × (founding.words ≡ G.vocabulary) × (founding.rows ≡ G.cells) }
+    requires members { length founding.rows.sent ≡ founding.group.members }
 {
-    let courier = ChannelCourier::found(*rt, alloc, 2).expect(rt, "memory");
-    let found = Service::found(alloc, rows, group, words, NoGate, courier);
-    let service: Service<G, NoGate, ChannelCourier<R>> = found.expect(rt, "memory");
-    assert!(rt; run_threads(rt, alloc, &service, 100));
-    expect_audit(rt, alloc, service, 200);
+    let Founding { group, words, rows } = founding;
+    let found = Service::found(alloc, rows, group, words, gate, courier);
+    let service: Service<G, K, C> = found.expect(rt, "memory");
+    assert!(rt; run_threads(rt, alloc, &service, count));
+    service
+}
+
+// So many commands of each of two callers, and all of them are delivered.
+fn run_with<
+    G: GroupName + Send + Sync,
+    C: Courier + Drop + Send + Sync,
+    R: Threads + Wait + Abort + Send + Sync,
+>(rt: &R, alloc: Global, founding: Founding, courier: C, count: u32, delivered: usize)
+    requires names { (founding.group ≡ G.group) × (founding.words ≡ G.vocabulary) × (founding.rows ≡ G.cells) }
+    requires members { length founding.rows.sent ≡ founding.group.members }
+{
+    let service: Service<G, NoGate, C> = served(rt, alloc, founding, NoGate, courier, count);
+    expect_audit(rt, alloc, service, delivered);
+}
+
+// Two members.
+fn small_founding(rt: &impl Abort, alloc: Global) -> Founding
+    ensures members { result.group.members ≡ 2 }
+    ensures rows { length result.rows.sent ≡ 2 }
+{
+    founding_of(rt, alloc, 2, 1024)
 }
 
 #[test]
 fn two_callers_are_answered(rt: HostRuntime) {
     let alloc = rt.alloc();
-    let group = two_members(&rt);
-    let rows = rows_of(&rt, alloc, group);
-    run_with_channels::<Brand, _>(&rt, alloc, rows, group, words_of(&rt, alloc));
+    let courier = ChannelCourier::found(rt, alloc, 2).expect(&rt, "memory");
+    let founding = small_founding(&rt, alloc);
+    run_with::<Brand, _, _>(&rt, alloc, founding, courier, 100, 200);
 }
 
 // Holds the call of the first command until another one is answered, for some seconds at most.
@@ -167,9 +177,9 @@ impl<R: Clock + Copy + Drop> Gate for HoldsFirst<R> {
 fn run_with_gate<
     G: GroupName + Send + Sync,
     R: Threads + Wait + Clock + Abort + Copy + Drop + Send + Sync,
->(rt: &R, alloc: Global, rows: Rows, group: Group, words: Vocabulary)
-    requires names { (group ≡ G.group) × (words ≡ G.vocabulary) × (rows ≡ G.cells) }
-    requires members { length rows.sent ≡ group.members }
+>(rt: &R, alloc: Global, founding: Founding)
+    requires names { (founding.group ≡ G.group) × (founding.words ≡ G.vocabulary) × (founding.rows ≡ G.cells) }
+    requires members { length founding.rows.sent ≡ founding.group.members }
 {
     let gate = HoldsFirst {
         rt: *rt,
@@ -177,19 +187,17 @@ fn run_with_gate<
         gave_up: AtomicBool::new(false),
     };
     let courier = ChannelCourier::found(*rt, alloc, 2).expect(rt, "memory");
-    let found = Service::found(alloc, rows, group, words, gate, courier);
-    let service: Service<G, HoldsFirst<R>, ChannelCourier<R>> = found.expect(rt, "memory");
-    assert!(rt; run_threads(rt, alloc, &service, 1));
+    let service: Service<G, HoldsFirst<R>, ChannelCourier<R>> = served(
+        rt, alloc, founding, gate, courier, 1,
+    );
     assert!(rt; service.gate.has_held());
     expect_audit(rt, alloc, service, 2);
 }
 
 #[test]
 fn a_call_is_held_while_another_is_answered(rt: HostRuntime) {
-    let alloc = rt.alloc();
-    let group = two_members(&rt);
-    let rows = rows_of(&rt, alloc, group);
-    run_with_gate::<Brand, _>(&rt, alloc, rows, group, words_of(&rt, alloc));
+    let founding = small_founding(&rt, rt.alloc());
+    run_with_gate::<Brand, _>(&rt, rt.alloc(), founding);
 }
 
 // Loses every second hint, and gives every third one of the others twice.
@@ -216,29 +224,15 @@ impl<R: Wait + Clock + Drop> Courier for Unreliable<R> {
     }
 }
 
-fn run_with_losses<
-    G: GroupName + Send + Sync,
-    R: Threads + Wait + Clock + Abort + Copy + Send + Sync,
->(rt: &R, alloc: Global, rows: Rows, group: Group, words: Vocabulary)
-    requires names { (group ≡ G.group) × (words ≡ G.vocabulary) × (rows ≡ G.cells) }
-    requires members { length rows.sent ≡ group.members }
-{
-    let courier = Unreliable {
-        courier: ChannelCourier::found(*rt, alloc, 2).expect(rt, "memory"),
-        hints: AtomicU64::new(0),
-    };
-    let found = Service::found(alloc, rows, group, words, NoGate, courier);
-    let service: Service<G, NoGate, Unreliable<R>> = found.expect(rt, "memory");
-    assert!(rt; run_threads(rt, alloc, &service, 6));
-    expect_audit(rt, alloc, service, 12);
-}
-
 #[test]
 fn lost_and_repeated_hints_lose_no_answer(rt: HostRuntime) {
     let alloc = rt.alloc();
-    let group = two_members(&rt);
-    let rows = rows_of(&rt, alloc, group);
-    run_with_losses::<Brand, _>(&rt, alloc, rows, group, words_of(&rt, alloc));
+    let courier = Unreliable {
+        courier: ChannelCourier::found(rt, alloc, 2).expect(&rt, "memory"),
+        hints: AtomicU64::new(0),
+    };
+    let founding = small_founding(&rt, alloc);
+    run_with::<Brand, _, _>(&rt, alloc, founding, courier, 6, 12);
 }
 
 // Two channels. It waits for a hint, and never sweeps.
@@ -272,29 +266,14 @@ impl<R: Wait + Drop> Courier for Patient<R> {
     }
 }
 
-fn run_with_patience<
-    G: GroupName + Send + Sync,
-    R: Threads + Wait + Abort + Copy + Drop + Send + Sync,
->(rt: &R, alloc: Global, rows: Rows, group: Group, words: Vocabulary)
-    requires names { (group ≡ G.group) × (words ≡ G.vocabulary) × (rows ≡ G.cells) }
-    requires members { length rows.sent ≡ group.members }
-{
-    let courier = Patient {
-        rt: *rt,
-        first: unbounded(alloc).expect(rt, "memory"),
-        second: unbounded(alloc).expect(rt, "memory"),
-    };
-    let found = Service::found(alloc, rows, group, words, NoGate, courier);
-    let service: Service<G, NoGate, Patient<R>> = found.expect(rt, "memory");
-    assert!(rt; run_threads(rt, alloc, &service, 6));
-    expect_audit(rt, alloc, service, 12);
-}
-
 // Where no hint is lost, nobody has to sweep: neither for an answer, nor to see the stop.
 #[test]
 fn hints_alone_bring_answers_and_the_stop(rt: HostRuntime) {
     let alloc = rt.alloc();
-    let group = two_members(&rt);
-    let rows = rows_of(&rt, alloc, group);
-    run_with_patience::<Brand, _>(&rt, alloc, rows, group, words_of(&rt, alloc));
+    let courier = Patient {
+        rt,
+        first: unbounded(alloc).expect(&rt, "memory"),
+        second: unbounded(alloc).expect(&rt, "memory"),
+    };
+    run_with::<Brand, _, _>(&rt, alloc, small_founding(&rt, alloc), courier, 6, 12);
 }

@@ -1,5 +1,5 @@
 use Rattle.rbac_service.proofs.thread_tests.hints_alone_bring_answers_and_the_stop.Given as goal
 
 -- the founding that was just made
-abbrev pub ghosts-run_with_patience : goal.ghosts-run_with_patience
-ghosts-run_with_patience g a = record { group = a.group; vocabulary = a.words; cells = a.rows }
+abbrev pub ghosts-run_with : goal.ghosts-run_with
+ghosts-run_with g a = record { group = a.founding.group; vocabulary = a.founding.words; cells = a.founding.rows }

@@ -1,0 +1,8 @@
+//! What each crate below shows its callers.
+
+mod board;
+mod keys;
+mod plans;
+mod relations;
+mod runs;
+mod words;

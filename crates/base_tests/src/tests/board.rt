@@ -1,0 +1,147 @@
+//! Rows of `rbac_board`: what is set, read and refused.
+ghost use Rattle.std.specs.Prelude.{◌≡◌, length};
+ghost use Rattle.rbac_board.specs.Known.{IsOf};
+
+use rbac_board::{Mark, Row, SetRefusal};
+use std::alloc::{AllocError, Global};
+use std::marker::Model;
+use std::process::Abort;
+use std::test::Fail;
+
+// A value that contracts see otherwise than it is kept, as those of the crates above.
+#[derive(Drop)]
+struct Letter {
+    code: u8,
+}
+
+impl Model for Letter {
+    ghost use Rattle.std.specs.Prelude.{◌+◌, ℕ};
+
+    ghost Value = { ℕ };
+
+    ghost view = { λ l. l.code + 1 };
+}
+
+fn letter_of(alloc: Global, code: u8) -> Result<Box<Letter>, AllocError> {
+    Ok(Box::new(alloc, Letter { code })?)
+}
+
+// What the mark reads next.
+fn expect_read(rt: &impl Abort, row: &Row<Letter>, mark: &mut Mark<Letter>, wanted: Option<u8>)
+    requires { IsOf row.now mark.old }
+    ensures { IsOf row.now mark.new }
+{
+    let found = row.read(mark).expect(rt, "memory");
+    assert!(rt; found.map(|letter| letter.code) == wanted);
+}
+
+// A mark that has set the first cell of a row.
+fn set_first(rt: &impl Abort, alloc: Global, row: &Row<Letter>, code: u8) -> Mark<Letter>
+    ensures of { IsOf row.now result }
+    ensures one { length result.values ≡ 1 }
+{
+    let mut mark = row.mark();
+    let letter = letter_of(alloc, code).expect(rt, "memory");
+    let set = row.set(&mut mark, 0, letter);
+    assert!(rt; set.is_ok());
+    mark
+}
+
+// A mark that has read the only letter of a row, and nothing after it.
+fn read_only(rt: &impl Abort, row: &Row<Letter>, code: u8) -> Mark<Letter>
+    ensures { IsOf row.now result }
+{
+    let mut fresh = row.mark();
+    expect_read(rt, row, &mut fresh, Some(code));
+    expect_read(rt, row, &mut fresh, None);
+    fresh
+}
+
+// What is found in a cell.
+fn expect_cell(rt: &impl Abort, row: &Row<Letter>, place: usize, wanted: Option<u8>) {
+    let found = row.get(place).map(|letter| letter.code);
+    assert!(rt; found == wanted);
+}
+
+// The value that came back with the refusal for a cell that was set.
+fn taken(set: Result<(), SetRefusal<Letter>>) -> Option<u8> {
+    match set {
+        Err(SetRefusal::Taken(value)) => Some(value.code),
+        _ => None,
+    }
+}
+
+// The value that came back with the refusal for a place beyond the row.
+fn beyond(set: Result<(), SetRefusal<Letter>>) -> Option<u8> {
+    match set {
+        Err(SetRefusal::RowFull(value)) => Some(value.code),
+        _ => None,
+    }
+}
+
+// A mark that knows one of two values learns the other one.
+fn expect_learned(
+    rt: &impl Abort,
+    row: &Row<Letter>,
+    late: &mut Mark<Letter>,
+    mark: &mut Mark<Letter>,
+)
+    requires late { IsOf row.now late.old }
+    requires mark { IsOf row.now mark.old }
+{
+    if mark.len() == 2 {
+        assert!(rt; late.learn(mark, 2).is_ok());
+        expect_read(rt, row, late, None);
+        assert!(rt; late.len() == 2);
+    }
+}
+
+#[test]
+fn sets_each_cell_once(rt: HostRuntime) -> Result<(), Fail> {
+    let alloc = rt.alloc();
+    let row = Row::found(alloc, 2)?;
+    let mut mark = row.mark();
+    let mut late = row.mark();
+    assert!(rt; row.set(&mut mark, 0, letter_of(alloc, 7)?).is_ok());
+    assert!(rt; taken(row.set(&mut late, 0, letter_of(alloc, 8)?)) == Some(8));
+    assert!(rt; beyond(row.set(&mut late, 2, letter_of(alloc, 9)?)) == Some(9));
+    assert!(rt; mark.len() == 1 && late.len() == 0);
+    expect_cell(&rt, &row, 0, Some(7));
+    expect_cell(&rt, &row, 1, None);
+    expect_cell(&rt, &row, 2, None);
+    Ok(())
+}
+
+#[test]
+fn reads_what_was_set(rt: HostRuntime) -> Result<(), Fail> {
+    let alloc = rt.alloc();
+    let row = Row::found(alloc, 2)?;
+    let mut mark = set_first(&rt, alloc, &row, 7);
+    let mut again = read_only(&rt, &row, 7).again(alloc)?;
+    assert!(rt; again.len() == 1);
+    assert!(rt; row.known(&mut again, 0).code == 7);
+    again.agree(&mut mark);
+    assert!(rt; mark.len() == again.len());
+    Ok(())
+}
+
+#[test]
+fn reads_to_the_end_of_a_row(rt: HostRuntime) -> Result<(), Fail> {
+    let alloc = rt.alloc();
+    let row = Row::found(alloc, 1)?;
+    drop(set_first(&rt, alloc, &row, 3));
+    assert!(rt; read_only(&rt, &row, 3).len() == 1);
+    Ok(())
+}
+
+#[test]
+fn learns_what_another_mark_knows(rt: HostRuntime) -> Result<(), Fail> {
+    let alloc = rt.alloc();
+    let row = Row::found(alloc, 3)?;
+    let mut late = row.mark();
+    let mut mark = set_first(&rt, alloc, &row, 7);
+    assert!(rt; row.set(&mut mark, 1, letter_of(alloc, 8)?).is_ok());
+    expect_read(&rt, &row, &mut late, Some(7));
+    expect_learned(&rt, &row, &mut late, &mut mark);
+    Ok(())
+}

@@ -1,5 +1,0 @@
-use Rattle.group_tests.proofs.nodes.two_nodes_deliver_one_command.Given as goal
-
--- the founding that was just made
-abbrev pub ghosts-talk : goal.ghosts-talk
-ghosts-talk g a = record { group = a.founding.now.group; vocabulary = a.founding.now.vocabulary; cells = a.founding.now.rows }

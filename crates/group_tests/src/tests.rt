@@ -1,0 +1,14 @@
+//! What members, their groups, founding files and lines show their callers.
+
+mod client_lines;
+mod conversations;
+mod founding_files;
+mod hold_back;
+mod links;
+mod members;
+mod nodes;
+mod passes;
+mod schedule_lines;
+mod schedules;
+mod words;
+mod worlds;

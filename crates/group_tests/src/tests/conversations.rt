@@ -1,0 +1,197 @@
+//! Conversations of `rbac_lines` with a desk in memory, which lists whom it was asked for.
+ghost use Rattle.std.specs.Prelude.{◌≡◌, ◌++◌, ◌∷◌, []};
+
+use rbac_lines::{Desk, DeskRefusal, RunFault, Summary, converse, watch};
+use rbac_words::{Answer, Command, Denial};
+use std::alloc::{AllocError, Global};
+use std::io;
+use std::io::{Error, ErrorKind, Read, Write};
+use std::process::Abort;
+
+/// Lists the members that it was asked for, as long as it has room. What it replies is each member's own.
+#[derive(Drop)]
+struct Listing {
+    asked: Vec<u32>,
+}
+
+impl Listing {
+    fn with_room(rt: &impl Abort, alloc: Global, room: usize) -> Listing {
+        Listing {
+            asked: Vec::with_capacity(alloc, room).expect(rt, "memory"),
+        }
+    }
+}
+
+impl Desk for Listing {
+    ghost asks = { λ old at _ _ new. new.asked.items ≡ old.asked.items ++ at ∷ [] };
+
+    fn call(&mut self, _alloc: Global, at: u32, _command: Command) -> Result<Answer, DeskRefusal> {
+        if self.asked.len() >= self.asked.capacity() {
+            return Err(DeskRefusal::NoMemory);
+        }
+        let Ok(()) = self.asked.push(at) else {
+            unreachable!()
+        };
+        match at {
+            1 => Ok(Answer::Done),
+            2 => Ok(Answer::Denied(Denial::NoSession)),
+            3 => Err(DeskRefusal::Stopped),
+            4 => Err(DeskRefusal::Busy),
+            5 => Err(DeskRefusal::ClockFull),
+            6 => Err(DeskRefusal::SentFull),
+            7 => Err(DeskRefusal::NoMemory),
+            _ => Err(DeskRefusal::UnknownMember),
+        }
+    }
+}
+
+/// How a conversation with room for so many questions ends, whom it asks for, and what it writes.
+fn expect_conversation<R: Read + Drop, W: Write>(
+    rt: &impl Abort,
+    alloc: Global,
+    reader: R,
+    writer: &mut W,
+    room: usize,
+    ended: Result<Summary, RunFault>,
+    asked: &[u32],
+) {
+    let mut desk = Listing::with_room(rt, alloc, room);
+    let answered = converse(alloc, &mut watch(reader), &mut watch(writer), &mut desk);
+    assert_eq!(rt; answered, ended);
+    assert_eq!(rt; desk.asked.as_slice(), asked);
+    drop(desk);
+}
+
+const INPUT: &[u8] = br#"{"at":2,"command":{"name":"DeleteSession","user":"ann","session":"s1"}}
+nothing
+{"at":1,"command":{"name":"AddUser","user":"ann"}}
+{"at":1,"command":{"name":"AddUser"}}
+{"at":3,"command":{"name":"AddUser","user":"ann"}}
+{"at":4,"command":{"name":"AddUser","user":"ann"}}
+{"at":5,"command":{"name":"AddUser","user":"ann"}}
+{"at":6,"command":{"name":"AddUser","user":"ann"}}
+{"at":9,"command":{"name":"AddUser","user":"ann"}}
+{"at":1,"command":{"name":"AddUser","user":"ann"}}"#;
+
+const OUTPUT: &[u8] = br#"{"answer":{"denied":"NoSession","number":10},"line":1}
+{"line":2,"refused":"NotJson"}
+{"answer":"Done","line":3}
+{"line":4,"refused":"MissingField"}
+{"line":5,"refused":"Stopped"}
+{"line":6,"refused":"Busy"}
+{"line":7,"refused":"ClockFull"}
+{"line":8,"refused":"SentFull"}
+{"line":9,"refused":"UnknownMember"}
+{"answer":"Done","line":10}
+"#;
+
+#[test]
+fn answers_each_line(rt: HostRuntime) {
+    let mut written = Vec::new(rt.alloc());
+    let summary = Summary {
+        lines: 10,
+        refused: 7,
+    };
+    let asked = [2, 1, 3, 4, 5, 6, 9, 1];
+    expect_conversation(
+        &rt,
+        rt.alloc(),
+        INPUT,
+        &mut written,
+        8,
+        Ok(summary),
+        asked.as_slice(),
+    );
+    assert_eq!(rt; written.as_slice(), OUTPUT);
+}
+
+const TWO: &[u8] = br#"{"at":1,"command":{"name":"AddUser","user":"ann"}}
+{"at":7,"command":{"name":"AddUser","user":"bob"}}
+nothing
+"#;
+
+#[test]
+fn ends_without_memory(rt: HostRuntime) {
+    for (room, asked) in [(1, [1].as_slice()), (2, &[1, 7])] {
+        let mut written = Vec::new(rt.alloc());
+        let ended = Err(RunFault::NoMemory);
+        expect_conversation(&rt, rt.alloc(), TWO, &mut written, room, ended, asked);
+        assert_eq!(rt;
+            written.as_slice(),
+            b"{\"answer\":\"Done\",\"line\":1}\n".as_slice()
+        );
+    }
+}
+
+/// Takes so many bytes, and fails after them.
+#[derive(Drop)]
+struct Full {
+    taken: Vec<u8>,
+    room: usize,
+}
+
+impl Write for Full {
+    fn write(&mut self, buf: &[u8]) -> io::Result<usize> {
+        let count = buf.len().min(self.room);
+        self.room -= count;
+        if count == 0 {
+            return Err(Error::from(ErrorKind::StorageFull));
+        }
+        self.taken.extend_from_slice(&buf[..count])?;
+        Ok(count)
+    }
+
+    fn flush(&mut self) -> io::Result<()> {
+        Ok(())
+    }
+}
+
+#[test]
+fn stops_where_the_writer_does(rt: HostRuntime) {
+    let mut full = Full {
+        taken: Vec::new(rt.alloc()),
+        room: 60,
+    };
+    let ended = Err(RunFault::Write);
+    expect_conversation(&rt, rt.alloc(), INPUT, &mut full, 8, ended, &[2]);
+    assert_eq!(rt;
+        full.taken.as_slice(),
+        b"{\"answer\":{\"denied\":\"NoSession\",\"number\":10},\"line\":1}\n{\"lin".as_slice()
+    );
+}
+
+/// Gives these bytes at once, and fails after them.
+#[derive(Drop)]
+struct Broken {
+    rest: &'static [u8],
+}
+
+impl Read for Broken {
+    fn read(&mut self, buf: &mut [u8]) -> io::Result<usize> {
+        let count = self.rest.len().min(buf.len());
+        if count == 0 {
+            return Err(Error::from(ErrorKind::ConnectionReset));
+        }
+        buf[..count].copy_from_slice(&self.rest[..count]);
+        self.rest = &self.rest[count..];
+        Ok(count)
+    }
+}
+
+#[test]
+fn answers_the_lines_that_ended_where_the_reader_stops(rt: HostRuntime) {
+    let mut written = Vec::new(rt.alloc());
+    let broken = Broken { rest: INPUT };
+    let asked = [2, 1, 3, 4, 5, 6, 9];
+    expect_conversation(
+        &rt,
+        rt.alloc(),
+        broken,
+        &mut written,
+        8,
+        Err(RunFault::Read),
+        asked.as_slice(),
+    );
+    assert!(rt; OUTPUT.starts_with(&written));
+    assert!(rt; written.ends_with(b"{\"line\":9,\"refused\":\"UnknownMember\"}\n"));
+}

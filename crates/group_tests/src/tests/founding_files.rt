@@ -1,0 +1,186 @@
+//! What `rbac_founding` reads founding files as, and of refused ones by files that the next check would refuse too.
+
+use rbac_founding::{Founding, FoundingRefusal, read_founding, sample_founding};
+use rbac_words::{Name, Vocabulary};
+use std::alloc::{AllocError, Global};
+use std::process::Abort;
+
+const SAMPLE: &str = r#"
+version = 1
+members = 1
+operations = ["approve", "pay", "read"]
+objects = ["invoice", "ledger"]
+permissions = [["approve", "invoice"], ["pay", "invoice"], ["read", "ledger"]]
+"#;
+
+fn refusal_of(alloc: Global, file: &[u8]) -> Option<FoundingRefusal> {
+    read_founding(alloc, file).err()
+}
+
+fn permits(
+    alloc: Global,
+    vocabulary: &Vocabulary,
+    operation: &[u8],
+    object: &[u8],
+) -> Option<bool> {
+    let operation = Name::read(alloc, operation).ok()?;
+    let object = Name::read(alloc, object).ok()?;
+    Some(vocabulary.has_permission(&operation, &object))
+}
+
+/// The numbers of the group are these, and reading the ledger is permitted, reading an invoice not.
+fn expect_sample(rt: &impl Abort, alloc: Global, founding: Founding, clock: u64, sent_limit: u32) {
+    let Founding { group, vocabulary } = founding;
+    assert_eq!(rt;
+        (group.members(), group.clock(), group.sent_limit()),
+        (1, clock, sent_limit)
+    );
+    assert_eq!(rt; permits(alloc, &vocabulary, b"read", b"ledger"), Some(true));
+    assert_eq!(rt;
+        permits(alloc, &vocabulary, b"read", b"invoice"),
+        Some(false)
+    );
+}
+
+#[test]
+fn the_sample(rt: HostRuntime) -> Result<(), AllocError> {
+    let alloc = rt.alloc();
+    expect_sample(&rt, alloc, sample_founding(alloc)?, 0, 65_536);
+    let Ok(read) = read_founding(alloc, SAMPLE.as_bytes()) else {
+        panic!(rt);
+    };
+    expect_sample(&rt, alloc, read, 0, 65_536);
+    let file = format!(in alloc; "clock = 9_007_199_254_740_991\nsent_limit = 0x1\n{SAMPLE}")?;
+    let Ok(read) = read_founding(alloc, file.as_bytes()) else {
+        panic!(rt);
+    };
+    expect_sample(&rt, alloc, read, 9_007_199_254_740_991, 1);
+    Ok(())
+}
+
+/// How many members the group of a file has.
+fn members_of(alloc: Global, file: &[u8]) -> Option<u32> {
+    match read_founding(alloc, file) {
+        Ok(founding) => Some(founding.group.members()),
+        Err(_) => None,
+    }
+}
+
+#[test]
+fn groups_of_three_and_of_eight(rt: HostRuntime) -> Result<(), AllocError> {
+    for members in [3, 8] {
+        let file = format!(in rt.alloc();
+            "version = 1\nmembers = {members}\noperations = []\nobjects = []\npermissions = []"
+        )?;
+        assert_eq!(rt; members_of(rt.alloc(), file.as_bytes()), Some(members));
+    }
+    Ok(())
+}
+
+#[test]
+fn a_file_has_1048576_bytes_at_most(rt: HostRuntime) -> Result<(), AllocError> {
+    let mut file = Vec::from_slice(rt.alloc(), SAMPLE.as_bytes())?;
+    file.resize(1_048_576, b' ')?;
+    assert_eq!(rt; refusal_of(rt.alloc(), &file), None);
+    file.push(b' ')?;
+    assert_eq!(rt;
+        refusal_of(rt.alloc(), &file),
+        Some(FoundingRefusal::TooLong)
+    );
+    Ok(())
+}
+
+#[test]
+fn what_is_no_toml(rt: HostRuntime) -> Result<(), AllocError> {
+    for file in [
+        b"version = 2\nnothing".as_slice(),
+        b"version = 2\nversion = 1",
+        b"version = 2\n[version]",
+        b"version = 99999999999999999999",
+        b"version = 2\n# \xff",
+    ] {
+        assert_eq!(rt;
+            refusal_of(rt.alloc(), file),
+            Some(FoundingRefusal::NotToml)
+        );
+    }
+    let mut nested = Vec::from_slice(rt.alloc(), b"version = 2\nother = ")?;
+    nested.resize(1_000, b'[')?;
+    nested.resize(2_000, b']')?;
+    assert_eq!(rt;
+        refusal_of(rt.alloc(), &nested),
+        Some(FoundingRefusal::NotToml)
+    );
+    Ok(())
+}
+
+/// A file of these two parts is refused so.
+fn expect_refused(
+    rt: &impl Abort,
+    alloc: Global,
+    first: &str,
+    second: &str,
+    refusal: FoundingRefusal,
+) {
+    let file = format!(in alloc; "{first}\n{second}").expect(rt, "memory");
+    let refused = refusal_of(alloc, file.as_bytes());
+    assert_eq!(rt; refused, Some(refusal), "{first}\n{second}");
+}
+
+#[test]
+fn the_first_refusal_of_keys_and_numbers(rt: HostRuntime) {
+    let wrong = FoundingRefusal::WrongKind;
+    let outside = FoundingRefusal::OutOfRange;
+    for (lines, refusal) in [
+        ("version = 2\nother = 1", FoundingRefusal::BadVersion),
+        ("version = 1.0\nother = 1", FoundingRefusal::BadVersion),
+        ("version = 1\nother = 1", FoundingRefusal::UnknownKey),
+        ("version = 1\nclock = \"1\"", FoundingRefusal::MissingKey),
+        ("version = 1\nmembers = \"1\"\nclock = -1", wrong),
+        ("version = 1\nmembers = 9\nclock = 1.0", wrong),
+        ("version = 1\nmembers = 0", outside),
+        ("version = 1\nmembers = 9", outside),
+        ("version = 1\nmembers = -1", outside),
+        (
+            "version = 1\nmembers = 1\nclock = 9007199254740992",
+            outside,
+        ),
+        ("version = 1\nmembers = 1\nsent_limit = 65537", outside),
+    ] {
+        let lists = "operations = []\nobjects = []\npermissions = []";
+        expect_refused(&rt, rt.alloc(), lines, lists, refusal);
+    }
+}
+
+#[test]
+fn the_first_refusal_of_lists(rt: HostRuntime) {
+    for (lists, refusal) in [
+        (
+            "clock = -1\noperations = [\"\", 1]\nobjects = []\npermissions = []",
+            FoundingRefusal::WrongKind,
+        ),
+        (
+            "clock = -1\noperations = []\nobjects = []\npermissions = [[\"a\", \"b\", \"c\"]]",
+            FoundingRefusal::WrongKind,
+        ),
+        (
+            "clock = -1\noperations = [\"\"]\nobjects = []\npermissions = []",
+            FoundingRefusal::OutOfRange,
+        ),
+        (
+            "operations = [\"a\", \"a\"]\nobjects = [\"no name\"]\npermissions = []",
+            FoundingRefusal::BadName,
+        ),
+        (
+            "operations = [\"a\", \"a\"]\nobjects = []\npermissions = [[\"a\", \"b\"]]",
+            FoundingRefusal::Repeated,
+        ),
+        (
+            "operations = [\"a\"]\nobjects = []\npermissions = [[\"a\", \"b\"]]",
+            FoundingRefusal::UnknownName,
+        ),
+    ] {
+        let numbers = "version = 1\nmembers = 1";
+        expect_refused(&rt, rt.alloc(), numbers, lists, refusal);
+    }
+}

@@ -1,0 +1,143 @@
+//! Each public call of `rbac_holdback` with ample memory, and what is least and stable, for both forms. What is expected was written by hand.
+ghost use Rattle.std.specs.Prelude.{◌≡◌, ◌≤◌, length};
+ghost use Rattle.std.specs.List.{AllByRecursion};
+ghost use Rattle.rbac_words.specs.Message.{submitted_at};
+ghost use Rattle.rbac_words.specs.Stamp.{IsBefore, insert_by_stamp};
+ghost use Rattle.rbac_words.specs.World.{stamp as stamp_of};
+
+use rbac_holdback::{Held, HeldQueue, Holdback, ListHeld};
+use rbac_words::{Command, Name, Stamp};
+use std::alloc::Global;
+use std::process::Abort;
+
+fn stamp(clock: u64, member: u32) -> Stamp
+    ensures { result ≡ stamp_of clock member }
+{
+    Stamp { clock, member }
+}
+
+fn command(rt: &impl Abort, alloc: Global) -> Command {
+    Command::AddUser {
+        user: Name::read(alloc, b"ann").expect(rt, "a name"),
+    }
+}
+
+// Holds a command with this stamp.
+fn put<Q: HeldQueue>(rt: &impl Abort, queue: &mut Q, clock: u64, member: u32, command: Command)
+    requires member { (1 ≤ member) × (member ≤ (Q.content queue.old).members) }
+    requires above { AllByRecursion (λ x. x.stamp.member ≡ member → IsBefore x.stamp (stamp_of clock member)) (Q.content queue.old).held }
+    ensures members { (Q.content queue.new).members ≡ (Q.content queue.old).members }
+    ensures held { (Q.content queue.new).held ≡ insert_by_stamp submitted_at (record { stamp = stamp_of clock member; caller = 7; serial = 0; command = command }) (Q.content queue.old).held }
+{
+    let held = Held {
+        stamp: Stamp { clock, member },
+        caller: 7,
+        serial: 0,
+        command,
+    };
+    let kept = match queue.put(held) {
+        Ok(()) => true,
+        Err(_) => false,
+    };
+    assert!(rt; kept);
+}
+
+// Compares the least stamp.
+fn expect_least<Q: HeldQueue>(rt: &impl Abort, queue: &Q, wanted: Option<Stamp>) {
+    let least = queue.least().map(|held| held.stamp);
+    assert_eq!(rt; least, wanted);
+}
+
+// Takes the least command out, and compares its stamp.
+fn expect_taken<Q: HeldQueue>(rt: &impl Abort, queue: &mut Q, wanted: Option<Stamp>) {
+    let taken = queue.take_least();
+    assert_eq!(rt; taken.as_ref().map(|held| held.stamp), wanted);
+    drop(taken);
+}
+
+// Compares whether the least command is stable for this member.
+fn expect_stable<Q: HeldQueue>(
+    rt: &impl Abort,
+    queue: &Q,
+    me: u32,
+    latest: &[Option<Stamp>],
+    wanted: bool,
+)
+    requires latest { length latest.now ≡ (Q.content queue.now).members }
+    requires me { (1 ≤ me) × (me ≤ (Q.content queue.now).members) }
+{
+    assert_eq!(rt; queue.stable(me, latest), wanted);
+}
+
+// Nothing is held at first.
+fn play_nothing<Q: HeldQueue + Drop>(rt: &impl Abort, alloc: Global) {
+    let mut queue = Q::empty(alloc, 2);
+    assert!(rt; queue.is_empty());
+    assert_eq!(rt; queue.len(), 0);
+    expect_least(rt, &queue, None);
+    expect_stable(rt, &queue, 1, &[None, Some(stamp(9, 2))], false);
+    expect_taken(rt, &mut queue, None);
+    queue.invariants();
+    drop(queue);
+}
+
+// Commands of two members are taken in the order of their stamps.
+fn play_two_members<Q: HeldQueue + Drop>(rt: &impl Abort, alloc: Global) {
+    let mut queue = Q::empty(alloc, 2);
+    put(rt, &mut queue, 5, 2, command(rt, alloc));
+    put(rt, &mut queue, 4, 1, command(rt, alloc));
+    put(rt, &mut queue, 5, 1, command(rt, alloc));
+    assert_eq!(rt; queue.len(), 3);
+    assert!(rt; !queue.is_empty());
+    expect_least(rt, &queue, Some(stamp(4, 1)));
+    expect_taken(rt, &mut queue, Some(stamp(4, 1)));
+    expect_taken(rt, &mut queue, Some(stamp(5, 1)));
+    expect_taken(rt, &mut queue, Some(stamp(5, 2)));
+    expect_taken(rt, &mut queue, None);
+    drop(queue);
+}
+
+// A command is stable once all others have passed it.
+fn play_passing<Q: HeldQueue + Drop>(rt: &impl Abort, alloc: Global) {
+    let mut queue = Q::empty(alloc, 4);
+    put(rt, &mut queue, 5, 2, command(rt, alloc));
+    let late = Some(stamp(6, 3));
+    expect_stable(rt, &queue, 1, &[None, None, late, None], false);
+    expect_stable(rt, &queue, 1, &[None, None, late, Some(stamp(4, 4))], false);
+    expect_stable(rt, &queue, 1, &[None, None, late, Some(stamp(5, 4))], true);
+    expect_stable(rt, &queue, 4, &[Some(stamp(5, 1)), None, late, None], false);
+    drop(queue);
+}
+
+#[test]
+fn a_list_holds_nothing_at_first(rt: HostRuntime) {
+    play_nothing::<ListHeld>(&rt, rt.alloc());
+}
+
+#[test]
+fn a_list_gives_in_the_order_of_stamps(rt: HostRuntime) {
+    play_two_members::<ListHeld>(&rt, rt.alloc());
+}
+
+#[test]
+fn a_list_is_stable_once_all_have_passed(rt: HostRuntime) {
+    play_passing::<ListHeld>(&rt, rt.alloc());
+}
+
+#[test]
+fn queues_hold_nothing_at_first(rt: HostRuntime) {
+    let alloc = rt.alloc();
+    play_nothing::<Holdback>(&rt, alloc);
+}
+
+#[test]
+fn queues_give_in_the_order_of_stamps(rt: HostRuntime) {
+    let alloc = rt.alloc();
+    play_two_members::<Holdback>(&rt, alloc);
+}
+
+#[test]
+fn queues_are_stable_once_all_have_passed(rt: HostRuntime) {
+    let alloc = rt.alloc();
+    play_passing::<Holdback>(&rt, alloc);
+}

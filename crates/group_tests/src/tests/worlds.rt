@@ -1,0 +1,181 @@
+//! Worlds of `rbac_world`: what each event does, and what refused ones leave.
+use rbac_words::{Answer, Command, Denial, Group, Name, Stamp, Vocabulary};
+use rbac_world::{Event, Outcome, Refusal, World, play};
+use std::alloc::Global;
+use std::process::Abort;
+
+fn founded(rt: &impl Abort, alloc: Global, members: u32, sent_limit: u32) -> World {
+    let group = Group::build(members, 0, sent_limit).expect(rt, "a group");
+    let vocabulary = Vocabulary::build(Vec::new(alloc), Vec::new(alloc), Vec::new(alloc));
+    World::found(alloc, group, vocabulary.expect(rt, "a vocabulary")).expect(rt, "a world")
+}
+
+// Caller 0 of a member adds a role.
+fn submit(rt: &impl Abort, alloc: Global, at: u32, serial: u32) -> Event {
+    Event::Submit {
+        at,
+        caller: 0,
+        serial,
+        command: Command::AddRole {
+            role: Name::read(alloc, b"r").expect(rt, "a name"),
+        },
+    }
+}
+
+fn receive(at: u32, from: u32, number: u32) -> Event {
+    Event::Receive { at, from, number }
+}
+
+fn stamped(clock: u64, member: u32) -> Stamp {
+    Stamp { clock, member }
+}
+
+fn received(clock: u64, member: u32) -> Result<Outcome, Refusal> {
+    Ok(Outcome::Received(Some(stamped(clock, member))))
+}
+
+fn delivered(place: Option<usize>) -> Result<Outcome, Refusal> {
+    Ok(Outcome::Delivered(place))
+}
+
+// Steps by an event, which is dropped here, and compares the answer.
+fn expect(
+    rt: &impl Abort,
+    alloc: Global,
+    world: &mut World,
+    event: Event,
+    wanted: Result<Outcome, Refusal>,
+) {
+    let answer = world.step(alloc, &event);
+    assert_eq!(rt; answer, wanted);
+}
+
+// Members 1 and 2 submit at once.
+fn submit_at_both(rt: &impl Abort, alloc: Global, world: &mut World) {
+    for at in [1, 2] {
+        let wanted = Ok(Outcome::Submitted(stamped(1, at)));
+        expect(rt, alloc, world, submit(rt, alloc, at, 0), wanted);
+    }
+}
+
+// Compares a record of a member's history.
+fn expect_record(
+    rt: &impl Abort,
+    world: &World,
+    at: u32,
+    place: usize,
+    wanted: Stamp,
+    answer: Answer,
+) {
+    let member = world.member(at).expect(rt, "a member");
+    let record = member.history().get(place).expect(rt, "a record");
+    assert_eq!(rt; record.stamp, wanted);
+    assert!(rt; record.answer.same(&answer));
+}
+
+#[test]
+fn delivers_in_stamp_order_at_each_member(rt: HostRuntime) {
+    let alloc = rt.alloc();
+    let mut world = founded(&rt, alloc, 2, 5);
+    submit_at_both(&rt, alloc, &mut world);
+    assert!(rt; !world.read_to_end());
+    expect(&rt, alloc, &mut world, receive(1, 2, 1), received(3, 1));
+    for place in [Some(0), Some(1), None] {
+        let event = Event::Deliver { at: 1 };
+        expect(&rt, alloc, &mut world, event, delivered(place));
+    }
+    let denied = Answer::Denied(Denial::RoleExists);
+    expect_record(&rt, &world, 1, 0, stamped(1, 1), Answer::Done);
+    expect_record(&rt, &world, 1, 1, stamped(1, 2), denied);
+    world.right_histories();
+    world.histories_are_one();
+}
+
+// Plays events, and compares what they answer.
+fn expect_play(
+    rt: &impl Abort,
+    alloc: Global,
+    world: &mut World,
+    events: &[Event],
+    wanted: &[Result<Outcome, Refusal>],
+) {
+    let outcomes = play(world, alloc, events).expect(rt, "memory");
+    assert!(rt; outcomes.as_slice() == wanted);
+}
+
+// Two submits at once at two members, and each message received by the other one.
+fn at_two_members(rt: &impl Abort, alloc: Global) -> [Event; 6] {
+    [
+        submit(rt, alloc, 1, 0),
+        submit(rt, alloc, 2, 0),
+        receive(1, 2, 1),
+        receive(2, 1, 1),
+        receive(1, 2, 2),
+        receive(2, 1, 2),
+    ]
+}
+
+#[test]
+fn plays_events_until_all_is_read(rt: HostRuntime) {
+    let alloc = rt.alloc();
+    let mut world = founded(&rt, alloc, 2, 5);
+    let wanted = [
+        Ok(Outcome::Submitted(stamped(1, 1))),
+        Ok(Outcome::Submitted(stamped(1, 2))),
+        received(3, 1),
+        received(3, 2),
+        Ok(Outcome::Received(None)),
+        Ok(Outcome::Received(None)),
+    ];
+    let events = at_two_members(&rt, alloc);
+    expect_play(&rt, alloc, &mut world, &events, &wanted);
+    assert!(rt; world.read_to_end());
+    let events = [Event::Deliver { at: 2 }, Event::Deliver { at: 2 }];
+    let wanted = [delivered(Some(0)), delivered(Some(1))];
+    expect_play(&rt, alloc, &mut world, &events, &wanted);
+    world.all_that_was_read_is_delivered();
+}
+
+#[test]
+fn waits_for_the_third_member(rt: HostRuntime) {
+    let alloc = rt.alloc();
+    let mut world = founded(&rt, alloc, 3, 5);
+    submit_at_both(&rt, alloc, &mut world);
+    // The first one hears the others one after the other.
+    for (event, wanted) in [
+        (receive(1, 2, 1), received(3, 1)),
+        (Event::Deliver { at: 1 }, delivered(None)),
+        (receive(3, 1, 1), received(3, 3)),
+        (receive(1, 3, 1), Ok(Outcome::Received(None))),
+        (Event::Deliver { at: 1 }, delivered(Some(0))),
+    ] {
+        expect(&rt, alloc, &mut world, event, wanted);
+    }
+    expect_record(&rt, &world, 1, 0, stamped(1, 1), Answer::Done);
+}
+
+#[test]
+fn names_the_first_refusal(rt: HostRuntime) {
+    let alloc = rt.alloc();
+    let mut world = founded(&rt, alloc, 2, 1);
+    for (event, wanted) in [
+        (receive(9, 9, 0), Refusal::UnknownMember),
+        (receive(1, 0, 0), Refusal::UnknownMember),
+        (receive(1, 1, 0), Refusal::FromSelf),
+        (receive(1, 2, 0), Refusal::NotSent),
+        (receive(1, 2, 1), Refusal::NotSent),
+        (Event::Deliver { at: 3 }, Refusal::UnknownMember),
+        (submit(&rt, alloc, 3, 1), Refusal::UnknownMember),
+        (submit(&rt, alloc, 1, 1), Refusal::BadSerial { next: 0 }),
+    ] {
+        expect(&rt, alloc, &mut world, event, Err(wanted));
+    }
+}
+
+#[test]
+fn shows_no_stranger(rt: HostRuntime) {
+    let world = founded(&rt, rt.alloc(), 8, 1);
+    assert!(rt; world.member(0).is_none() && world.member(9).is_none());
+    let last = world.member(8).expect(&rt, "the last member");
+    assert_eq!(rt; last.number(), 8);
+}

@@ -1,0 +1,9 @@
+//! What each part of a policy, and the policy, shows its callers.
+
+mod hierarchy;
+mod named;
+mod policy;
+mod reviews;
+mod role_sets;
+mod separation;
+mod sessions;

@@ -1,0 +1,315 @@
+//! Each public call of `rbac_decide` with ample memory, and the limits of roles and sets. What commands answer is played by the goldens.
+
+use super::named::{name, name_set, names};
+use rbac_decide::Policy;
+use rbac_terms::{Answer, Command, Denial, Review, Separation, Vocabulary};
+use std::alloc::Global;
+use std::process::Abort;
+
+// The policy that may read ledgers, and nothing else.
+fn founded(rt: &impl Abort, alloc: Global) -> Policy {
+    let mut permissions = Vec::new(alloc);
+    let read = (name(rt, alloc, "read"), name(rt, alloc, "ledger"));
+    permissions.push(read).expect(rt, "memory");
+    let vocabulary = Vocabulary::build(
+        names(rt, alloc, &["pay", "read"]),
+        names(rt, alloc, &["ledger"]),
+        permissions,
+    )
+    .expect(rt, "a vocabulary");
+    Policy::found(alloc, vocabulary)
+}
+
+// Applies a command, and compares its answer.
+fn expect_answer(
+    rt: &impl Abort,
+    alloc: Global,
+    policy: &mut Policy,
+    command: Command,
+    wanted: Answer,
+) {
+    let answer = policy.apply(alloc, &command).expect(rt, "memory");
+    assert!(rt; answer.same(&wanted));
+}
+
+fn expect_done(rt: &impl Abort, alloc: Global, policy: &mut Policy, command: Command) {
+    expect_answer(rt, alloc, policy, command, Answer::Done);
+}
+
+fn add_user(rt: &impl Abort, alloc: Global, policy: &mut Policy, user: &str) {
+    let user = name(rt, alloc, user);
+    expect_done(rt, alloc, policy, Command::AddUser { user });
+}
+
+fn add_role(rt: &impl Abort, alloc: Global, policy: &mut Policy, role: &str) {
+    let role = name(rt, alloc, role);
+    expect_done(rt, alloc, policy, Command::AddRole { role });
+}
+
+fn assign(rt: &impl Abort, alloc: Global, policy: &mut Policy, user: &str, role: &str) {
+    let (user, role) = (name(rt, alloc, user), name(rt, alloc, role));
+    expect_done(rt, alloc, policy, Command::AssignUser { user, role });
+}
+
+fn grant(rt: &impl Abort, alloc: Global, policy: &mut Policy, role: &str) {
+    let command = Command::GrantPermission {
+        operation: name(rt, alloc, "read"),
+        object: name(rt, alloc, "ledger"),
+        role: name(rt, alloc, role),
+    };
+    expect_done(rt, alloc, policy, command);
+}
+
+fn open_session(
+    rt: &impl Abort,
+    alloc: Global,
+    policy: &mut Policy,
+    session: &str,
+    roles: &[&str],
+) {
+    let command = Command::CreateSession {
+        user: name(rt, alloc, "ann"),
+        session: name(rt, alloc, session),
+        roles: name_set(rt, alloc, roles),
+    };
+    expect_done(rt, alloc, policy, command);
+}
+
+// Ann, a clerk, may read ledgers in her session s1, and not in s2.
+fn a_clerk(rt: &impl Abort, alloc: Global) -> Policy {
+    let mut policy = founded(rt, alloc);
+    add_user(rt, alloc, &mut policy, "ann");
+    add_role(rt, alloc, &mut policy, "clerk");
+    assign(rt, alloc, &mut policy, "ann", "clerk");
+    grant(rt, alloc, &mut policy, "clerk");
+    open_session(rt, alloc, &mut policy, "s1", &["clerk"]);
+    open_session(rt, alloc, &mut policy, "s2", &[]);
+    policy
+}
+
+fn expect_access(
+    rt: &impl Abort,
+    alloc: Global,
+    policy: &mut Policy,
+    session: &str,
+    wanted: Answer,
+) {
+    let command = Command::CheckAccess {
+        session: name(rt, alloc, session),
+        operation: name(rt, alloc, "read"),
+        object: name(rt, alloc, "ledger"),
+    };
+    expect_answer(rt, alloc, policy, command, wanted);
+}
+
+#[test]
+fn applies_changes_and_checks(rt: HostRuntime) {
+    let mut policy = a_clerk(&rt, rt.alloc());
+    policy.invariants();
+    expect_access(&rt, rt.alloc(), &mut policy, "s1", Answer::Granted);
+    expect_access(&rt, rt.alloc(), &mut policy, "s2", Answer::Refused);
+    let denied = Answer::Denied(Denial::NoSession);
+    expect_access(&rt, rt.alloc(), &mut policy, "zz", denied);
+    drop(policy);
+}
+
+fn expect_review(
+    rt: &impl Abort,
+    alloc: Global,
+    policy: &mut Policy,
+    review: Review,
+    wanted: Answer,
+) {
+    expect_answer(rt, alloc, policy, Command::Review(review), wanted);
+}
+
+// The users that are assigned clerks.
+fn expect_clerks(rt: &impl Abort, alloc: Global, policy: &mut Policy, users: &[&str]) {
+    let role = name(rt, alloc, "clerk");
+    let wanted = Answer::Names(name_set(rt, alloc, users));
+    expect_review(rt, alloc, policy, Review::AssignedUsers { role }, wanted);
+}
+
+#[test]
+fn applies_reviews(rt: HostRuntime) {
+    let mut policy = a_clerk(&rt, rt.alloc());
+    expect_clerks(&rt, rt.alloc(), &mut policy, &["ann"]);
+    let review = Review::RoleSetCardinality {
+        kind: Separation::Static,
+        set: name(&rt, rt.alloc(), "d"),
+    };
+    let denied = Answer::Denied(Denial::NoSet);
+    expect_review(&rt, rt.alloc(), &mut policy, review, denied);
+    drop(policy);
+}
+
+// Whether a check is answered so: granted or not, or the denial's number.
+fn is_answered(answer: Result<bool, Denial>, wanted: Result<bool, u32>) -> bool {
+    match (answer, wanted) {
+        (Ok(granted), Ok(is_wanted)) => granted == is_wanted,
+        (Err(denial), Err(number)) => denial.number() == number,
+        _ => false,
+    }
+}
+
+fn expect_check(
+    rt: &impl Abort,
+    alloc: Global,
+    policy: &Policy,
+    words: [&str; 3],
+    wanted: Result<bool, u32>,
+) {
+    let session = name(rt, alloc, words[0]);
+    let operation = name(rt, alloc, words[1]);
+    let object = name(rt, alloc, words[2]);
+    let answer = policy.check(&session, &operation, &object);
+    assert!(rt; is_answered(answer, wanted));
+}
+
+#[test]
+fn checks_without_a_command(rt: HostRuntime) {
+    let policy = a_clerk(&rt, rt.alloc());
+    let copy = policy.copy().expect(&rt, "memory");
+    for (words, wanted) in [
+        (["s1", "read", "ledger"], Ok(true)),
+        (["s2", "read", "ledger"], Ok(false)),
+        (["zz", "fly", "moon"], Err(10)),
+        (["s1", "fly", "moon"], Err(27)),
+        (["s1", "read", "moon"], Err(28)),
+    ] {
+        expect_check(&rt, rt.alloc(), &policy, words, wanted);
+        expect_check(&rt, rt.alloc(), &copy, words, wanted);
+    }
+    drop(policy);
+    drop(copy);
+}
+
+#[test]
+fn tells_equal_policies(rt: HostRuntime) {
+    let mut policy = a_clerk(&rt, rt.alloc());
+    let copy = policy.copy().expect(&rt, "memory");
+    assert!(rt; policy.same(&copy));
+    open_session(&rt, rt.alloc(), &mut policy, "s3", &[]);
+    assert!(rt; !policy.same(&copy));
+    drop(policy);
+    drop(copy);
+}
+
+fn add_numbered_role(rt: &impl Abort, alloc: Global, policy: &mut Policy, number: u32) {
+    let role = format!(in alloc; "r{number}").expect(rt, "memory");
+    add_role(rt, alloc, policy, role.as_str());
+    drop(role);
+}
+
+#[test]
+fn stops_at_the_limit_of_roles(rt: HostRuntime) {
+    let mut policy = founded(&rt, rt.alloc());
+    for number in 0..1024 {
+        add_numbered_role(&rt, rt.alloc(), &mut policy, number);
+    }
+    let role = name(&rt, rt.alloc(), "r1024");
+    let limit = Answer::Denied(Denial::Limit);
+    expect_answer(
+        &rt,
+        rt.alloc(),
+        &mut policy,
+        Command::AddRole { role },
+        limit,
+    );
+    drop(policy);
+}
+
+// The command that makes the static set of this number, of the roles a and b.
+fn set_command(rt: &impl Abort, alloc: Global, number: u32) -> Command {
+    let set_name = format!(in alloc; "d{number}").expect(rt, "memory");
+    Command::CreateSet {
+        kind: Separation::Static,
+        set: name(rt, alloc, set_name.as_str()),
+        roles: name_set(rt, alloc, &["a", "b"]),
+        n: 2,
+    }
+}
+
+#[test]
+fn stops_at_the_limit_of_sets(rt: HostRuntime) {
+    let mut policy = founded(&rt, rt.alloc());
+    add_role(&rt, rt.alloc(), &mut policy, "a");
+    add_role(&rt, rt.alloc(), &mut policy, "b");
+    for number in 0..256 {
+        let command = set_command(&rt, rt.alloc(), number);
+        expect_done(&rt, rt.alloc(), &mut policy, command);
+    }
+    let command = set_command(&rt, rt.alloc(), 256);
+    let limit = Answer::Denied(Denial::Limit);
+    expect_answer(&rt, rt.alloc(), &mut policy, command, limit);
+    drop(policy);
+}
+
+// The static set d of three of a, b and c, and ann, who is assigned a.
+fn a_static_set(rt: &impl Abort, alloc: Global) -> Policy {
+    let mut policy = founded(rt, alloc);
+    add_user(rt, alloc, &mut policy, "ann");
+    add_role(rt, alloc, &mut policy, "a");
+    add_role(rt, alloc, &mut policy, "b");
+    add_role(rt, alloc, &mut policy, "c");
+    assign(rt, alloc, &mut policy, "ann", "a");
+    let command = Command::CreateSet {
+        kind: Separation::Static,
+        set: name(rt, alloc, "d"),
+        roles: name_set(rt, alloc, &["a", "b", "c"]),
+        n: 3,
+    };
+    expect_done(rt, alloc, &mut policy, command);
+    policy
+}
+
+fn inherit(rt: &impl Abort, alloc: Global, policy: &mut Policy, ascendant: &str, descendant: &str) {
+    let command = Command::AddInheritance {
+        ascendant: name(rt, alloc, ascendant),
+        descendant: name(rt, alloc, descendant),
+    };
+    expect_done(rt, alloc, policy, command);
+}
+
+fn deassign(rt: &impl Abort, alloc: Global, policy: &mut Policy, user: &str, role: &str) {
+    let (user, role) = (name(rt, alloc, user), name(rt, alloc, role));
+    expect_done(rt, alloc, policy, Command::DeassignUser { user, role });
+}
+
+// How many roles of d are counted for ann.
+fn count(rt: &impl Abort, alloc: Global, policy: &Policy) -> u32 {
+    let (set, user) = (name(rt, alloc, "d"), name(rt, alloc, "ann"));
+    let number = policy.static_counts().get(&set, &user);
+    drop(set);
+    drop(user);
+    number
+}
+
+#[test]
+fn counts_of_static_sets_are_kept(rt: HostRuntime) {
+    let alloc = rt.alloc();
+    let mut policy = a_static_set(&rt, alloc);
+    assert_eq!(rt; count(&rt, alloc, &policy), 1);
+    inherit(&rt, alloc, &mut policy, "a", "b");
+    assert_eq!(rt; count(&rt, alloc, &policy), 2);
+    assign(&rt, alloc, &mut policy, "ann", "b");
+    assert_eq!(rt; count(&rt, alloc, &policy), 2);
+    deassign(&rt, alloc, &mut policy, "ann", "a");
+    assert_eq!(rt; count(&rt, alloc, &policy), 1);
+    drop(policy);
+}
+
+#[test]
+fn what_a_pair_gives_is_counted_for_its_users(rt: HostRuntime) {
+    let alloc = rt.alloc();
+    let mut policy = a_static_set(&rt, alloc);
+    inherit(&rt, alloc, &mut policy, "a", "b");
+    let command = Command::AddInheritance {
+        ascendant: name(&rt, alloc, "b"),
+        descendant: name(&rt, alloc, "c"),
+    };
+    let denied = Answer::Denied(Denial::SsdViolated);
+    expect_answer(&rt, alloc, &mut policy, command, denied);
+    assert_eq!(rt; count(&rt, alloc, &policy), 2);
+    drop(policy);
+}
