@@ -153,8 +153,8 @@ impl<G: GroupName> Node<G> {
         Some(Pass::found(member, caller, history_row))
     }
 
-    // A caller number that it has not given before.
-    fn new_caller(&mut self) -> Option<u32>
+    /// A caller number that it has not given before: 0, 1, 2 and so on, where one is left of 4,294,967,295.
+    pub fn new_caller(&mut self) -> Option<u32>
         ensures next { IfSome result (λ caller. caller ≡ self.old.next_caller) }
         ensures counted { OnSome result (self.new ≡ record self.old { next_caller = self.old.next_caller + 1 }) }
         ensures left { OnSome result (self.old.next_caller < 4294967295) }
