@@ -75,7 +75,8 @@ impl<G: GroupName> Node<G> {
     /// it may know that message, and all else is as before.
     ///
     /// # Errors
-    /// `NotShown` where the row shows no further message of the member, `Receive` with the first refusal of `Member::receive`, or `NoMemory`.
+    /// `NotShown` where the node knows no further message of the member after its look at the row, `Receive` with the first refusal
+    /// of `Member::receive`, or `NoMemory`.
     pub fn receive_next(
         &mut self,
         from: u32,
