@@ -1,5 +1,5 @@
 -- The marks that a node reads by.
-use Rattle.std.proofs.Common.{ℕ, ◌≡◌, ◌≤◌, ◌<◌, ◌-◌, List, [], length, map, set, get_or, length-set, get_or-set_same, get_or-set_other, refl, sym, ap, subst, ◌∙◌, arith}
+use Rattle.std.proofs.Common.{ℕ, ◌≡◌, ◌≤◌, ◌<◌, ◌+◌, ◌-◌, List, [], length, map, set, get_or, length-set, get_or-set_same, get_or-set_other, refl, sym, ap, subst, ◌∙◌, arith}
 use Rattle.std.proofs.lemmas.List.{get_or-map, map-set, set-get_or}
 use Rattle.rbac_words.specs.Play.{IsPrefixOf}
 use Rattle.rbac_words.specs.declared.message.Message.{Message}
@@ -62,16 +62,20 @@ module _ (n : NodeState) (marks : List (Known Message)) (reads : n.reads ≡ kno
         ∙ get_or-set_other (known_by marks) (k - 1) (j - 1) new.values [] (λ e. apart (let first : 1 ≤ k = of.low in omega arith))
         ∙ ap (λ (l : List (List Message)). get_or l (j - 1) []) (sym reads)
 
-    pub sees_more : IsPrefixOf mark.values new.values → SeesMore k n after
-    sees_more begins = record {
+    begins_there : IsPrefixOf mark.values new.values → IsPrefixOf (seen_of n k) (seen_of after k)
+    begins_there begins = subst (λ (l : List Message). IsPrefixOf l (seen_of after k)) (sym seen_by) (subst (IsPrefixOf mark.values) (sym seen_there) begins)
+
+    pub sees_more : IsPrefixOf mark.values new.values → length new.values ≤ length mark.values + 1 → SeesMore k n after
+    sees_more begins one = record {
       same = refl;
       others = seen_elsewhere;
-      more = subst (λ (l : List Message). IsPrefixOf l (seen_of after k)) (sym seen_by) (subst (IsPrefixOf mark.values) (sym seen_there) begins);
+      more = begins_there begins;
+      one = let before : length (seen_of n k) ≡ length mark.values = ap length seen_by in let now : length (seen_of after k) ≡ length new.values = ap length seen_there in omega arith;
     }
 
     -- of each member it knows what it knew, and more
     pub known_still : IsPrefixOf mark.values new.values → (j : ℕ) → 1 ≤ j → IsPrefixOf (seen_of n j) (seen_of after j)
     known_still begins j low =
         decide (IsPrefixOf (seen_of n j) (seen_of after j)) j k
-        (λ e. subst (λ (i : ℕ). IsPrefixOf (seen_of n i) (seen_of after i)) (sym e) (sees_more begins).more)
+        (λ e. subst (λ (i : ℕ). IsPrefixOf (seen_of n i) (seen_of after i)) (sym e) (begins_there begins))
         (λ apart. subst (IsPrefixOf (seen_of n j)) (sym (seen_elsewhere j low apart)) (prefix_self (seen_of n j)))

@@ -64,11 +64,12 @@ pub record IsNode (n : NodeState) : Type 0 where
 
 -- ---- Receive
 
--- a node knows more of the row of member k, and all else is as it was
+-- a node knows at most one message more of the row of member k, and all else is as it was
 pub record SeesMore (k : ℕ) (old new : NodeState) : Type 0 where
   pub same : new ≡ record old { reads = new.reads }
   pub others : (j : ℕ) → 1 ≤ j → j ≢ k → seen_of new j ≡ seen_of old j
   pub more : IsPrefixOf (seen_of old k) (seen_of new k)
+  pub one : length (seen_of new k) ≤ length (seen_of old k) + 1
 
 -- the number with which the next message of member k is received; numbers end at 4,294,967,295
 abbrev pub next_number : Member → ℕ → ℕ

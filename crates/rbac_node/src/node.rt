@@ -1,6 +1,7 @@
 //! What lies under a member's lock.
 ghost use Rattle.std.specs.Prelude.{◌≡◌, ◌≤◌, ◌<◌, ◌+◌, nat_lt, true, [], length, map, replicate, IfOk, OnOk, OnErr, IfSome, IfNone, OnSome};
 ghost use Rattle.rbac_words.specs.Keeping.Member.{IsNumber};
+ghost use Rattle.rbac_node.specs.Cells.{history_cells};
 ghost use Rattle.rbac_node.specs.Inside.{AreReads};
 
 mod confirming;
@@ -9,8 +10,9 @@ mod receive;
 mod submit;
 
 use crate::group_name::GroupName;
+use crate::pass::Pass;
 use crate::rows::Rows;
-use rbac_board::Mark;
+use rbac_board::{Mark, Row};
 use rbac_member::Member;
 use rbac_words::{Group, Message, Record, Vocabulary};
 use std::alloc::{AllocError, Global};
@@ -134,6 +136,21 @@ impl<G: GroupName> Node<G> {
         ensures { self.new ≡ record self.old { is_stopped = true } }
     {
         self.is_stopped = true;
+    }
+
+    /// A pass of a new caller, with an empty front. Its caller's number was not given before: numbers are 0, 1, 2 and so on, as
+    /// long as one is left of 4,294,967,295. The row is the member's history row.
+    pub fn enroll(&mut self, history_row: &Row<Record>) -> Option<Pass<G>>
+        requires { history_row.now ≡ history_cells G.cells self.old.member.number }
+        ensures pass { IfSome result (λ pass. pass ≡ record { member = self.old.member.number; caller = self.old.next_caller; next = 0; is_waiting = false; front = [] }) }
+        ensures counted { OnSome result (self.new ≡ record self.old { next_caller = self.old.next_caller + 1 }) }
+        ensures left { OnSome result (self.old.next_caller < 4294967295) }
+        ensures none { IfNone result (self.old.next_caller ≡ 4294967295) }
+        ensures unchanged { IfNone result (self.new ≡ self.old) }
+    {
+        let member = self.member.number();
+        let caller = self.new_caller()?;
+        Some(Pass::found(member, caller, history_row))
     }
 
     /// A caller number that it has not given before: 0, 1, 2 and so on, where one is left of 4,294,967,295.

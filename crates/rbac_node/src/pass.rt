@@ -70,8 +70,8 @@ impl<G: GroupName> Pass<G> {
     ghost use Rattle.rbac_node.specs.Told.{if_told};
     ghost use Rattle.rbac_node.specs.Pass.{PassState, Owns, pass_refusal};
 
-    /// A pass of this caller of a member, with an empty front of the member's history row.
-    pub fn found(member: u32, caller: u32, row: &Row<Record>) -> Pass<G>
+    /// A pass of this caller of a member, with an empty front of the member's history row. A node alone gives caller numbers.
+    pub(crate) fn found(member: u32, caller: u32, row: &Row<Record>) -> Pass<G>
         requires { row.now ≡ history_cells G.cells member }
         ensures { result ≡ record { member = member; caller = caller; next = 0; is_waiting = false; front = [] } }
     {
@@ -90,6 +90,13 @@ impl<G: GroupName> Pass<G> {
         ensures { result ≡ self.now.member }
     {
         self.member
+    }
+
+    /// Whether a ticket of it is outstanding.
+    pub fn is_waiting(&self) -> bool
+        ensures { result ≡ self.now.is_waiting }
+    {
+        self.is_waiting
     }
 
     /// How many records of the member's history it knows. They are a legal front.
@@ -121,6 +128,8 @@ impl<G: GroupName> Pass<G> {
         ensures pass { OnOk result (self.new ≡ record self.old { next = self.old.next + 1; is_waiting = true }) }
         ensures accepted { OnOk result (pass_refusal node.old self.old ≡ None) }
         ensures first_refusal { IfErr result (λ refusal. (refusal ≢ ServiceRefusal.NoMemory → pass_refusal node.old self.old ≡ Some refusal) × (refusal ≡ ServiceRefusal.NoMemory → pass_refusal node.old self.old ≡ None)) }
+        ensures busy { IfErr result (λ refusal. refusal ≡ ServiceRefusal.Busy → self.old.is_waiting ≡ true) }
+        ensures waiting { self.old.is_waiting ≡ true → IfErr result (λ refusal. (refusal ≡ ServiceRefusal.Stopped) ⊎ (refusal ≡ ServiceRefusal.Busy)) }
         ensures node_unchanged { OnErr result (node.new ≡ node.old) }
         ensures unchanged { OnErr result (self.new ≡ self.old) }
     {
@@ -145,6 +154,9 @@ impl<G: GroupName> Pass<G> {
         ensures caller { OnOk result (self.now.caller < node.now.next_caller) }
         ensures refusal { OnOk result (pass_refusal node.now self.now ≡ if_told (submit_refusal node.now.member.group (node_of node.now.member) self.now.caller self.now.next)) }
         ensures first_refusal { IfErr result (λ refusal. (pass_refusal node.now self.now ≡ Some refusal) × (refusal ≢ ServiceRefusal.NoMemory)) }
+        ensures idle { OnOk result (self.now.is_waiting ≡ false) }
+        ensures busy { IfErr result (λ refusal. refusal ≡ ServiceRefusal.Busy → self.now.is_waiting ≡ true) }
+        ensures waiting { IfErr result (λ refusal. self.now.is_waiting ≡ true → (refusal ≡ ServiceRefusal.Stopped) ⊎ (refusal ≡ ServiceRefusal.Busy)) }
     {
         if node.is_stopped() {
             return Err(ServiceRefusal::Stopped);

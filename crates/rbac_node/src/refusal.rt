@@ -1,5 +1,5 @@
 //! Why calls of nodes and passes are refused.
-ghost use Rattle.std.specs.Prelude.{◌≡◌};
+ghost use Rattle.std.specs.Prelude.{◌≡◌, ◌≢◌};
 
 use rbac_member::{ReceiveRefusal, SubmitRefusal};
 
@@ -50,7 +50,7 @@ impl From<SubmitRefusal> for ServiceRefusal {
     ghost use Rattle.rbac_member.specs.Calls.{submit_refused};
     ghost use Rattle.rbac_node.specs.Told.{told};
 
-    ghost from_gives = { λ refusal made. made ≡ told (submit_refused refusal) };
+    ghost from_gives = { λ refusal made. (made ≡ told (submit_refused refusal)) × (made ≢ ServiceRefusal.Busy) };
 
     fn from(refusal: SubmitRefusal) -> ServiceRefusal {
         match refusal {

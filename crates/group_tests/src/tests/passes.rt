@@ -1,4 +1,4 @@
-//! Passes of `rbac_node`: two callers of a member that is alone in its group.
+//! Passes of `rbac_node`: two callers of a member that is alone in its group, and passes of others.
 ghost use Rattle.std.specs.Prelude.{◌≡◌, ◌≤◌, length};
 ghost use Rattle.rbac_node.specs.Pass.{Owns};
 
@@ -26,12 +26,18 @@ fn roles_of_ann(rt: &impl Abort, alloc: Global) -> Command {
     Command::Review(Review::AssignedRoles { user })
 }
 
-// A pass of a new caller of member 1.
+// A pass of a new caller of a node.
 fn new_pass<G: GroupName>(rt: &impl Abort, rows: &Rows, node: &mut Node<G>) -> Pass<G>
-    requires rows { (rows.now ≡ G.cells) × (1 ≤ length rows.now.sent) }
+    requires rows { (rows.now ≡ G.cells) × (G.group.members ≤ length rows.now.sent) }
 {
-    let caller = node.new_caller().expect(rt, "a caller");
-    Pass::found(1, caller, rows.history(1))
+    node.invariants();
+    let number = node.member().number();
+    let pass = node.enroll(rows.history(number)).expect(rt, "a pass");
+    assert_eq!(rt;
+        (pass.member(), pass.is_waiting(), pass.front_len()),
+        (number, false, 0)
+    );
+    pass
 }
 
 // Submits a command, and the ticket is the pass's own.
@@ -151,27 +157,75 @@ fn expect_answered<G: GroupName>(
     drop(ticket);
 }
 
-// A pass of member 2, and one of a caller whose number the node did not give.
-fn strangers<G: GroupName>(
+// A node of this member of the founding that G names.
+fn new_node<G: GroupName>(
     rt: &impl Abort,
     alloc: Global,
-    writer: &mut Pass<G>,
     rows: &Rows,
-    node: &mut Node<G>,
-)
-    requires rows { (rows.now ≡ G.cells) × (length rows.now.sent ≡ 2) }
+    group: Group,
+    number: u32,
+    vocabulary: &Vocabulary,
+) -> Node<G>
+    requires names { (group ≡ G.group) × (vocabulary.now ≡ G.vocabulary) × (rows.now ≡ G.cells) }
+    requires number { (1 ≤ number) × (number ≤ group.members) × (group.members ≤ length rows.now.sent) }
 {
-    let mut other: Pass<G> = Pass::found(2, 0, rows.history(2));
-    expect_confirmed(rt, node, &mut other, false);
-    expect_meeting(rt, writer, &mut other, Err(MeetRefusal::OtherMember));
-    let mut unknown: Pass<G> = Pass::found(1, 2, rows.history(1));
-    let foreign = ServiceRefusal::Foreign;
-    expect_refusal(rt, &mut unknown, node, add_ann(rt, alloc), foreign);
+    let vocabulary = vocabulary.copy().expect(rt, "memory");
+    let found = Node::found(alloc, rows, group, number, vocabulary);
+    found.expect(rt, "memory")
+}
+
+// A pass of another member, and one of a caller whose number the node did not give, are foreign, after Stopped and Busy.
+fn strangers<G: GroupName, R: Abort>(
+    rt: &R,
+    alloc: Global,
+    rows: &Rows,
+    group: Group,
+    vocabulary: Vocabulary,
+)
+    requires names { (group ≡ G.group) × (vocabulary ≡ G.vocabulary) × (rows.now ≡ G.cells) }
+    requires rows { (group.members ≡ 2) × (length rows.now.sent ≡ 2) }
+{
+    let mut node: Node<G> = new_node(rt, alloc, rows, group, 1, &vocabulary);
+    let mut neighbour: Node<G> = new_node(rt, alloc, rows, group, 2, &vocabulary);
+    let mut twin: Node<G> = new_node(rt, alloc, rows, group, 1, &vocabulary);
+    let mut first = new_pass(rt, rows, &mut node);
+    let mut other = new_pass(rt, rows, &mut neighbour);
+    let given = new_pass(rt, rows, &mut twin);
+    let mut unknown = new_pass(rt, rows, &mut twin);
+    expect_confirmed(rt, &mut node, &mut other, false);
+    expect_meeting(rt, &mut first, &mut other, Err(MeetRefusal::OtherMember));
+    for foreign in [&mut other, &mut unknown] {
+        expect_refusal(
+            rt,
+            foreign,
+            &mut node,
+            add_ann(rt, alloc),
+            ServiceRefusal::Foreign,
+        );
+    }
+    let ticket = ask(rt, &mut other, &mut neighbour, add_ann(rt, alloc));
+    expect_refusal(
+        rt,
+        &mut other,
+        &mut node,
+        add_ann(rt, alloc),
+        ServiceRefusal::Busy,
+    );
     node.stop();
-    let stopped = ServiceRefusal::Stopped;
-    expect_refusal(rt, writer, node, add_ann(rt, alloc), stopped);
-    drop(other);
+    for stopped in [&mut first, &mut other, &mut unknown] {
+        expect_refusal(
+            rt,
+            stopped,
+            &mut node,
+            add_ann(rt, alloc),
+            ServiceRefusal::Stopped,
+        );
+    }
+    drop(ticket);
+    drop(given);
     drop(unknown);
+    drop(other);
+    drop(first);
 }
 
 fn is_no_group<G: GroupName>(alloc: Global, nodes: &mut [Node<G>]) -> bool {
@@ -219,7 +273,6 @@ fn two_callers<G: GroupName, R: Abort>(
     assert_eq!(rt; front_lens(&writer, &reader), (2, 2));
     expect_confirmed(rt, &mut node, &mut writer, true);
     expect_confirmed(rt, &mut node, &mut reader, true);
-    strangers(rt, alloc, &mut writer, rows, &mut node);
     drop(writer);
     drop(reader);
     audits(rt, alloc, node);
@@ -234,5 +287,16 @@ fn two_callers_of_one_member(rt: HostRuntime) {
     let words = Vocabulary::build(Vec::new(alloc), Vec::new(alloc), Vec::new(alloc));
     let words = words.expect(&rt, "a vocabulary");
     two_callers::<Brand, _>(&rt, alloc, &rows, alone, words);
+    drop(rows);
+}
+
+#[test]
+fn passes_of_others_are_foreign(rt: HostRuntime) {
+    let alloc = rt.alloc();
+    let group = Group::build(2, 0, 8).expect(&rt, "a group");
+    let rows = Rows::found(alloc, group).expect(&rt, "memory");
+    let words = Vocabulary::build(Vec::new(alloc), Vec::new(alloc), Vec::new(alloc));
+    let words = words.expect(&rt, "a vocabulary");
+    strangers::<Brand, _>(&rt, alloc, &rows, group, words);
     drop(rows);
 }

@@ -22,6 +22,7 @@ fn see_next(mark: &mut Mark<Message>, next: usize, row: &Row<Message>) -> Result
     requires next { next ≤ length mark.old.values }
     ensures of { IsOf row.now mark.new }
     ensures more { IsPrefixOf mark.old.values mark.new.values }
+    ensures one { length mark.new.values ≤ length mark.old.values + 1 }
     ensures shown { IfOk result (λ shown. shown ≡ true → next < length mark.new.values) }
     ensures not_shown { IfOk result (λ shown. shown ≡ false → (mark.new ≡ mark.old) × (next ≡ length mark.old.values)) }
     ensures unchanged { OnErr result (mark.new ≡ mark.old) }
@@ -70,11 +71,12 @@ impl<G: GroupName> Node<G> {
     ghost use Rattle.rbac_node.specs.Node.{NodeState, SeesMore, ReceivesNext, TakesNext, seen_of};
     ghost use Rattle.rbac_node.specs.Refused.{IsNotReceived};
 
-    /// One receipt of the next message of another member's sent row. After a refusal the node may know that message, and all
-    /// else is as before.
+    /// One receipt of the next message of another member's sent row, of which the node learns at most one message. After a refusal
+    /// it may know that message, and all else is as before.
     ///
     /// # Errors
-    /// `NotShown` where the row shows no further message of the member, `Receive` with the first refusal of `Member::receive`, or `NoMemory`.
+    /// `NotShown` where the node knows no further message of the member after its look at the row, `Receive` with the first refusal
+    /// of `Member::receive`, or `NoMemory`.
     pub fn receive_next(
         &mut self,
         from: u32,

@@ -1,5 +1,5 @@
 //! What callers do.
-ghost use Rattle.std.specs.Prelude.{◌≡◌, ◌≢◌, ◌↔◌, ◌<◌, ◌+◌, max, true, false, None, [], length, IfOk, IfErr, IfSome, OnOk, OnErr};
+ghost use Rattle.std.specs.Prelude.{◌≡◌, ◌≢◌, ◌↔◌, ◌<◌, ◌+◌, ◌⊎◌, max, true, false, None, [], length, IfOk, IfErr, IfSome, OnOk, OnErr};
 ghost use Rattle.rbac_words.specs.Keeping.Member.{IsNumber};
 ghost use Rattle.rbac_node.specs.Cells.{history_cells};
 ghost use Rattle.rbac_node.specs.Pass.{Owns, IsAnswered};
@@ -24,6 +24,7 @@ impl<G: GroupName, K: Gate + Drop, C: Courier + Drop> Service<G, K, C> {
     pub fn enroll<R: Wait>(&self, rt: &R, at: u32) -> Result<Pass<G>, EnrollRefusal>
         ensures known { OnOk result (IsNumber G.group at) }
         ensures stranger { IfErr result (λ refusal. (refusal ≡ EnrollRefusal.UnknownMember) ↔ (IsNumber G.group at → ⊥)) }
+        ensures member { IfOk result (λ pass. IsNumber G.group pass.member) }
         ensures first_serial { IfOk result (λ pass. pass.next ≡ 0) }
         ensures no_ticket { IfOk result (λ pass. pass.is_waiting ≡ false) }
         ensures empty_front { IfOk result (λ pass. pass.front ≡ []) }
@@ -35,12 +36,12 @@ impl<G: GroupName, K: Gate + Drop, C: Courier + Drop> Service<G, K, C> {
         if node.is_stopped() {
             return Err(EnrollRefusal::Stopped);
         }
-        let Some(caller) = node.new_caller() else {
-            return Err(EnrollRefusal::CallersFull);
-        };
         node.invariants();
-        let number = node.member().number();
-        Ok(Pass::found(number, caller, self.rows.history(number)))
+        let history_row = self.rows.history(node.member().number());
+        match node.enroll(history_row) {
+            Some(pass) => Ok(pass),
+            None => Err(EnrollRefusal::CallersFull),
+        }
     }
 
     /// Submits the pass's next command at its member, and publishes it. Where publishing is refused, the ticket is given all the
@@ -62,10 +63,12 @@ impl<G: GroupName, K: Gate + Drop, C: Courier + Drop> Service<G, K, C> {
         ensures seen { IfOk result (λ ticket. ticket.seen ≡ length pass.old.front) }
         ensures pass { OnOk result (pass.new ≡ record pass.old { next = pass.old.next + 1; is_waiting = true }) }
         ensures idle { OnOk result (pass.old.is_waiting ≡ false) }
+        ensures busy { IfErr result (λ refusal. refusal ≡ ServiceRefusal.Busy → pass.old.is_waiting ≡ true) }
+        ensures waiting { pass.old.is_waiting ≡ true → IfErr result (λ refusal. (refusal ≡ ServiceRefusal.Stopped) ⊎ (refusal ≡ ServiceRefusal.Busy)) }
         ensures unchanged { OnErr result (pass.new ≡ pass.old) }
     {
         let Some(slot) = self.slot(pass.member()) else {
-            return Err(ServiceRefusal::Foreign);
+            return Err(self.refusal_of_stranger(rt, pass));
         };
         let mut node = slot.node.lock(rt);
         let ticket = pass.submit(&mut node, command)?;
@@ -77,6 +80,24 @@ impl<G: GroupName, K: Gate + Drop, C: Courier + Drop> Service<G, K, C> {
         self.tell(pass.member(), shown, pass.member());
         self.gate.at(Moment::Submitted(ticket.stamp()));
         Ok(ticket)
+    }
+
+    // Why no command of a pass is submitted whose member the service does not have. A service is stopped with all its members.
+    fn refusal_of_stranger<R: Wait>(&self, rt: &R, pass: &Pass<G>) -> ServiceRefusal
+        ensures busy { result ≡ ServiceRefusal.Busy → pass.now.is_waiting ≡ true }
+        ensures waiting { pass.now.is_waiting ≡ true → (result ≡ ServiceRefusal.Stopped) ⊎ (result ≡ ServiceRefusal.Busy) }
+    {
+        if self
+            .slots
+            .iter()
+            .any(|slot| slot.node.lock(rt).is_stopped())
+        {
+            return ServiceRefusal::Stopped;
+        }
+        if pass.is_waiting() {
+            return ServiceRefusal::Busy;
+        }
+        ServiceRefusal::Foreign
     }
 
     /// Waits until the member has published the answer to the pass's ticket, or was stopped. An answer that is published is given

@@ -21,8 +21,8 @@ pub enum PumpEnd {
     UnknownMember,
 }
 
-// After so many turns in a row in which memory was refused, a member's thread gives up.
-const MOST_REFUSALS: u32 = 1000;
+// In so many turns in a row memory may be refused: at the next such turn, the thousandth, a member's thread gives up.
+const MOST_REFUSALS: u32 = 999;
 
 impl<G: GroupName, K: Gate + Drop, C: Courier + Drop> Service<G, K, C> {
     /// Receives, delivers and publishes for a member, a turn at each wake, until the service is stopped. It may wait.

@@ -25,7 +25,7 @@ returns-clause-more g c =
     let i = c.self.inside in
     let new = c.see_next.new.mark in
     subst (λ (n : NodeState). SeesMore c.args.from n (state_with g.G.GroupName i i.member (set i.reads.items (c.args.from - 1) new))) c.self.view_is
-    (sees_more (state g.G.GroupName i) i.reads.items refl c.args.from c.index_mut.result.now (place g c) new c.see_next.ensures.more)
+    (sees_more (state g.G.GroupName i) i.reads.items refl c.args.from c.index_mut.result.now (place g c) new c.see_next.ensures.more c.see_next.ensures.one)
 
 -- how many messages of that member were read
 count : (g : Over) (c : goal.After-self-1 g) → c.read-next.result ≡ read_of (node_of c.args.self.now.member) c.args.from
