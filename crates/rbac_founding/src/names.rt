@@ -1,6 +1,7 @@
-//! The texts of a founding file as names.
-ghost use Rattle.std.specs.Prelude.{◌≡◌, map};
-ghost use Rattle.rbac_founding.specs.Steps.{seen};
+//! Texts as names, those of a founding file among them.
+ghost use Rattle.std.specs.Prelude.{◌≡◌, map, if◌then◌else◌, Ok, Err};
+ghost use Rattle.rbac_terms.specs.Name.{is_name};
+ghost use Rattle.rbac_founding.specs.Steps.{seen, ReadsBut};
 ghost use Rattle.rbac_founding.specs.FoundingFile.{Reads};
 ghost use Rattle.rbac_founding.specs.FoundingEntries.{name_of, names_of, pair_of, permission_of, permissions_of, text_of};
 
@@ -10,14 +11,34 @@ use rbac_words::{Name, NameRefusal};
 use std::alloc::Global;
 use toml::Value;
 
-fn name_of(alloc: Global, text: &str) -> Result<Name, FoundingRefusal>
-    ensures { Reads (name_of text.now) result }
+/// The name that a text is.
+///
+/// # Errors
+/// `bad_name` where the text is no name, `no_memory` where memory ends.
+pub fn name_or<E: Copy + Drop>(
+    alloc: Global,
+    text: &str,
+    bad_name: E,
+    no_memory: E,
+) -> Result<Name, E>
+    ensures { ReadsBut no_memory (if is_name text.now then Ok text.now else Err bad_name) result }
 {
     match Name::read(alloc, text.as_bytes()) {
         Ok(name) => Ok(name),
-        Err(NameRefusal::BadName) => Err(FoundingRefusal::BadName),
-        Err(NameRefusal::NoMemory) => Err(FoundingRefusal::NoMemory),
+        Err(NameRefusal::BadName) => Err(bad_name),
+        Err(NameRefusal::NoMemory) => Err(no_memory),
     }
+}
+
+fn name_of(alloc: Global, text: &str) -> Result<Name, FoundingRefusal>
+    ensures { Reads (name_of text.now) result }
+{
+    name_or(
+        alloc,
+        text,
+        FoundingRefusal::BadName,
+        FoundingRefusal::NoMemory,
+    )
 }
 
 fn text_of(value: &Value) -> &str
