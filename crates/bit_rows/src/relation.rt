@@ -59,10 +59,10 @@ impl Relation {
     /// # Errors
     /// `AllocError` where a row gets no memory. The relation is as before.
     pub fn add(&mut self, alloc: Global) -> Result<(), AllocError>
-        ensures ok_count { OnOk result (count self.new ≡ count self.old + 1) }
-        ensures ok_related { OnOk result ((i j : ℕ) → related self.new i j ≡ (related self.old i j || (nat_eq i (count self.old) && nat_eq j (count self.old)))) }
-        ensures err_count { OnErr result (count self.new ≡ count self.old) }
-        ensures err_related { OnErr result ((i j : ℕ) → related self.new i j ≡ related self.old i j) }
+        ensures longer { OnOk result (count self.new ≡ count self.old + 1) }
+        ensures related_to_itself { OnOk result ((i j : ℕ) → related self.new i j ≡ (related self.old i j || (nat_eq i (count self.old) && nat_eq j (count self.old)))) }
+        ensures same_count { OnErr result (count self.new ≡ count self.old) }
+        ensures same_relation { OnErr result ((i j : ℕ) → related self.new i j ≡ related self.old i j) }
     {
         let number = self.rows.len();
         widen_all(&mut self.rows)?;

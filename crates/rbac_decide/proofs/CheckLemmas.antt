@@ -12,7 +12,8 @@ use Rattle.rbac_terms.specs.Sound.{IsSound}
 use Rattle.sorted_keys.proofs.Ties.{one_key, ties_itself, all_member}
 use Rattle.rbac_terms.proofs.NameLemmas.{pairs_exact, pairs_total, grants_total, grants_exact}
 use Rattle.sorted_keys.proofs.Kept.{was_kept}
-use Rattle.rbac_review.proofs.ReviewLemmas.{any-same, any-filter}
+use Rattle.rbac_review.proofs.ReviewLemmas.{any-filter}
+use Rattle.sorted_keys.proofs.Lists.{any-same}
 
 abbrev pub grants_in : State → Permission → List Grant
 grants_in s permission = filter (λ grant. eq_by_cmp pair_cmp permission grant.0) s.granted

@@ -9,6 +9,7 @@ use Rattle.std.specs.Option.{option_map_or}
 use Rattle.std.specs.FinMap.Entries.{find, put, by_order}
 use Rattle.sorted_keys.specs.Keys.{has, with_key, updated}
 use Rattle.sorted_keys.proofs.Members.{has-with_key}
+use Rattle.sorted_keys.proofs.Lists.{count-same}
 use Rattle.rbac_terms.specs.Name.{Name, name_cmp, pair_cmp}
 use Rattle.rbac_terms.specs.State.{State, Session}
 use Rattle.rbac_terms.specs.Separation.{RoleSet, is_well_sized, is_broken_by, is_broken, first_broken}
@@ -32,9 +33,6 @@ use Rattle.rbac_decide.specs.Breaking.{breaks_with, breaks_below, breaks_set}
 -- ---- Sets
 
 -- tests that agree break the same sets
-count_same : {X : Type 0} (p q : X → Bool) → ((x : X) → p x ≡ q x) → (xs : List X) → count_by p xs ≡ count_by q xs
-count_same p q same xs = ap (λ t. count_by t xs) (λ i x. same x i)
-
 pub breaks_same : (p q : Name → Bool) → ((r : Name) → p r ≡ q r) → (sets : List (Name × RoleSet)) → list_any (λ e. is_broken_by p e.1) sets ≡ list_any (λ e. is_broken_by q e.1) sets
 breaks_same p q same sets = ap (λ t. list_any (λ e. is_broken_by t e.1) sets) (λ i r. same r i)
 

@@ -32,7 +32,7 @@ fn inherits_some(hierarchy: &Hierarchy, role: &Name, grants: &[((Name, Name), Na
 }
 
 /// Whether one of the roles inherits the role of one of the grants.
-pub fn some_inherits_some(
+pub(crate) fn some_inherits_some(
     hierarchy: &Hierarchy,
     roles: &[Name],
     grants: &[((Name, Name), Name)],
@@ -45,14 +45,19 @@ pub fn some_inherits_some(
 }
 
 /// Whether the user is authorized for the role: it is assigned one that inherits it.
-pub fn is_authorized(sets: &RoleSets, hierarchy: &Hierarchy, user: &Name, role: &Name) -> bool
+pub(crate) fn is_authorized(
+    sets: &RoleSets,
+    hierarchy: &Hierarchy,
+    user: &Name,
+    role: &Name,
+) -> bool
     ensures { result ≡ is_authorized (state_of_roles sets.now.content hierarchy.now.content) user.now role.now }
 {
     some_inherits(hierarchy, sets.assignments_of(user), role)
 }
 
 /// Whether the user is authorized for each of the roles.
-pub fn is_authorized_for_all(
+pub(crate) fn is_authorized_for_all(
     sets: &RoleSets,
     hierarchy: &Hierarchy,
     user: &Name,
@@ -66,7 +71,7 @@ pub fn is_authorized_for_all(
 }
 
 /// Those of the names that pass a test.
-pub fn names_where<T: KeyTest<Name>>(
+pub(crate) fn names_where<T: KeyTest<Name>>(
     alloc: Global,
     names: &NameSet,
     test: &T,
@@ -99,7 +104,7 @@ impl KeyTest<Name> for NewTo<'_> {
 }
 
 /// Those of the roles that the user is not authorized for.
-pub fn fresh_roles(
+pub(crate) fn fresh_roles(
     alloc: Global,
     sets: &RoleSets,
     hierarchy: &Hierarchy,
@@ -128,7 +133,7 @@ fn count_inherited(hierarchy: &Hierarchy, assignments: &[(Name, Name)], roles: &
 }
 
 /// How many of the roles the user is authorized for.
-pub fn count_authorized(
+pub(crate) fn count_authorized(
     sets: &RoleSets,
     hierarchy: &Hierarchy,
     user: &Name,
@@ -140,7 +145,12 @@ pub fn count_authorized(
 }
 
 /// Whether each of the roles is there, and the owner of a session is authorized for it. Where the owner is, the role is there.
-pub fn is_entitled(sets: &RoleSets, hierarchy: &Hierarchy, owner: &Name, active: &NameSet) -> bool
+pub(crate) fn is_entitled(
+    sets: &RoleSets,
+    hierarchy: &Hierarchy,
+    owner: &Name,
+    active: &NameSet,
+) -> bool
     ensures { result ≡ is_entitled (state_of_roles sets.now.content hierarchy.now.content) (record { owner = owner.now; active = active.now }) }
 {
     is_authorized_for_all(sets, hierarchy, owner, active.names())

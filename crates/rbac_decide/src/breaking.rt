@@ -6,7 +6,7 @@ use rbac_terms::{Name, NameSet};
 
 /// The sessions in which as many of the roles are active as the number.
 #[derive(Drop)]
-pub struct Breaking<'a> {
+pub(crate) struct Breaking<'a> {
     pub roles: &'a NameSet,
     pub n: u32,
 }

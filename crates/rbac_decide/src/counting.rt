@@ -71,7 +71,7 @@ fn forget(command: &Command, counts: &mut Counts)
 }
 
 /// Makes the counts right again after a command, where these are the pairs whose counts it may change. Takes no memory.
-pub fn recount_affected(
+pub(crate) fn recount_affected(
     tables: &Tables,
     command: &Command,
     pairs: Vec<(Name, Name)>,

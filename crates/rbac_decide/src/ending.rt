@@ -14,7 +14,7 @@ use rbac_terms::{Name, NameSet};
 
 /// The sessions of a user.
 #[derive(Drop)]
-pub struct OwnedBy<'a> {
+pub(crate) struct OwnedBy<'a> {
     pub user: &'a Name,
 }
 
@@ -28,7 +28,7 @@ impl SessionTest for OwnedBy<'_> {
 
 /// The sessions in which a role is active.
 #[derive(Drop)]
-pub struct WithActive<'a> {
+pub(crate) struct WithActive<'a> {
     pub role: &'a Name,
 }
 
@@ -42,7 +42,7 @@ impl SessionTest for WithActive<'_> {
 
 /// The sessions of a user in which a role is active.
 #[derive(Drop)]
-pub struct OwnedWithActive<'a> {
+pub(crate) struct OwnedWithActive<'a> {
     pub user: &'a Name,
     pub role: &'a Name,
 }
@@ -57,7 +57,7 @@ impl SessionTest for OwnedWithActive<'_> {
 
 /// The sessions with an active role that is not there, or that the owner is not authorized for.
 #[derive(Drop)]
-pub struct Unentitled<'a> {
+pub(crate) struct Unentitled<'a> {
     pub sets: &'a RoleSets,
     pub hierarchy: &'a Hierarchy,
 }

@@ -86,6 +86,9 @@ impl Policy {
     }
 
     /// Answers a command, and makes its change. CheckAccess takes no memory.
+    ///
+    /// # Errors
+    /// `AllocError` where there is no memory for it. Nothing has changed.
     pub fn apply(&mut self, alloc: Global, command: &Command) -> Result<Answer, AllocError>
         ensures reply { IfOk result (λ answer. answer ≡ reply command.now self.old) }
         ensures effect { OnOk result (self.new ≡ effect command.now self.old) }
@@ -105,6 +108,9 @@ impl Policy {
 
     /// Whether the session may perform the operation on the object: the answer of CheckAccess, without a command. It may exactly
     /// where the review of the session's permissions lists it.
+    ///
+    /// # Errors
+    /// The first denial that applies: `NoSession`, `NoOperation`, `NoObject`.
     pub fn check(&self, session: &Name, operation: &Name, object: &Name) -> Result<bool, Denial>
         ensures denied { IfErr result (λ denial. first_denial (Command.CheckAccess session.now operation.now object.now) self.now ≡ Some denial) }
         ensures held { IfOk result (λ granted. granted ≡ session_holds (find name_cmp session.now self.now.sessions) self.now (operation.now, object.now)) }
@@ -141,6 +147,9 @@ impl Policy {
     }
 
     /// An equal policy.
+    ///
+    /// # Errors
+    /// `AllocError` where there is no memory for it.
     pub fn copy(&self) -> Result<Policy, AllocError>
         ensures { IfOk result (λ copy. copy ≡ self.now) }
     {

@@ -20,7 +20,7 @@ mod sets;
 
 /// Users and roles with their pairs and grants, the hierarchy of the same roles, the sets of separation, and the sessions.
 #[derive(Drop)]
-pub struct Tables {
+pub(crate) struct Tables {
     pub sets: RoleSets,
     pub hierarchy: Hierarchy,
     pub static_sets: SetTable,
@@ -46,6 +46,9 @@ impl Tables {
     }
 
     /// Equal sets.
+    ///
+    /// # Errors
+    /// `AllocError` where there is no memory for it.
     pub fn copy(&self) -> Result<Tables, AllocError>
         ensures { IfOk result (λ copy. HaveSameSets copy self.now) }
     {

@@ -13,21 +13,22 @@ use Rattle.rbac_founding.specs.Steps.{◌>>=◌, seen}
 use Rattle.rbac_founding.specs.FoundingFile.{Reading, document_of, founding_of, longest_file, has_only, each, two, as_permission}
 use Rattle.rbac_founding.specs.declared.refusal.FoundingRefusal.{FoundingRefusal}
 use Rattle.rbac_founding.specs.declared.refusal.FoundingRefusal.TheVariants.{TooLong, NotToml, WrongKind, BadName}
-use Rattle.rbac_founding.proofs.LongLemmas.{is_longer, is_within, front_value}
+use Rattle.rbac_founding.proofs.LongLemmas.{front_value}
+use Rattle.std.proofs.lemmas.Bool.{lt-ltb, le-ltb}
 use Rattle.rbac_founding.proofs.ReadingLemmas.{list_any-map, of_kind_more}
 use Rattle.rbac_founding.proofs.Utf8Lemmas.{parsed, not_parsed}
 
 -- ---- The document
 
 pub document_of_toml : (file : List ℕ) (document : Members) → length file ≤ longest_file → IsUtf8 file → parse_document file ≡ Some document → document_of file ≡ Ok document
-document_of_toml file document short utf8 is = rw (is_within (length file) longest_file short, parsed parse_document file document utf8 is) refl
+document_of_toml file document short utf8 is = rw (le-ltb longest_file (length file) short, parsed parse_document file document utf8 is) refl
 
 pub document_of_other : (file : List ℕ) → length file ≤ longest_file → (IsUtf8 file → parse_document file ≡ None) → document_of file ≡ Err NotToml
-document_of_other file short none = rw (is_within (length file) longest_file short, not_parsed parse_document file none) refl
+document_of_other file short none = rw (le-ltb longest_file (length file) short, not_parsed parse_document file none) refl
 
 founding_long : (file : List ℕ) → longest_file < length file → founding_of file ≡ Err TooLong
 unfolding founding_of
-founding_long file long = let too_long : document_of file ≡ Err TooLong = rw (is_longer (length file) longest_file long) refl in rw too_long refl
+founding_long file long = let too_long : document_of file ≡ Err TooLong = rw (lt-ltb longest_file (length file) long) refl in rw too_long refl
 
 -- one byte more than a file may have shows that it is too long
 pub founding_of_front : (file : List ℕ) → founding_of (take (longest_file + 1) file) ≡ founding_of file

@@ -9,6 +9,7 @@ use Rattle.std.proofs.lemmas.List.Quantifiers.{position-Some}
 use Rattle.sorted_keys.specs.Keys.{has}
 use Rattle.sorted_keys.proofs.Gathered.{has-set_of, sorted_set_of}
 use Rattle.sorted_keys.proofs.Members.{same_keys}
+use Rattle.sorted_keys.proofs.Lists.{any-same}
 use Rattle.rbac_terms.specs.Name.{Name, name_cmp}
 use Rattle.sorted_keys.proofs.Ties.{one_key, same_bits, ties_itself}
 use Rattle.rbac_terms.proofs.NameLemmas.{names_total, names_exact}
@@ -18,12 +19,8 @@ use Rattle.rbac_hierarchy.specs.Numbers.{role_at, roles_of}
 pub equal_names : (a b : Name) → pointwise ◌==◌ a b ≡ eq_by_cmp name_cmp a b
 equal_names a b = search (comparing, rules)
 
-same_any : (p q : Name → Bool) → ((x : Name) → p x ≡ q x) → (xs : List Name) → list_any p xs ≡ list_any q xs
-same_any p q same [] = refl
-same_any p q same (x ∷ xs) = λ i. same x i || same_any p q same xs i
-
 pub has_equal : (role : Name) (names : List Name) → list_any (pointwise ◌==◌ role) names ≡ has name_cmp role names
-has_equal role names = same_any (pointwise ◌==◌ role) (eq_by_cmp name_cmp role) (equal_names role) names
+has_equal role names = any-same (pointwise ◌==◌ role) (eq_by_cmp name_cmp role) (equal_names role) names
 
 pub number_found : (role : Name) (names : List Name) (found : Option ℕ) → found ≡ position (pointwise ◌==◌ role) names → IfSome found (λ i. (i < length names) × (role_at names i ≡ role))
 number_found role names None e = tt

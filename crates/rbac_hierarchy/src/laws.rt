@@ -44,6 +44,9 @@ fn make<O: RoleOrder>(alloc: Global, order: &mut O, change: &Change) -> Result<(
 
 /// Makes changes one after the other, up to the first that wants memory. A change that does not hold (a role that is
 /// there is added, a pair of what is no role or that would close a circle is declared) is passed over.
+///
+/// # Errors
+/// `AllocError` where a change gets no memory. Those before it are made.
 pub fn run_order<O: RoleOrder>(
     alloc: Global,
     order: &mut O,

@@ -9,7 +9,7 @@ use sorted_keys::KeyTest;
 
 /// The pairs of other roles.
 #[derive(Drop)]
-pub struct OtherPairs<'a> {
+pub(crate) struct OtherPairs<'a> {
     pub role: &'a Name,
 }
 
@@ -23,7 +23,7 @@ impl KeyTest<(Name, Name)> for OtherPairs<'_> {
 
 /// The pairs but for one.
 #[derive(Drop)]
-pub struct OtherPair<'a> {
+pub(crate) struct OtherPair<'a> {
     pub ascendant: &'a Name,
     pub descendant: &'a Name,
 }

@@ -11,7 +11,7 @@ use sorted_keys::{KeyTest, SortedMap, SortedSet};
 use std::alloc::{AllocError, Global};
 
 /// The rows of the same roles over these pairs.
-pub fn renewed_rows(
+pub(crate) fn renewed_rows(
     alloc: Global,
     rows: &SortedMap<Name, NameSet>,
     declared: &SortedSet<(Name, Name)>,
@@ -29,7 +29,7 @@ pub fn renewed_rows(
 }
 
 /// The roles of the rows that pass a test.
-pub fn roles_where<T: KeyTest<Name>>(
+pub(crate) fn roles_where<T: KeyTest<Name>>(
     alloc: Global,
     rows: &[(Name, NameSet)],
     test: &T,
@@ -47,7 +47,7 @@ pub fn roles_where<T: KeyTest<Name>>(
 }
 
 /// The row of a role alone.
-pub fn lone_row(alloc: Global, role: &Name) -> Result<NameSet, AllocError>
+pub(crate) fn lone_row(alloc: Global, role: &Name) -> Result<NameSet, AllocError>
     ensures { IfOk result (λ names. names ≡ role.now ∷ []) }
 {
     let mut names = NameSet::new(alloc);

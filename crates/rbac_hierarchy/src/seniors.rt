@@ -8,7 +8,7 @@ use sorted_keys::KeyTest;
 
 /// The roles that inherit a role.
 #[derive(Drop)]
-pub struct SeniorsOf<'a, O: RoleOrder> {
+pub(crate) struct SeniorsOf<'a, O: RoleOrder> {
     pub order: &'a O,
     pub role: &'a Name,
 }

@@ -7,7 +7,7 @@ use sorted_keys::SortedSet;
 use std::alloc::{AllocError, Global};
 
 /// The role and the roles to which a chain of pairs leads from it. Each pair is looked at once.
-pub fn walk(
+pub(crate) fn walk(
     alloc: Global,
     role: &Name,
     declared: &SortedSet<(Name, Name)>,

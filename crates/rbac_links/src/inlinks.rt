@@ -99,6 +99,9 @@ impl Inlinks {
     }
 
     /// Whether a message of this number and stamp is the next that is taken of a member.
+    ///
+    /// # Errors
+    /// The first that applies: `UnknownMember`, `FromSelf`, `Repeat`, `Gap`, `StampNotRising`.
     pub fn check(&self, from: u32, number: u32, stamp: Stamp) -> Result<(), LinkRefusal>
         ensures taken { OnOk result (link_refusal self.now from number stamp ≡ None) }
         ensures first_refusal { IfErr result (λ refusal. link_refusal self.now from number stamp ≡ Some (link_refused refusal)) }
@@ -124,6 +127,9 @@ impl Inlinks {
     }
 
     /// Takes the next message of a member, of this number and stamp. It takes no memory.
+    ///
+    /// # Errors
+    /// The first that applies: `UnknownMember`, `FromSelf`, `Repeat`, `Gap`, `StampNotRising`. Nothing has changed.
     pub fn accept(&mut self, from: u32, number: u32, stamp: Stamp) -> Result<(), LinkRefusal>
         ensures accepted { OnOk result (link_refusal self.old from number stamp ≡ None) }
         ensures taken { OnOk result (self.new ≡ taken_from self.old from stamp) }

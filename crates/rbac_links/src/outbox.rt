@@ -86,6 +86,9 @@ impl Outbox {
     }
 
     /// Makes room for the next message, which is then not refused.
+    ///
+    /// # Errors
+    /// `Full` where as many messages are sent as may be; else `NoMemory` where there is no memory for one more.
     pub fn make_room(&mut self) -> Result<(), OutboxRefusal>
         ensures below_limit { OnOk result (length self.old.sent < self.old.limit) }
         ensures room { OnOk result (0 < self.new.room) }
@@ -103,6 +106,9 @@ impl Outbox {
     }
 
     /// Sends a message, and answers its number: the first one is 1. A message that is not sent is handed back.
+    ///
+    /// # Errors
+    /// `Full` where as many messages are sent as may be; else `NoMemory` where there is no memory for one more. The message comes back.
     pub fn push(&mut self, message: Message) -> Result<u32, (OutboxRefusal, Message)>
         ensures number { IfOk result (λ number. number ≡ length self.old.sent + 1) }
         ensures sent { OnOk result (self.new.sent ≡ self.old.sent ++ message ∷ []) }

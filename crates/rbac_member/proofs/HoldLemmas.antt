@@ -20,7 +20,7 @@ use Rattle.rbac_order.proofs.StepLemmas.{unless_none}
 use Rattle.rbac_holdback.specs.Holdback.{Holdback}
 use Rattle.rbac_member.specs.Lists.{CanBeHeld}
 use Rattle.rbac_member.specs.Serials.{counted, AreCounted}
-use Rattle.rbac_member.proofs.ReceiveLemmas.{equal}
+use Rattle.std.proofs.lemmas.Bool.{eqb-true}
 use Rattle.rbac_member.proofs.SerialLemmas.{counted-held}
 
 -- the member's next command lies above all that it holds
@@ -90,4 +90,4 @@ counted_received entries v (Ack s) k free = k
 counted_received entries v (Call s caller serial command) k free =
     let x : Submission = record { stamp = s; caller = caller; serial = serial; command = command } in
     let next = unless_none (serial == next_serial caller (filter (is_of s.member) (known v))) (BadSerial (next_serial caller (filter (is_of s.member) (known v)))) None free in
-    counted-held entries (commands_of v.history) v.held x k (equal serial (next_serial caller (filter (is_of s.member) (known v))) next.0)
+    counted-held entries (commands_of v.history) v.held x k (eqb-true serial (next_serial caller (filter (is_of s.member) (known v))) next.0)

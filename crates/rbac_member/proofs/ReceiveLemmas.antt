@@ -1,7 +1,7 @@
 -- What a message that is not refused has passed, and what a group's messages always pass.
 use Rattle.std.proofs.Common.{ℕ, true, false, not, ◌≡◌, ◌≤◌, ◌==◌, ◌&&◌, nat_lt, nat_le, ◌++◌, length, refl, sym, ap, subst, ◌∙◌, arith, append-nil, Option, Some, None}
 use Rattle.std.specs.List.{filter}
-use Rattle.std.proofs.lemmas.Bool.Decides.{nat_tests}
+use Rattle.std.proofs.lemmas.Bool.{eqb-true, eqb-false, not-false}
 use Rattle.rbac_words.specs.Stamp.{IsAfter, is_after}
 use Rattle.rbac_words.specs.Message.{stamp_of, submissions_of, is_by, next_serial, CountsFrom}
 use Rattle.rbac_words.specs.Front.{is_of}
@@ -14,12 +14,10 @@ use Rattle.rbac_words.specs.declared.message.Message.{Message}
 use Rattle.rbac_words.specs.declared.message.Message.TheVariants.{Call, Ack}
 use Rattle.rbac_words.specs.declared.message.Submission.{Submission}
 use Rattle.rbac_words.specs.declared.stamp.Stamp.{Stamp}
+use Rattle.rbac_order.proofs.RangeLemmas.{in_range}
 use Rattle.rbac_order.proofs.StampLemmas.{before_true}
 use Rattle.rbac_order.proofs.MessageLemmas.{serials_go_on}
 use Rattle.rbac_order.proofs.StepLemmas.{if_none, unless_none, and_both}
-
-pub equal : (m n : ℕ) → (m == n) ≡ true → m ≡ n
-equal m n e = grind (arith, nat_tests)
 
 -- two refusals, one after the other
 both_none : (a b : Option Refusal) → or_else a b ≡ None → (a ≡ None) × (b ≡ None)
@@ -46,26 +44,18 @@ pub record IsTaken (l : Links) (from n : ℕ) (s : Stamp) : Type 0 where
 pub is_taken : (l : Links) (from n : ℕ) (s : Stamp) → link_refusal l from n s ≡ None → IsTaken l from n s
 is_taken l from n s free =
     let a = if_none (not (has_link l from)) UnknownMember _ free in
+    let within = in_range from (length l.read) (not-false (has_link l from) a.0) in
     let b = if_none (from == l.me) FromSelf _ a.1 in
     let c = if_none (nat_lt n (next_of l from)) (Repeat (next_of l from)) _ b.1 in
     let d = if_none (nat_lt (next_of l from) n) (Gap (next_of l from)) _ c.1 in
     let e = unless_none (is_rising_of l from s) StampNotRising None d.1 in
     record {
-      low = low (length l.read) from a.0;
-      high = high (length l.read) from a.0;
-      other = apart from l.me b.0;
-      sender = equal s.member from (and_both (s.member == from) _ e.0).0;
+      low = within.0;
+      high = within.1;
+      other = eqb-false from l.me b.0;
+      sender = eqb-true s.member from (and_both (s.member == from) _ e.0).0;
       after = e.0;
     }
-  where
-    low : (k m : ℕ) → not (nat_le 1 m && nat_le m k) ≡ false → 1 ≤ m
-    low k m e = grind (arith, nat_tests)
-
-    high : (k m : ℕ) → not (nat_le 1 m && nat_le m k) ≡ false → m ≤ k
-    high k m e = grind (arith, nat_tests)
-
-    apart : (k m : ℕ) → (k == m) ≡ false → k ≡ m → ⊥
-    apart k m e f = grind (arith, nat_tests)
 
 after_is : (last : Option Stamp) (s : Stamp) → is_after last s ≡ true → IsAfter last s
 after_is None s e = tt
@@ -89,4 +79,4 @@ next_is v from n m kept free =
     go (Call s c serial command) e f caller =
         let x : Submission = record { stamp = s; caller = c; serial = serial; command = command } in
         let same = unless_none (serial == next_serial c (filter (is_of s.member) (known v))) (BadSerial (next_serial c (filter (is_of s.member) (known v)))) None f in
-        serials_go_on (filter (is_of from) (known v)) x (kept.serials from) (equal serial (next_serial c (filter (is_of s.member) (known v))) same.0 ∙ ap (λ k. next_serial c (filter (is_of k) (known v))) e) caller
+        serials_go_on (filter (is_of from) (known v)) x (kept.serials from) (eqb-true serial (next_serial c (filter (is_of s.member) (known v))) same.0 ∙ ap (λ k. next_serial c (filter (is_of k) (known v))) e) caller

@@ -5,13 +5,14 @@ use Rattle.std.specs.Cmp.{IsTotalOrder, unsigned_tied}
 use Rattle.std.specs.Ordering.{nat_cmp, eq_by_cmp}
 use Rattle.std.specs.FinMap.Entries.{find, find-put}
 use Rattle.std.proofs.lemmas.Cmp.{nat_cmp_total, on_total, then_total}
-use Rattle.std.proofs.lemmas.Bool.Decides.{nat_tests}
+use Rattle.std.proofs.lemmas.Bool.{eqb-true}
 use Rattle.std.proofs.lemmas.List.Elements.{filter-append}
 use Rattle.rbac_words.specs.Stamp.{is_before, insert_by_stamp}
 use Rattle.rbac_words.specs.Message.{is_by, submitted_at, next_serial}
 use Rattle.rbac_words.specs.Front.{is_of}
 use Rattle.rbac_words.specs.declared.message.Submission.{Submission}
 use Rattle.sorted_keys.proofs.Ties.{ties-pair}
+use Rattle.rbac_order.proofs.RangeLemmas.{turned}
 use Rattle.rbac_member.specs.Serials.{caller_cmp, counted, AreCounted}
 
 -- ---- How many commands of a caller of a member there are
@@ -69,18 +70,11 @@ counted-one entries xs ys x known next more member caller =
     ∙ go (member == x.stamp.member) (caller == x.caller) refl refl
     ∙ sym (more member caller)
   where
-    same : (m n : ℕ) → (m == n) ≡ true → m ≡ n
-    same m n e = grind (arith, nat_tests)
-
-    turned : (m n : ℕ) (b : Bool) → (m == n) ≡ b → (n == m) ≡ b
-    turned m n true e = grind (arith, nat_tests)
-    turned m n false e = grind (arith, nat_tests)
-
     go : (a b : Bool) → (member == x.stamp.member) ≡ a → (caller == x.caller) ≡ b
         → unwrap_or (cond (a && b) (Some (x.serial + 1)) (find caller_cmp (member, caller) entries)) 0 ≡ weight member caller x + amount member caller xs
     go true true e f =
         rw (turned member x.stamp.member true e) (rw (turned caller x.caller true f)
-        (let n : x.serial ≡ amount member caller xs = next ∙ ap₂ (λ m c. amount m c xs) (sym (same member x.stamp.member e)) (sym (same caller x.caller f)) in omega (arith, n)))
+        (let n : x.serial ≡ amount member caller xs = next ∙ ap₂ (λ m c. amount m c xs) (sym (eqb-true member x.stamp.member e)) (sym (eqb-true caller x.caller f)) in omega (arith, n)))
     go true false e f = rw (turned member x.stamp.member true e) (rw (turned caller x.caller false f) (let k = known member caller in omega (arith, k)))
     go false b e f = rw (turned member x.stamp.member false e) (let k = known member caller in omega (arith, k))
 

@@ -47,6 +47,9 @@ impl Member {
     ghost use Rattle.rbac_member.specs.Calls.{taken_of};
 
     /// The member of this number, with nothing sent, received, held or delivered. It takes no memory.
+    ///
+    /// # Errors
+    /// `UnknownMember` where the group has no such member.
     pub fn found(
         alloc: Global,
         group: Group,

@@ -5,12 +5,11 @@ ghost use Rattle.rbac_member.specs.Calls.{of_link, submit_refused, receipt_refus
 use rbac_links::LinkRefusal;
 use rbac_words::Refusal;
 
-/// Why a member was not founded, in the order of the checks.
+/// Why a member was not founded.
 #[derive(Clone, Copy, Debug, PartialEq, Eq, Drop)]
 pub enum FoundRefusal {
     /// The group has no member of this number.
     UnknownMember,
-    NoMemory,
 }
 
 /// Why a command was not submitted, in the order of the checks.

@@ -1,7 +1,7 @@
 -- What each call of a node keeps.
 use Rattle.std.proofs.Common.{ℕ, Bool, true, false, cond, nat_le, ◌≡◌, ◌<◌, ◌≤◌, ◌-◌, ◌==◌, ◌&&◌, List, length, set, get_or, Option, None, Some, Result, Ok, Err, IfOk, OnOk, OnErr, refl, sym, ap, subst, ◌∙◌, arith}
 use Rattle.std.specs.List.{slice_get}
-use Rattle.std.proofs.lemmas.Bool.Decides.{nat_tests}
+use Rattle.std.proofs.lemmas.Bool.{eqb-true}
 use Rattle.std.proofs.lemmas.List.{get_or_past}
 use Rattle.rbac_words.specs.Group.{Group}
 use Rattle.rbac_words.specs.Keeping.Links.{has_link}
@@ -13,7 +13,8 @@ use Rattle.rbac_words.specs.declared.message.Message.{Message}
 use Rattle.rbac_words.specs.declared.message.Submission.{Submission}
 use Rattle.rbac_words.specs.declared.stamp.Stamp.{Stamp}
 use Rattle.rbac_member.specs.Calls.{taken_of}
-use Rattle.rbac_member.proofs.ReceiveLemmas.{equal, next_is}
+use Rattle.rbac_order.proofs.RangeLemmas.{above_range}
+use Rattle.rbac_member.proofs.ReceiveLemmas.{next_is}
 use Rattle.rbac_board.specs.Known.{Known, IsOf}
 use Rattle.rbac_node.specs.declared.group_name.GroupName.{Ghosts}
 use Rattle.rbac_node.specs.declared.node.Node.TheInside.{Inside}
@@ -115,11 +116,8 @@ taken_is_read v k another = other (k == v.number) refl
   where
     linked : (b : Bool) → has_link (links_of v) k ≡ b → cond b (read_of (node_of v) k) 0 ≡ read_of (node_of v) k
     linked true e = refl
-    linked false e = sym (get_or_past v.read (k - 1) 0 (past k (length v.read) another.number.low e))
-      where
-        past : (n m : ℕ) → 1 ≤ n → (nat_le 1 n && nat_le n m) ≡ false → m ≤ n - 1
-        past n m low f = grind (arith, nat_tests)
+    linked false e = sym (get_or_past v.read (k - 1) 0 (let past = above_range k (length v.read) another.number.low e in omega arith))
 
     other : (b : Bool) → (k == v.number) ≡ b → cond b 0 (cond (has_link (links_of v) k) (read_of (node_of v) k) 0) ≡ read_of (node_of v) k
-    other true e = absurd (another.other (equal k v.number e))
+    other true e = absurd (another.other (eqb-true k v.number e))
     other false e = linked (has_link (links_of v) k) refl

@@ -1,8 +1,7 @@
 -- The members of a group: what each has heard, what is due, and that each history is right.
 use Rattle.std.proofs.Common.{ℕ, zero, suc, Bool, true, false, not, ◌≡◌, ◌≤◌, ◌<◌, ◌+◌, ◌==◌, ◌||◌, ◌&&◌, List, [], ◌∷◌, ◌++◌, length, map, take, get_or, refl, sym, ap, ap₂, subst, ◌∙◌, arith, Option, Some, None}
 use Rattle.std.specs.List.{AllByRecursion as Each, filter, list_all}
-use Rattle.std.proofs.lemmas.Bool.{or_left, or_right}
-use Rattle.std.proofs.lemmas.Bool.Decides.{nat_tests}
+use Rattle.std.proofs.lemmas.Bool.{or_left, or_right, eq-eqb, ne_eqb}
 use Rattle.std.proofs.lemmas.List.{length-map}
 use Rattle.std.proofs.lemmas.List.Elements.{filter-append}
 use Rattle.rbac_terms.specs.Vocabulary.{Vocabulary}
@@ -34,12 +33,6 @@ node-of_member (v ∷ vs) (suc i) = node-of_member vs i
 take-front : {X : Type 0} (xs ys : List X) → take (length xs) (xs ++ ys) ≡ xs
 take-front [] ys = refl
 take-front (x ∷ xs) ys = ap (λ l. x ∷ l) (take-front xs ys)
-
-pub same_number : (m n : ℕ) → m ≡ n → (m == n) ≡ true
-same_number m n e = grind (arith, nat_tests)
-
-pub other_number : (m n : ℕ) → (m ≡ n → ⊥) → (m == n) ≡ false
-other_number m n d = grind (arith, nat_tests)
 
 -- ---- What was delivered of a rising list
 
@@ -148,12 +141,12 @@ module _ (group : Group) (vocabulary : Vocabulary) (ms : List Member) (are : Are
   -- ---- What a member has heard is what it knows
 
   heard_own : (i : ℕ) → heard_of (node_of (at i)) (node_of (at i)) ≡ (at i).sent
-  heard_own i = rw (same_number (at i).number (at i).number refl) refl
+  heard_own i = rw (eq-eqb (at i).number (at i).number refl) refl
 
   heard_other : (i j : ℕ) → (hi : i < length ms) → (hj : j < length ms) → (d : j ≡ i → ⊥) → heard_of (node_of (at i)) (node_of (at j)) ≡ (read_by i j hi hj d).taken
   heard_other i j hi hj d =
       let r = read_by i j hi hj d in
-      rw (other_number (at j).number (at i).number (apart i j hi hj d)) (ap₂ take r.has_taken.count r.sent ∙ take-front r.taken r.unread)
+      rw (ne_eqb (at j).number (at i).number (apart i j hi hj d)) (ap₂ take r.has_taken.count r.sent ∙ take-front r.taken r.unread)
 
   -- what holds of all that a member sent itself, and of what it took of each other one, holds of what it heard
   by_heard : (i j : ℕ) → (hi : i < length ms) → (hj : j < length ms) → (P : List Message → Type 0) → (j ≡ i → P (at j).sent) → ((d : j ≡ i → ⊥) → P (read_by i j hi hj d).taken) → P (heard_of (node_of (at i)) (node_of (at j)))
@@ -210,7 +203,7 @@ module _ (group : Group) (vocabulary : Vocabulary) (ms : List Member) (are : Are
           ≡ (((at j).number == (at i).number || (at j).number == x.stamp.member) || has_passed (latest_of (at i) (at j).number) x.stamp)
       one j hj =
           decide _ j i
-          (λ e. rw (same_number (at j).number (at i).number (ap (λ n. (at n).number) e)) refl)
+          (λ e. rw (eq-eqb (at j).number (at i).number (ap (λ n. (at n).number) e)) refl)
           (λ d. let r = read_by i j h hj d in
           ap (λ b. ((at j).number == (at i).number || (at j).number == x.stamp.member) || b)
           (ap (λ ms. has_later ms x.stamp) (heard_other i j h hj d) ∙ sym (passed_by_one stamp_of x.stamp r.taken (Rising-left stamp_of r.taken r.unread (lawful_front i j h hj d).rising)) ∙ ap (λ o. has_passed o x.stamp) (sym r.has_taken.latest)))

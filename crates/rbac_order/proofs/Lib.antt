@@ -5,6 +5,7 @@ pub mod HistoryLemmas
 pub mod MemberLemmas
 pub mod MessageLemmas
 pub mod PlayLemmas
+pub mod RangeLemmas
 pub mod ReplayLemmas
 pub mod SenderLemmas
 pub mod StampLemmas

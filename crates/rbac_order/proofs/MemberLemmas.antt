@@ -1,7 +1,7 @@
 -- What a member keeps: as it is founded, by a submit, by a delivery and by a receipt.
 use Rattle.std.proofs.Common.{ℕ, zero, suc, Bool, true, false, cond, max, ◌≡◌, ◌≤◌, ◌<◌, ◌+◌, ◌-◌, ◌==◌, ◌||◌, ◌&&◌, inl, List, [], ◌∷◌, ◌++◌, length, map, drop, get_or, set, replicate, refl, sym, ap, subst, ◌∙◌, arith, true≢false, append_assoc, append-nil, length-append, length-set, get_or-set_same, get_or-set_other, nat_le, nat_lt, Option, Some, None}
 use Rattle.std.specs.List.{AllByRecursion as Each, filter, list_all}
-use Rattle.std.proofs.lemmas.Bool.{or_left, or_right}
+use Rattle.std.proofs.lemmas.Bool.{or_left, or_right, ne_eqb}
 use Rattle.std.proofs.lemmas.Bool.Decides.{nat_tests}
 use Rattle.std.proofs.lemmas.List.{length-replicate}
 use Rattle.std.proofs.lemmas.List.Elements.{filter-append}
@@ -193,11 +193,8 @@ passed_by_each v x e k is other not_own =
     let low : 1 ≤ k = is.low in let high : k ≤ v.group.members = is.high in
     let one = all_numbers (λ j. (j == v.number || j == x.stamp.member) || has_passed (latest_of v j) x.stamp) v.group.members 0 (k - 1) e (omega arith) in
     let here = subst (λ j. ((j == v.number || j == x.stamp.member) || has_passed (latest_of v j) x.stamp) ≡ true) (let g : suc (0 + (k - 1)) ≡ k = omega arith in g) one in
-    neither (k == v.number) (k == x.stamp.member) (has_passed (latest_of v k) x.stamp) (differ k v.number other) (differ k x.stamp.member (λ f. not_own (sym f))) here
+    neither (k == v.number) (k == x.stamp.member) (has_passed (latest_of v k) x.stamp) (ne_eqb k v.number other) (ne_eqb k x.stamp.member (λ f. not_own (sym f))) here
   where
-    differ : (m n : ℕ) → (m ≡ n → ⊥) → (m == n) ≡ false
-    differ m n d = grind (arith, nat_tests)
-
     neither : (a b c : Bool) → a ≡ false → b ≡ false → ((a || b) || c) ≡ true → c ≡ true
     neither true b c p q r = absurd (true≢false p)
     neither false true c p q r = absurd (true≢false q)

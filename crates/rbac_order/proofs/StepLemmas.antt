@@ -1,7 +1,7 @@
 -- Each step leaves the members of a group members of a group, and so does each list of events.
 use Rattle.std.proofs.Common.{ℕ, zero, suc, Bool, true, false, cond, ◌≡◌, ◌≤◌, ◌<◌, ◌+◌, ◌-◌, ◌==◌, ◌||◌, ◌&&◌, nat_lt, nat_le, List, [], ◌∷◌, ◌++◌, length, map, drop, get_or, set, replicate, refl, sym, ap, subst, ◌∙◌, arith, true≢false, append-nil, append_assoc, length-append, length-set, get_or-set_same, get_or-set_other, Option, Some, None}
 use Rattle.std.specs.List.{AllByRecursion as Each, filter}
-use Rattle.std.proofs.lemmas.Bool.Decides.{nat_tests}
+use Rattle.std.proofs.lemmas.Bool.{eqb-false}
 use Rattle.std.proofs.lemmas.List.{length-map, map-set}
 use Rattle.rbac_terms.specs.Vocabulary.{Vocabulary}
 use Rattle.rbac_words.specs.Group.{Group, IsGroup}
@@ -26,6 +26,7 @@ use Rattle.rbac_words.specs.declared.message.Message.TheVariants.{Call, Ack}
 use Rattle.rbac_words.specs.declared.message.Submission.{Submission}
 use Rattle.rbac_words.specs.declared.record.Record.{Record}
 use Rattle.sorted_keys.proofs.Lists.{Each-right}
+use Rattle.rbac_order.proofs.RangeLemmas.{in_range, was_sent, meets}
 use Rattle.rbac_order.proofs.StampLemmas.{last_stamp-push, after_last}
 use Rattle.rbac_order.proofs.MessageLemmas.{submissions-append, CountsFrom-left}
 use Rattle.std.proofs.lemmas.List.Elements.{filter-append}
@@ -220,10 +221,7 @@ module _ (group : Group) (vocabulary : Vocabulary) (ms : List Member) (are : Are
 
   -- the place of a member's number
   pub in_group : (k : ℕ) → is_member w k ≡ true → (1 ≤ k) × (k - 1 < length ms)
-  in_group k e = let a : length w.nodes ≡ length ms = length-map ms node_of in let p : (1 ≤ k) × (k ≤ length w.nodes) = both k (length w.nodes) e in let low : 1 ≤ k = p.0 in let high : k ≤ length w.nodes = p.1 in (low, omega arith)
-    where
-      both : (m n : ℕ) → (nat_le 1 m && nat_le m n) ≡ true → (1 ≤ m) × (m ≤ n)
-      both m n f = (grind (arith, nat_tests), grind (arith, nat_tests))
+  in_group k e = let a : length w.nodes ≡ length ms = length-map ms node_of in let p : (1 ≤ k) × (k ≤ length w.nodes) = in_range k (length w.nodes) e in let low : 1 ≤ k = p.0 in let high : k ≤ length w.nodes = p.1 in (low, omega arith)
 
   submit_step : (k caller serial : ℕ) (command : Command) → AreAfter (Submit k caller serial command)
   submit_step k caller serial command = go (refusal w (Submit k caller serial command)) refl
@@ -272,13 +270,7 @@ module _ (group : Group) (vocabulary : Vocabulary) (ms : List Member) (are : Are
       let a = if_none (n == 0 || nat_lt (length sender.sent) n) NotSent _ e in
       let b = if_none (nat_lt n (read_of v sender.number + 1)) (Repeat (read_of v sender.number + 1)) _ a.1 in
       let c = if_none (nat_lt (read_of v sender.number + 1) n) (Gap (read_of v sender.number + 1)) _ b.1 in
-      record { sent = within (length sender.sent) n a.0; next = meets (read_of v sender.number) n b.0 c.0; room = c.1 }
-    where
-      within : (m k : ℕ) → (k == 0 || nat_lt m k) ≡ false → k ≤ m
-      within m k f = grind (arith, nat_tests)
-
-      meets : (m k : ℕ) → nat_lt k (m + 1) ≡ false → nat_lt (m + 1) k ≡ false → k ≡ m + 1
-      meets m k f g = grind (arith, nat_tests)
+      record { sent = was_sent (length sender.sent) n a.0; next = meets (read_of v sender.number + 1) n b.0 c.0; room = c.1 }
 
   -- the message of the expected number, where it was sent, is the first that was not read
   pub comes_next : (i j n : ℕ) → (hi : i < length ms) → (hj : j < length ms) → (d : j ≡ i → ⊥) → n ≡ read_of (node_of (at i)) (at j).number + 1 → n ≤ length (at j).sent
@@ -307,9 +299,6 @@ module _ (group : Group) (vocabulary : Vocabulary) (ms : List Member) (are : Are
   receive_step : (k from n : ℕ) → AreAfter (Receive k from n)
   receive_step k from n = go (refusal w (Receive k from n)) refl
     where
-      differ : (a b : ℕ) → (a == b) ≡ false → a ≡ b → ⊥
-      differ a b f e = grind (arith, nat_tests)
-
       go : (o : Option Refusal) → refusal w (Receive k from n) ≡ o → AreAfter (Receive k from n)
       go (Some r) e = stays (Receive k from n) r e
       go None e =
@@ -321,7 +310,7 @@ module _ (group : Group) (vocabulary : Vocabulary) (ms : List Member) (are : Are
           let free = subst (λ (v : Node). receive_refusal group v (node_of (at (from - 1))) n ≡ None) (node_is k) (subst (λ (u : Node). receive_refusal group (node w k) u n ≡ None) (node_is from) q.1) in
           let m : Message = message (node_of (at (from - 1))) n in
           moves (Receive k from n) (set ms (k - 1) (received (at (k - 1)) (from - 1 + 1) m)) e
-          (members_receive (k - 1) (from - 1) n here.1 there.1 (λ f. differ from k q.0 (omega arith)) free)
+          (members_receive (k - 1) (from - 1) n here.1 there.1 (λ f. eqb-false from k q.0 (omega arith)) free)
           (world_set (k - 1) (received (at (k - 1)) (from - 1 + 1) m)
           ∙ ap (λ j. with_node w k (receive_at (node_of (at (k - 1))) j m)) (let z : from - 1 + 1 ≡ from = omega arith in z)
           ∙ ap (λ (u : Node). with_node w k (receive_at (node_of (at (k - 1))) from (message u n))) (sym (node_is from))

@@ -8,6 +8,7 @@ use Rattle.std.proofs.lemmas.Bool.{and_parts, and_from}
 use Rattle.std.proofs.lemmas.List.Kept.{IsStrictlySortedBy-filter}
 use Rattle.sorted_keys.specs.Keys.{has}
 use Rattle.sorted_keys.proofs.Members.{has-filter, same_keys}
+use Rattle.sorted_keys.proofs.Lists.{any-same, filter-same}
 use Rattle.rbac_terms.specs.Name.{Name, Permission, Grant, name_cmp, pair_cmp}
 use Rattle.rbac_terms.specs.State.{State}
 use Rattle.rbac_terms.specs.Inheritance.{inherits, juniors, seniors}
@@ -33,18 +34,6 @@ module _ {X : Type 0} where
       go : (b : Bool) → list_any q (filter p xs) ≡ list_any (λ y. p y && q y) xs → list_any q (cond b (x ∷ filter p xs) (filter p xs)) ≡ ((b && q x) || list_any (λ y. p y && q y) xs)
       go true rest = ap (λ t. q x || t) rest
       go false rest = rest
-
-  pub any-same : (p q : X → Bool) → ((x : X) → p x ≡ q x) → (xs : List X) → list_any p xs ≡ list_any q xs
-  any-same p q same [] = refl
-  any-same p q same (x ∷ xs) = λ i. same x i || any-same p q same xs i
-
-  pub all-same : (p q : X → Bool) → ((x : X) → p x ≡ q x) → (xs : List X) → list_all p xs ≡ list_all q xs
-  all-same p q same [] = refl
-  all-same p q same (x ∷ xs) = λ i. same x i && all-same p q same xs i
-
-  pub filter-same : (p q : X → Bool) → ((x : X) → p x ≡ q x) → (xs : List X) → filter p xs ≡ filter q xs
-  filter-same p q same [] = refl
-  filter-same p q same (x ∷ xs) = λ i. cond (same x i) (x ∷ filter-same p q same xs i) (filter-same p q same xs i)
 
 -- who is authorized for it, for that one it is a role
 pub authorized_for_a_role : (s : State) (user role : Name) → is_authorized s user role ≡ (has name_cmp role s.roles && is_authorized s user role)

@@ -55,6 +55,9 @@ impl Parts<'_> {
 
     /// The operations on the object among the permissions of the role (ANSI INCITS 359-2004, 6.1.4 and 6.2:
     /// RoleOperationsOnObject).
+    ///
+    /// # Errors
+    /// `AllocError` where there is no memory for it.
     pub fn role_operations_on_object(
         &self,
         alloc: Global,
@@ -68,6 +71,9 @@ impl Parts<'_> {
     }
 
     /// The operations on the object among the permissions of the user (6.1.4 and 6.2: UserOperationsOnObject).
+    ///
+    /// # Errors
+    /// `AllocError` where there is no memory for it.
     pub fn user_operations_on_object(
         &self,
         alloc: Global,

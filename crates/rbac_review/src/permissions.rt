@@ -22,7 +22,12 @@ fn is_to_one(grants: &[((Name, Name), Name)], roles: &NameSet) -> bool
 }
 
 /// Whether the operation on the object is granted to one of the roles.
-pub fn is_granted_to_one(sets: &RoleSets, roles: &NameSet, operation: &Name, object: &Name) -> bool
+pub(crate) fn is_granted_to_one(
+    sets: &RoleSets,
+    roles: &NameSet,
+    operation: &Name,
+    object: &Name,
+) -> bool
     ensures { result ≡ is_granted_to_one roles.now sets.now.content.granted (operation.now, object.now) }
 {
     is_to_one(sets.grants_of(operation, object), roles)
@@ -59,6 +64,9 @@ impl Parts<'_> {
     ghost use Rattle.rbac_review.specs.Parts.{state_of};
 
     /// The permissions of the role, inherited ones included (ANSI INCITS 359-2004, 6.1.4 and 6.2: RolePermissions).
+    ///
+    /// # Errors
+    /// `AllocError` where there is no memory for it.
     pub fn role_permissions(&self, alloc: Global, role: &Name) -> Result<PermissionSet, AllocError>
         ensures { IfOk result (λ permissions. permissions ≡ role_permissions (state_of self.now) role.now) }
     {
@@ -67,6 +75,9 @@ impl Parts<'_> {
     }
 
     /// The permissions of the roles that the user is authorized for (6.1.4 and 6.2: UserPermissions).
+    ///
+    /// # Errors
+    /// `AllocError` where there is no memory for it.
     pub fn user_permissions(&self, alloc: Global, user: &Name) -> Result<PermissionSet, AllocError>
         ensures { IfOk result (λ permissions. permissions ≡ user_permissions (state_of self.now) user.now) }
     {
@@ -85,6 +96,9 @@ impl Parts<'_> {
     }
 
     /// The permissions of the roles that are active in the session (6.1.4: SessionPermissions).
+    ///
+    /// # Errors
+    /// `AllocError` where there is no memory for it.
     pub fn session_permissions(
         &self,
         alloc: Global,

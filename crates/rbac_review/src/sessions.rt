@@ -10,6 +10,9 @@ impl Parts<'_> {
     ghost use Rattle.rbac_review.specs.Parts.{state_of};
 
     /// The roles that are active in the session (ANSI INCITS 359-2004, 6.1.4: SessionRoles).
+    ///
+    /// # Errors
+    /// `AllocError` where there is no memory for it.
     pub fn session_roles(&self, alloc: Global, session: &Name) -> Result<NameSet, AllocError>
         ensures { IfOk result (λ roles. roles ≡ active_roles (state_of self.now) session.now) }
     {

@@ -13,6 +13,9 @@ impl Parts<'_> {
     ghost use Rattle.rbac_review.specs.Parts.{state_of};
 
     /// The names of the sets of a kind (ANSI INCITS 359-2004, 6.3 and 6.4: SsdRoleSets, DsdRoleSets).
+    ///
+    /// # Errors
+    /// `AllocError` where there is no memory for it.
     pub fn role_sets(&self, alloc: Global, kind: Separation) -> Result<NameSet, AllocError>
         ensures { IfOk result (λ names. names ≡ set_names (sets_of kind (state_of self.now))) }
     {
@@ -20,6 +23,9 @@ impl Parts<'_> {
     }
 
     /// The roles of a set of the kind (6.3 and 6.4: SsdRoleSetRoles, DsdRoleSetRoles).
+    ///
+    /// # Errors
+    /// `AllocError` where there is no memory for it.
     pub fn role_set_roles(
         &self,
         alloc: Global,

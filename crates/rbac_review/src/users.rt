@@ -63,6 +63,9 @@ impl Parts<'_> {
     ghost use Rattle.rbac_review.specs.Parts.{state_of};
 
     /// The users that the role is assigned to (ANSI INCITS 359-2004, 6.1.3: AssignedUsers).
+    ///
+    /// # Errors
+    /// `AllocError` where there is no memory for it.
     pub fn assigned_users(&self, alloc: Global, role: &Name) -> Result<NameSet, AllocError>
         ensures { let s = state_of self.now in IfOk result (λ users. users ≡ users_of role.now s.users s.assigned) }
     {
@@ -70,6 +73,9 @@ impl Parts<'_> {
     }
 
     /// The roles that are assigned to the user (6.1.3: AssignedRoles).
+    ///
+    /// # Errors
+    /// `AllocError` where there is no memory for it.
     pub fn assigned_roles(&self, alloc: Global, user: &Name) -> Result<NameSet, AllocError>
         ensures { let s = state_of self.now in IfOk result (λ roles. roles ≡ roles_of user.now s.roles s.assigned) }
     {
@@ -77,6 +83,9 @@ impl Parts<'_> {
     }
 
     /// The users that are authorized for the role, inherited roles counted (6.2: AuthorizedUsers).
+    ///
+    /// # Errors
+    /// `AllocError` where there is no memory for it.
     pub fn authorized_users(&self, alloc: Global, role: &Name) -> Result<NameSet, AllocError>
         ensures { IfOk result (λ users. users ≡ authorized_users (state_of self.now) role.now) }
     {
@@ -85,6 +94,9 @@ impl Parts<'_> {
     }
 
     /// The roles that the user is authorized for, inherited ones counted (6.2: AuthorizedRoles).
+    ///
+    /// # Errors
+    /// `AllocError` where there is no memory for it.
     pub fn authorized_roles(&self, alloc: Global, user: &Name) -> Result<NameSet, AllocError>
         ensures { IfOk result (λ roles. roles ≡ authorized_roles (state_of self.now) user.now) }
     {

@@ -9,7 +9,7 @@ use sorted_keys::KeyTest;
 
 /// The users that a role is assigned to.
 #[derive(Drop)]
-pub struct UsersOf<'a> {
+pub(crate) struct UsersOf<'a> {
     pub sets: &'a RoleSets,
     pub role: &'a Name,
 }

@@ -13,6 +13,9 @@ pub type Plan = staged::Plan<Step>;
 
 impl RoleSets {
     /// Makes the names of the changes, and room for them. The sets stay as they are, also where memory ends.
+    ///
+    /// # Errors
+    /// `AllocError` where there is no memory for the plan. No set has changed.
     pub fn plan(&mut self, alloc: Global, changes: &[Change]) -> Result<Plan, AllocError>
         ensures content { self.new.content ≡ self.old.content }
         ensures changes { IfOk result (λ plan. made_all made plan self.old.content ≡ made_all changed changes.now self.old.content) }

@@ -7,7 +7,7 @@ use sorted_keys::KeyTest;
 
 /// The pairs of other users.
 #[derive(Drop)]
-pub struct OtherUsers<'a> {
+pub(crate) struct OtherUsers<'a> {
     pub user: &'a Name,
 }
 
@@ -21,7 +21,7 @@ impl<A> KeyTest<(Name, A)> for OtherUsers<'_> {
 
 /// The pairs of other roles.
 #[derive(Drop)]
-pub struct OtherRoles<'a> {
+pub(crate) struct OtherRoles<'a> {
     pub role: &'a Name,
 }
 

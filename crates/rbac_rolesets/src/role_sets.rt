@@ -119,6 +119,9 @@ impl RoleSets {
     }
 
     /// The users that pass a test.
+    ///
+    /// # Errors
+    /// `AllocError` where there is no memory for it.
     pub fn users_where<T: KeyTest<Name>>(
         &self,
         alloc: Global,
@@ -130,6 +133,9 @@ impl RoleSets {
     }
 
     /// The users that the role is assigned to.
+    ///
+    /// # Errors
+    /// `AllocError` where there is no memory for it.
     pub fn users_of(&self, alloc: Global, role: &Name) -> Result<NameSet, AllocError>
         ensures { let s = self.now.content in IfOk result (λ users. users ≡ users_of role.now s.users s.assigned) }
     {
@@ -137,6 +143,9 @@ impl RoleSets {
     }
 
     /// The roles that are assigned to the user.
+    ///
+    /// # Errors
+    /// `AllocError` where there is no memory for it.
     pub fn roles_of(&self, alloc: Global, user: &Name) -> Result<NameSet, AllocError>
         ensures { let s = self.now.content in IfOk result (λ roles. roles ≡ roles_of user.now s.roles s.assigned) }
     {
@@ -145,6 +154,9 @@ impl RoleSets {
     }
 
     /// Adds a user. Where it is there, nothing changes.
+    ///
+    /// # Errors
+    /// `AllocError` where there is no memory for it. Nothing has changed.
     pub fn add_user(&mut self, user: Name) -> Result<(), AllocError>
         ensures added { let s = self.old.content in OnOk result (self.new.content ≡ record s { users = with_key name_cmp user s.users }) }
         ensures unchanged { OnErr result (self.new.content ≡ self.old.content) }
@@ -161,6 +173,9 @@ impl RoleSets {
     }
 
     /// Adds a role. Where it is there, nothing changes.
+    ///
+    /// # Errors
+    /// `AllocError` where there is no memory for it. Nothing has changed.
     pub fn add_role(&mut self, role: Name) -> Result<(), AllocError>
         ensures added { let s = self.old.content in OnOk result (self.new.content ≡ record s { roles = with_key name_cmp role s.roles }) }
         ensures unchanged { OnErr result (self.new.content ≡ self.old.content) }
@@ -178,6 +193,9 @@ impl RoleSets {
     }
 
     /// Assigns a role to a user. Where it is assigned, nothing changes.
+    ///
+    /// # Errors
+    /// `AllocError` where there is no memory for it. Nothing has changed.
     pub fn assign(&mut self, user: Name, role: Name) -> Result<(), AllocError>
         ensures assigned { let s = self.old.content in OnOk result (self.new.content ≡ record s { assigned = with_key pair_cmp (user, role) s.assigned }) }
         ensures unchanged { OnErr result (self.new.content ≡ self.old.content) }
@@ -193,6 +211,9 @@ impl RoleSets {
     }
 
     /// Grants an operation on an object to a role. Where it is granted, nothing changes.
+    ///
+    /// # Errors
+    /// `AllocError` where there is no memory for it. Nothing has changed.
     pub fn grant(&mut self, operation: Name, object: Name, role: Name) -> Result<(), AllocError>
         ensures granted { let s = self.old.content in OnOk result (self.new.content ≡ record s { granted = with_key grant_cmp ((operation, object), role) s.granted }) }
         ensures unchanged { OnErr result (self.new.content ≡ self.old.content) }
@@ -218,6 +239,9 @@ impl RoleSets {
     }
 
     /// Equal sets.
+    ///
+    /// # Errors
+    /// `AllocError` where there is no memory for it.
     pub fn copy(&self) -> Result<RoleSets, AllocError>
         ensures { IfOk result (λ copy. copy.content ≡ self.now.content) }
     {

@@ -1,19 +1,10 @@
 -- What the proofs share that a command keeps a policy sound: preconditions that hold, and what stays of sets and sessions.
-use Rattle.std.proofs.Common.{ℕ, List, [], ◌∷◌, length, Bool, true, false, not, cond, ◌||◌, ◌&&◌, ◌≡◌, ◌≤◌, ◌+◌, IsTrue, Option, Some, None, is_some, refl, sym, ap, ◌∙◌, subst, arith}
-use Rattle.std.proofs.lemmas.Bool.{or_right, and_parts, and_from, false≢true}
-use Rattle.std.proofs.lemmas.List.Sums.{length-filter, count_by-le-length}
-use Rattle.std.specs.declared.cmp.Ordering.{Ordering}
-use Rattle.std.specs.declared.cmp.Ordering.TheVariants.{Less, Equal, Greater}
-use Rattle.std.specs.List.{filter, AllByRecursion as Each}
+use Rattle.std.proofs.Common.{List, [], ◌∷◌, length, Bool, true, false, not, cond, ◌||◌, ◌&&◌, ◌≡◌, ◌≤◌, ◌+◌, IsTrue, Some, None, refl, ◌∙◌}
+use Rattle.std.proofs.lemmas.Bool.{and_parts, false≢true}
+use Rattle.std.specs.List.{AllByRecursion as Each}
 use Rattle.std.specs.List.Sorted.{IsStrictlySortedBy}
-use Rattle.std.specs.Option.{option_map_or}
-use Rattle.std.specs.Ordering.{eq_by_cmp, is_eq}
-use Rattle.std.specs.Cmp.{IsTotalOrder}
-use Rattle.std.specs.FinMap.{IsAntisymmetric}
-use Rattle.std.specs.FinMap.Entries.{find, put, by_order}
-use Rattle.sorted_keys.specs.Keys.{has, with_key, by_key, updated}
-use Rattle.sorted_keys.proofs.Members.{has-with_key, has-filter}
-use Rattle.sorted_keys.proofs.EntryPlace.{put_length}
+use Rattle.sorted_keys.specs.Keys.{has, by_key}
+use Rattle.sorted_keys.proofs.Kept.{each_kept}
 use Rattle.rbac_terms.specs.Name.{Name, Permission, Grant, name_cmp, pair_cmp, grant_cmp}
 use Rattle.rbac_terms.specs.Limits.{most_users, most_roles, most_sessions}
 use Rattle.rbac_terms.specs.State.{State, Session}

@@ -11,7 +11,7 @@ use std::convert::Infallible;
 
 /// One more role in the set.
 #[derive(Drop)]
-pub struct MemberAddition {
+pub(crate) struct MemberAddition {
     pub role: Name,
 }
 
@@ -27,7 +27,7 @@ impl ValueChange<RoleSet> for MemberAddition {
 
 /// A role that is no more in the set.
 #[derive(Drop)]
-pub struct MemberRemoval<'a> {
+pub(crate) struct MemberRemoval<'a> {
     pub role: &'a Name,
 }
 
@@ -44,7 +44,7 @@ impl ValueChange<RoleSet> for MemberRemoval<'_> {
 
 /// Another number of the set.
 #[derive(Drop)]
-pub struct CardinalityChange {
+pub(crate) struct CardinalityChange {
     pub cardinality: u32,
 }
 

@@ -160,6 +160,9 @@ impl Counts {
 
     /// Gives a set and a user a number. Names are copied where there was none, and 0 takes the number out: that needs no memory,
     /// nor does another number for the same pair.
+    ///
+    /// # Errors
+    /// `AllocError` where there is no memory for it. Nothing has changed.
     pub fn put(&mut self, set: &Name, user: &Name, number: u32) -> Result<(), AllocError>
         ensures put { OnOk result (numbers_of self.new ≡ with_number set.now user.now number (numbers_of self.old)) }
         ensures unchanged { OnErr result (self.new.content ≡ self.old.content) }
@@ -185,6 +188,9 @@ impl Counts {
     }
 
     /// Makes room for the numbers of so many more pairs. The numbers stay as they are, also where memory ends.
+    ///
+    /// # Errors
+    /// `AllocError` where there is no memory for so many more. No number has changed.
     pub fn reserve(&mut self, more: usize) -> Result<(), AllocError>
         ensures numbers { numbers_of self.new ≡ numbers_of self.old }
         ensures room { OnOk result (more ≤ self.new.room) }
@@ -233,6 +239,9 @@ impl Counts {
     }
 
     /// Equal numbers.
+    ///
+    /// # Errors
+    /// `AllocError` where there is no memory for it.
     pub fn copy(&self) -> Result<Counts, AllocError>
         ensures { IfOk result (λ copy. copy.content ≡ self.now.content) }
     {
@@ -301,6 +310,9 @@ impl Staged<CountChange<'_>> for Counts {
 
 impl Counts {
     /// Makes the names of the changes, and room for them. The numbers stay as they are, also where memory ends.
+    ///
+    /// # Errors
+    /// `AllocError` where there is no memory for the plan. Nothing that it is about has changed.
     pub fn plan(&mut self, alloc: Global, changes: &[CountChange]) -> Result<CountPlan, AllocError>
         ensures content { numbers_of self.new ≡ numbers_of self.old }
         ensures changes { IfOk result (λ plan. with_numbers plan (numbers_of self.old) ≡ made_all numbers_after changes.now (numbers_of self.old)) }

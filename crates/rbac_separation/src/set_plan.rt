@@ -75,6 +75,9 @@ pub type SetPlan = Plan<(Name, Option<RoleSet>)>;
 
 impl SetTable {
     /// Makes the names and sets of the changes, and room for them. The sets stay as they are, also where memory ends.
+    ///
+    /// # Errors
+    /// `AllocError` where there is no memory for the plan. Nothing that it is about has changed.
     pub fn plan(&mut self, alloc: Global, changes: &[SetChange]) -> Result<SetPlan, AllocError>
         ensures content { self.new.content ≡ self.old.content }
         ensures changes { IfOk result (λ plan. after_entries name_cmp plan self.old.content ≡ made_all changed changes.now self.old.content) }

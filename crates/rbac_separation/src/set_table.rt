@@ -120,6 +120,9 @@ impl SetTable {
     }
 
     /// The names of the sets.
+    ///
+    /// # Errors
+    /// `AllocError` where there is no memory for it.
     pub fn names(&self, alloc: Global) -> Result<NameSet, AllocError>
         ensures { IfOk result (λ names. names ≡ map (λ e. e.0) self.now.content) }
     {
@@ -142,6 +145,9 @@ impl SetTable {
 
     /// Makes a set of these roles with this number, which it takes as it is: whether the roles are
     /// enough for the number is for the caller to see. A set of the same name is replaced.
+    ///
+    /// # Errors
+    /// `AllocError` where there is no memory for it. Nothing has changed.
     pub fn create(&mut self, set: Name, roles: NameSet, cardinality: u32) -> Result<(), AllocError>
         ensures created { OnOk result (self.new.content ≡ put name_cmp set (record { roles = roles; cardinality = cardinality }) self.old.content) }
         ensures unchanged { OnErr result (self.new.content ≡ self.old.content) }
@@ -157,6 +163,9 @@ impl SetTable {
     }
 
     /// Puts a role into a set. Where the set is not there, nothing changes.
+    ///
+    /// # Errors
+    /// `AllocError` where there is no memory for it. Nothing has changed.
     pub fn add_member(&mut self, set: &Name, role: Name) -> Result<(), AllocError>
         ensures added { OnOk result (self.new.content ≡ updated name_cmp set.now (λ s. record s { roles = with_key name_cmp role s.roles }) self.old.content) }
         ensures unchanged { OnErr result (self.new.content ≡ self.old.content) }
@@ -192,6 +201,9 @@ impl SetTable {
     }
 
     /// Equal sets.
+    ///
+    /// # Errors
+    /// `AllocError` where there is no memory for it.
     pub fn copy(&self) -> Result<SetTable, AllocError>
         ensures { IfOk result (λ copy. copy.content ≡ self.now.content) }
     {

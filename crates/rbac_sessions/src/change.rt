@@ -11,7 +11,7 @@ use std::convert::Infallible;
 
 /// One more role that is active.
 #[derive(Drop)]
-pub struct Activation {
+pub(crate) struct Activation {
     pub role: Name,
 }
 
@@ -27,7 +27,7 @@ impl ValueChange<Session> for Activation {
 
 /// A role that is no more active.
 #[derive(Drop)]
-pub struct Deactivation<'a> {
+pub(crate) struct Deactivation<'a> {
     pub role: &'a Name,
 }
 

@@ -71,6 +71,9 @@ pub type Plan = staged::Plan<(Name, Option<Session>)>;
 
 impl Sessions {
     /// Makes the names and sets of the changes, and room for them. The sessions stay as they are, also where memory ends.
+    ///
+    /// # Errors
+    /// `AllocError` where there is no memory for the plan. No session has changed.
     pub fn plan(&mut self, alloc: Global, changes: &[Change]) -> Result<Plan, AllocError>
         ensures content { self.new.content ≡ self.old.content }
         ensures changes { IfOk result (λ plan. after_entries name_cmp plan self.old.content ≡ made_all changed changes.now self.old.content) }

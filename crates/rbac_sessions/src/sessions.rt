@@ -1,9 +1,10 @@
 //! The sessions by their names.
 ghost use Rattle.std.specs.Prelude.{◌≡◌, ◌↔◌, [], List, Bool, not, length, filter, is_some, IsTrue, IfOk, OnOk, OnErr};
 ghost use Rattle.std.specs.List.{list_any};
+ghost use Rattle.std.specs.List.Sorted.{IsStrictlySortedBy};
 ghost use Rattle.std.specs.Option.{option_copied, option_map};
 ghost use Rattle.std.specs.FinMap.Entries.{find, put};
-ghost use Rattle.sorted_keys.specs.Keys.{with_key, without, without_key, updated};
+ghost use Rattle.sorted_keys.specs.Keys.{by_key, with_key, without, without_key, updated};
 ghost use Rattle.rbac_terms.specs.Name.{Name as NameValue, name_cmp};
 
 use crate::change::{Activation, Deactivation};
@@ -114,6 +115,9 @@ impl Sessions {
     }
 
     /// Opens a session of a user, in which these roles are active. One of the same name is replaced.
+    ///
+    /// # Errors
+    /// `AllocError` where there is no memory for it. Nothing has changed.
     pub fn create(&mut self, session: Name, user: Name, roles: NameSet) -> Result<(), AllocError>
         ensures created { OnOk result (self.new.content ≡ put name_cmp session (record { owner = user; active = roles }) self.old.content) }
         ensures unchanged { OnErr result (self.new.content ≡ self.old.content) }
@@ -133,6 +137,9 @@ impl Sessions {
     }
 
     /// Makes a role active in a session. Where the session is not there, nothing changes.
+    ///
+    /// # Errors
+    /// `AllocError` where there is no memory for it. Nothing has changed.
     pub fn activate(&mut self, session: &Name, role: Name) -> Result<(), AllocError>
         ensures activated { OnOk result (self.new.content ≡ updated name_cmp session.now (λ s. record s { active = with_key name_cmp role s.active }) self.old.content) }
         ensures unchanged { OnErr result (self.new.content ≡ self.old.content) }
@@ -165,6 +172,9 @@ impl Sessions {
     }
 
     /// Equal sessions.
+    ///
+    /// # Errors
+    /// `AllocError` where there is no memory for it.
     pub fn copy(&self) -> Result<Sessions, AllocError>
         ensures { IfOk result (λ copy. copy.content ≡ self.now.content) }
     {

@@ -54,6 +54,9 @@ pub enum Answer {
 
 impl Answer {
     /// An equal answer.
+    ///
+    /// # Errors
+    /// `AllocError` where there is no memory for it.
     pub fn copy(&self) -> Result<Answer, AllocError>
         ensures { IfOk result (λ copy. copy ≡ self.now) }
     {

@@ -175,6 +175,9 @@ fn shared(alloc: Global, bytes: &[u8]) -> Result<Arc<Bytes>, AllocError>
 
 impl Name {
     /// Reads a name: each byte string is a name or refused.
+    ///
+    /// # Errors
+    /// `BadName` where the bytes are no name; else `NoMemory` where there is no memory for them.
     pub fn read(alloc: Global, bytes: &[u8]) -> Result<Name, NameRefusal>
         ensures named { IfOk result (λ name. name ≡ bytes.now) }
         ensures well_formed { IfOk result (λ name. IsTrue (is_a_name name)) }
@@ -201,6 +204,9 @@ impl Name {
     }
 
     /// An equal name.
+    ///
+    /// # Errors
+    /// `AllocError` where there is no memory for it.
     pub fn copy(&self) -> Result<Name, AllocError>
         ensures { IfOk result (λ copy. copy ≡ self.now) }
     {

@@ -72,6 +72,9 @@ impl NameSet {
     }
 
     /// Adds a name. Where it is there, nothing changes.
+    ///
+    /// # Errors
+    /// `AllocError` where there is no memory for it. Nothing has changed.
     pub fn add(&mut self, name: Name) -> Result<(), AllocError>
         ensures added { OnOk result (self.new ≡ with_key name_cmp name self.old) }
         ensures unchanged { OnErr result (self.new ≡ self.old) }
@@ -81,6 +84,9 @@ impl NameSet {
     }
 
     /// Adds a copy of a name. Where it is there, nothing changes.
+    ///
+    /// # Errors
+    /// `AllocError` where there is no memory for it. Nothing has changed.
     pub fn add_copy(&mut self, name: &Name) -> Result<(), AllocError>
         ensures added { OnOk result (self.new ≡ with_key name_cmp name.now self.old) }
         ensures unchanged { OnErr result (self.new ≡ self.old) }
@@ -105,6 +111,9 @@ impl NameSet {
     }
 
     /// An equal set.
+    ///
+    /// # Errors
+    /// `AllocError` where there is no memory for it.
     pub fn copy(&self) -> Result<NameSet, AllocError>
         ensures { IfOk result (λ copy. copy ≡ self.now) }
     {

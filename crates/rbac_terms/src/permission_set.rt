@@ -41,6 +41,9 @@ impl PermissionSet {
     }
 
     /// An equal set.
+    ///
+    /// # Errors
+    /// `AllocError` where there is no memory for it.
     pub fn copy(&self) -> Result<PermissionSet, AllocError>
         ensures { IfOk result (λ copy. copy ≡ self.now) }
     {

@@ -27,6 +27,9 @@ pub enum Review {
 
 impl Review {
     /// An equal review.
+    ///
+    /// # Errors
+    /// `AllocError` where there is no memory for it.
     pub fn copy(&self) -> Result<Review, AllocError>
         ensures { IfOk result (λ copy. copy ≡ self.now) }
     {

@@ -68,6 +68,9 @@ fn are_listed(
 
 impl Vocabulary {
     /// A vocabulary of these lists. It takes no memory.
+    ///
+    /// # Errors
+    /// The first that applies: `TooMany`, `Repeated`, `UnknownName`.
     pub fn build(
         operations: Vec<Name>,
         objects: Vec<Name>,
@@ -123,6 +126,9 @@ impl Vocabulary {
     }
 
     /// The operations that pass a test.
+    ///
+    /// # Errors
+    /// `AllocError` where there is no memory for it.
     pub fn operations_where<T: KeyTest<Name>>(
         &self,
         alloc: Global,
@@ -134,6 +140,9 @@ impl Vocabulary {
     }
 
     /// The permissions that pass a test.
+    ///
+    /// # Errors
+    /// `AllocError` where there is no memory for it.
     pub fn permissions_where<T: KeyTest<(Name, Name)>>(
         &self,
         alloc: Global,
@@ -152,6 +161,9 @@ impl Vocabulary {
     }
 
     /// An equal vocabulary.
+    ///
+    /// # Errors
+    /// `AllocError` where there is no memory for it.
     pub fn copy(&self) -> Result<Vocabulary, AllocError>
         ensures { IfOk result (λ copy. copy ≡ self.now) }
     {

@@ -1,7 +1,7 @@
 //! What can happen to a group of members, what comes of it, and why an event is refused.
 
-use rbac_terms::Command;
 use crate::stamp::Stamp;
+use rbac_terms::Command;
 
 /// One atomic step on one member.
 #[derive(Drop)]

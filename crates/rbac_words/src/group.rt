@@ -37,6 +37,9 @@ pub enum GroupRefusal {
 
 impl Group {
     /// A group of these numbers.
+    ///
+    /// # Errors
+    /// The first that applies: `BadMembers`, `BadClock`, `BadSentLimit`.
     pub fn build(members: u32, clock: u64, sent_limit: u32) -> Result<Group, GroupRefusal>
         ensures built { IfOk result (λ g. g ≡ record { members = members; clock = clock; sent_limit = sent_limit }) }
         ensures fits { OnOk result (group_refusal members clock sent_limit ≡ None) }

@@ -2,8 +2,8 @@
 ghost use Rattle.std.specs.Prelude.{◌≡◌, IfOk};
 ghost use Rattle.rbac_words.specs.Message.{stamp_of};
 
-use rbac_terms::Command;
 use crate::stamp::Stamp;
+use rbac_terms::Command;
 use std::alloc::AllocError;
 
 /// A command as it was submitted: when and where, by which caller of that member, and with which serial, the number of that
@@ -42,6 +42,9 @@ impl Message {
     }
 
     /// An equal message.
+    ///
+    /// # Errors
+    /// `AllocError` where there is no memory for it.
     pub fn copy(&self) -> Result<Message, AllocError>
         ensures { IfOk result (λ copy. copy ≡ self.now) }
     {

@@ -1,9 +1,8 @@
 //! What a member's history keeps of a delivered command.
 ghost use Rattle.std.specs.Prelude.{◌≡◌, IfOk};
 
-use rbac_terms::Answer;
-use rbac_terms::Command;
 use crate::stamp::Stamp;
+use rbac_terms::{Answer, Command};
 use std::alloc::AllocError;
 
 /// A delivered command with its answer.
@@ -18,6 +17,9 @@ pub struct Record {
 
 impl Record {
     /// An equal record.
+    ///
+    /// # Errors
+    /// `AllocError` where there is no memory for it.
     pub fn copy(&self) -> Result<Record, AllocError>
         ensures { IfOk result (λ copy. copy ≡ self.now) }
     {

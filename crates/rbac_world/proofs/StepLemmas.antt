@@ -1,7 +1,7 @@
 -- A move of one member of a group is the step of its world.
 use Rattle.std.proofs.Common.{ℕ, Bool, true, false, not, cond, ◌≡◌, ◌≤◌, ◌<◌, ◌+◌, ◌-◌, ◌==◌, ◌||◌, ◌&&◌, ◌⊎◌, inl, inr, nat_lt, nat_le, List, [], ◌∷◌, ◌++◌, length, set, get_or, drop, Option, Some, None, is_some, Result, Ok, Err, refl, sym, ap, subst, ◌∙◌, arith}
 use Rattle.std.specs.List.{filter}
-use Rattle.std.proofs.lemmas.Bool.Decides.{nat_tests}
+use Rattle.std.proofs.lemmas.Bool.{eq-eqb, ne_eqb}
 use Rattle.std.proofs.lemmas.List.{length-map, set-get_or}
 use Rattle.std.proofs.lemmas.List.Elements.{filter-append}
 use Rattle.rbac_terms.specs.Vocabulary.{Vocabulary}
@@ -27,7 +27,8 @@ use Rattle.rbac_words.specs.declared.message.Submission.{Submission}
 use Rattle.rbac_words.specs.declared.stamp.Stamp.{Stamp}
 use Rattle.rbac_order.proofs.StampLemmas.{true_before}
 use Rattle.rbac_order.proofs.MessageLemmas.{CountsFrom-next}
-use Rattle.rbac_order.proofs.GroupLemmas.{apart, read_by, due_is_due, same_number, other_number}
+use Rattle.rbac_order.proofs.RangeLemmas.{is_in_range, is_below_range, is_above_range, was_sent, meets}
+use Rattle.rbac_order.proofs.GroupLemmas.{apart, read_by, due_is_due}
 use Rattle.rbac_order.proofs.StepLemmas.{world_set, node_is, next_of as next_message, comes_next, members_submitted, members_receive, members_delivered, deliver_is}
 use Rattle.rbac_world.specs.Moves.{Move, IsMoved, IsMovedAt, submit_of, receipt_refusal, receipt_of, delivery_of, IsGroupStep}
 use Rattle.rbac_world.proofs.PlaceLemmas.{moved_at}
@@ -106,10 +107,7 @@ module _ (group : Group) (vocabulary : Vocabulary) (ms : List Member) (are : Are
   -- ---- Members and strangers
 
   inside : (i : ℕ) → i < length ms → is_member w (i + 1) ≡ true
-  inside i h = let a : length w.nodes ≡ length ms = length-map ms node_of in both i (length w.nodes) (omega arith)
-    where
-      both : (m n : ℕ) → m < n → (nat_le 1 (m + 1) && nat_le (m + 1) n) ≡ true
-      both m n l = grind (arith, nat_tests)
+  inside i h = let a : length w.nodes ≡ length ms = length-map ms node_of in is_in_range (i + 1) (length w.nodes) (omega arith) (omega arith)
 
   node_at : (i : ℕ) → node w (i + 1) ≡ node_of (at i)
   node_at i = node_is group vocabulary ms are (i + 1) ∙ ap (λ k. node_of (at k)) (let z : i + 1 - 1 ≡ i = omega arith in z)
@@ -118,13 +116,7 @@ module _ (group : Group) (vocabulary : Vocabulary) (ms : List Member) (are : Are
   place i v = world_set group vocabulary ms are i v ∙ ap (λ k. let z : World = record w { nodes = set w.nodes k (node_of v) } in z) (let z : i ≡ i + 1 - 1 = omega arith in z)
 
   pub stranger : (k : ℕ) → (k < 1) ⊎ (length ms < k) → is_member w k ≡ false
-  stranger k h = let a : length w.nodes ≡ length ms = length-map ms node_of in elim h [ inl l ↦ low k (length w.nodes) l | inr l ↦ high k (length w.nodes) (omega arith) ]
-    where
-      low : (m n : ℕ) → m < 1 → (nat_le 1 m && nat_le m n) ≡ false
-      low m n l = grind (arith, nat_tests)
-
-      high : (m n : ℕ) → n < m → (nat_le 1 m && nat_le m n) ≡ false
-      high m n l = grind (arith, nat_tests)
+  stranger k h = let a : length w.nodes ≡ length ms = length-map ms node_of in elim h [ inl l ↦ is_below_range k (length w.nodes) l | inr l ↦ is_above_range k (length w.nodes) (omega arith) ]
 
   -- an event of a stranger
   pub by_stranger : (e : Event) → refusal w e ≡ Some refused.UnknownMember → IsGroupStep group vocabulary ms e (Err refused.UnknownMember) ms
@@ -148,7 +140,7 @@ module _ (group : Group) (vocabulary : Vocabulary) (ms : List Member) (are : Are
 
   pub from_itself : (i n : ℕ) → i < length ms → IsGroupStep group vocabulary ms (Receive (i + 1) (i + 1) n) (Err refused.FromSelf) ms
   from_itself i n h = record {
-    step = not_taken w (Receive (i + 1) (i + 1) n) refused.FromSelf (rw (inside i h) (rw (same_number (i + 1) (i + 1) refl) refl)) (λ f. cc);
+    step = not_taken w (Receive (i + 1) (i + 1) n) refused.FromSelf (rw (inside i h) (rw (eq-eqb (i + 1) (i + 1) refl) refl)) (λ f. cc);
     members = are;
   }
 
@@ -165,10 +157,7 @@ module _ (group : Group) (vocabulary : Vocabulary) (ms : List Member) (are : Are
   linked i j hi hj =
       let a : (at j).number ≡ j + 1 = number j hj in let b : length ms ≡ group.members = are.count in
       let c : (at i).group.members ≡ group.members = ap (λ (g : Group). g.members) (group_of i hi) in
-      let e : length (at i).read ≡ (at i).group.members = (are.kept i hi).reads in both (at j).number (length (at i).read) (omega arith) (omega arith)
-    where
-      both : (p q : ℕ) → 1 ≤ p → p ≤ q → (nat_le 1 p && nat_le p q) ≡ true
-      both p q l h = grind (arith, nat_tests)
+      let e : length (at i).read ≡ (at i).group.members = (are.kept i hi).reads in is_in_range (at j).number (length (at i).read) (omega arith) (omega arith)
 
   submits : (i caller serial : ℕ) (c : Command) → i < length ms → IsMoveOf i (submit_of (at i) caller serial c) (Submit (i + 1) caller serial c)
   submits i caller serial c h =
@@ -209,18 +198,18 @@ module _ (group : Group) (vocabulary : Vocabulary) (ms : List Member) (are : Are
 
   -- the next message of a sender has a rising stamp
   is_rising : (v : Member) (k : ℕ) (m : Message) → IsNext v k m → is_rising_of (links_of v) k (stamp_of m) ≡ true
-  is_rising v k m next = rw (same_number (stamp_of m).member k next.sender) (is_after_true (latest_of v k) (stamp_of m) next.after)
+  is_rising v k m next = rw (eq-eqb (stamp_of m).member k next.sender) (is_after_true (latest_of v k) (stamp_of m) next.after)
 
   -- and its command the next serial
   in_turn : (v : Member) (k : ℕ) (m : Message) → IsNext v k m → serial_refusal v m ≡ None
   in_turn v k (Ack s) next = refl
-  in_turn v k (Call s caller serial command) next = rw (same_number serial (next_serial caller (filter (is_of s.member) (known v))) is) refl
+  in_turn v k (Call s caller serial command) next = rw (eq-eqb serial (next_serial caller (filter (is_of s.member) (known v))) is) refl
     where
       x : Submission
       x = record { stamp = s; caller = caller; serial = serial; command = command }
 
       own : filter (is_by caller) (x ∷ []) ≡ x ∷ []
-      own = rw (same_number caller caller refl) refl
+      own = rw (eq-eqb caller caller refl) refl
 
       in_order : CountsFrom 0 (filter (is_by caller) (filter (is_of k) (known v)) ++ x ∷ [])
       in_order = subst (CountsFrom 0) (filter-append (is_by caller) (filter (is_of k) (known v)) (x ∷ []) ∙ ap (λ l. filter (is_by caller) (filter (is_of k) (known v)) ++ l) own) (next.serials caller)
@@ -246,13 +235,7 @@ module _ (group : Group) (vocabulary : Vocabulary) (ms : List Member) (are : Are
       expected = read_of (node_of (at i)) k + 1
 
       other : (k == (at i).number) ≡ false
-      other = other_number k (at i).number (apart group vocabulary ms are i j hi hj d)
-
-      within : (p q : ℕ) → (q == 0 || nat_lt p q) ≡ false → q ≤ p
-      within p q e = grind (arith, nat_tests)
-
-      meets : (p q : ℕ) → nat_lt q p ≡ false → nat_lt p q ≡ false → q ≡ p
-      meets p q e f = grind (arith, nat_tests)
+      other = ne_eqb k (at i).number (apart group vocabulary ms are i j hi hj d)
 
       by_link : (o : Option Refusal) → cond (not (has_link (links_of (at i)) k)) (Some refused.UnknownMember) (cond (k == (at i).number) (Some refused.FromSelf) o) ≡ o
       by_link o = rw (linked i j hi hj, other) refl
@@ -274,12 +257,12 @@ module _ (group : Group) (vocabulary : Vocabulary) (ms : List Member) (are : Are
           ≡ cond b (Some refused.NotSent) (message_refusal (at i) k n m)
       go true e = refl
       go false e =
-          by_number (nat_lt n expected) (nat_lt expected n) refl refl (within (length (at j).sent) n e)
+          by_number (nat_lt n expected) (nat_lt expected n) refl refl (was_sent (length (at j).sent) n e)
           ∙ ap (λ (o : Option Refusal). or_else o (or_else (room_refusal (at i).group (node_of (at i)) m) (serial_refusal (at i) m))) (sym (by_link _))
 
   receives : (i j n : ℕ) → i < length ms → j < length ms → (j ≡ i → ⊥) → IsMoveOf i (receipt_of (at i) (at j) n) (Receive (i + 1) (j + 1) n)
   receives i j n hi hj d = record {
-    refused = rw (inside i hi, inside j hj) (rw (other_number (j + 1) (i + 1) (λ e. d (omega arith)))
+    refused = rw (inside i hi, inside j hj) (rw (ne_eqb (j + 1) (i + 1) (λ e. d (omega arith)))
         (ap (λ (v : Node). receive_refusal group v (node w (j + 1)) n) (node_at i) ∙ ap (λ (u : Node). receive_refusal group (node_of (at i)) u n) (node_at j) ∙ same_refusal i j n hi hj d));
     gives = ap (λ (v : Node). Received (acknowledgement v (message (node w (j + 1)) n))) (node_at i) ∙ ap (λ (u : Node). Received (acknowledgement (node_of (at i)) (message u n))) (node_at j);
     leaves = place i (received (at i) (at j).number m) ∙ ap (λ k. with_node w (i + 1) (receive_at (node_of (at i)) k m)) (number j hj)

@@ -14,11 +14,11 @@ use Rattle.rbac_words.specs.declared.event.Event.{Event}
 use Rattle.rbac_words.specs.declared.event.Outcome.{Outcome}
 use Rattle.rbac_words.specs.declared.event.Refusal.{Refusal}
 use Rattle.sorted_keys.proofs.Lists.{map-push}
-use Rattle.rbac_order.proofs.GroupLemmas.{node-of_member, inside, apart, same_number, other_number}
+use Rattle.rbac_order.proofs.GroupLemmas.{node-of_member, inside, apart}
 use Rattle.rbac_order.proofs.SenderLemmas.{decide}
 use Rattle.rbac_order.proofs.StepLemmas.{founded_members, founding_are, founded-nodes}
 use Rattle.rbac_member.specs.Calls.{taken_of}
-use Rattle.rbac_member.proofs.ReceiveLemmas.{equal}
+use Rattle.std.proofs.lemmas.Bool.{eq-eqb, ne_eqb}
 use Rattle.rbac_world.specs.Inside.{IsGroupOf, shown_by, founded_all, has_read}
 use Rattle.rbac_world.specs.Moves.{IsGroupStep}
 use Rattle.rbac_world.proofs.PlaceLemmas.{each_of_all, all_of_each}
@@ -89,11 +89,11 @@ module _ (group : Group) (vocabulary : Vocabulary) (ms : List Member) (are : Are
 
   -- what a member says that it took of another one is what it read
   taken_is : (i j : ℕ) → i < length ms → j < length ms → (j ≡ i → ⊥) → taken_of (at i) (at j).number ≡ read_of (node_of (at i)) (at j).number
-  taken_is i j hi hj d = rw (other_number (at j).number (at i).number (apart group vocabulary ms are i j hi hj d)) (rw (linked group vocabulary ms are i j hi hj) refl)
+  taken_is i j hi hj d = rw (ne_eqb (at j).number (at i).number (apart group vocabulary ms are i j hi hj d)) (rw (linked group vocabulary ms are i j hi hj) refl)
 
   test_is : (i j : ℕ) → i < length ms → j < length ms → (j ≡ i → ⊥) → has_read (at i) (at j) ≡ (read_of (get_or (map node_of ms) i nobody) (j + 1) == length (get_or (map node_of ms) j nobody).sent)
   test_is i j hi hj d =
-      rw (other_number (at i).number (at j).number (λ e. apart group vocabulary ms are i j hi hj d (sym e)))
+      rw (ne_eqb (at i).number (at j).number (λ e. apart group vocabulary ms are i j hi hj d (sym e)))
       (ap (λ k. k == length (at j).sent) (taken_is i j hi hj d) ∙ ap (λ k. read_of (node_of (at i)) k == length (at j).sent) (are.numbered j hj)
       ∙ ap (λ (v : Node). read_of v (j + 1) == length (at j).sent) (sym (node-of_member ms i)) ∙ ap (λ (v : Node). read_of (get_or (map node_of ms) i nobody) (j + 1) == length v.sent) (sym (node-of_member ms j)))
 
@@ -111,5 +111,5 @@ module _ (group : Group) (vocabulary : Vocabulary) (ms : List Member) (are : Are
       one : (i j : ℕ) → i < length ms → j < length ms → has_read (at i) (at j) ≡ true
       one i j hi hj =
           decide (has_read (at i) (at j) ≡ true) j i
-          (λ e. subst (λ k. has_read (at i) (at k) ≡ true) (sym e) (rw (same_number (at i).number (at i).number refl) refl))
-          (λ d. test_is i j hi hj d ∙ same_number _ _ (end i j (outside i hi) (outside j hj) (λ e. d (sym e))))
+          (λ e. subst (λ k. has_read (at i) (at k) ≡ true) (sym e) (rw (eq-eqb (at i).number (at i).number refl) refl))
+          (λ d. test_is i j hi hj d ∙ eq-eqb _ _ (end i j (outside i hi) (outside j hj) (λ e. d (sym e))))

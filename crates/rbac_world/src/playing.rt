@@ -23,6 +23,9 @@ fn is_starved(outcome: Result<Outcome, Refusal>) -> bool
 
 /// Plays events in a world, and answers the outcome or the refusal of each. Want of memory alone stops it, and then what was
 /// done stays: the other events can be played later. Afterwards each history is right.
+///
+/// # Errors
+/// `Stopped` where the answers get no memory: so many events are done.
 pub fn play(
     world: &mut World,
     alloc: Global,

@@ -91,6 +91,9 @@ fn have_read_all(members: &[Member]) -> bool
 
 impl World {
     /// The founding world of a group: each member at the group's clock, with nothing sent, read or delivered.
+    ///
+    /// # Errors
+    /// `AllocError` where there is no memory for it.
     pub fn found(alloc: Global, group: Group, vocabulary: Vocabulary) -> Result<World, AllocError>
         ensures { IfOk result (λ w. w ≡ founding_world group vocabulary) }
     {
@@ -115,6 +118,9 @@ impl World {
 
     /// One event: its outcome and the world after it, or the first refusal that applies, which leaves the world as it
     /// was.
+    ///
+    /// # Errors
+    /// The first refusal that applies, `NoMemory` after all others. The world is as before.
     pub fn step(&mut self, alloc: Global, event: &Event) -> Result<Outcome, Refusal>
         ensures { IsStep self.old event.now result self.new }
     {

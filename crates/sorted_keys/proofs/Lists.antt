@@ -1,6 +1,7 @@
--- What holds of each element of a list, and of filters.
+-- What holds of each element of a list, of filters, and of tests that agree.
 use Rattle.std.proofs.Common.{Bool, true, false, cond, ◌≡◌, refl, sym, ap, ◌∙◌, true≢false, List, [], ◌∷◌, ◌++◌, map}
-use Rattle.std.specs.List.{AllByRecursion as Each, filter}
+use Rattle.std.specs.Prelude.{count_by}
+use Rattle.std.specs.List.{AllByRecursion as Each, filter, list_any, list_all}
 
 module _ {X : Type 0} where
   pub Each-append : (P : X → Type 0) (xs ys : List X) → Each P xs → Each P ys → Each P (xs ++ ys)
@@ -74,3 +75,17 @@ module _ {X : Type 0} where
 pub map-push : {X Y : Type 0} (f : X → Y) (xs : List X) (x : X) → map f (xs ++ x ∷ []) ≡ map f xs ++ f x ∷ []
 map-push f [] x = refl
 map-push f (y ∷ xs) x = ap (λ l. f y ∷ l) (map-push f xs x)
+
+-- tests that agree at each element are one test
+module _ {X : Type 0} (p q : X → Bool) (same : (x : X) → p x ≡ q x) (xs : List X) where
+  pub any-same : list_any p xs ≡ list_any q xs
+  any-same = ap (λ t. list_any t xs) (λ i x. same x i)
+
+  pub all-same : list_all p xs ≡ list_all q xs
+  all-same = ap (λ t. list_all t xs) (λ i x. same x i)
+
+  pub filter-same : filter p xs ≡ filter q xs
+  filter-same = ap (λ t. filter t xs) (λ i x. same x i)
+
+  pub count-same : count_by p xs ≡ count_by q xs
+  count-same = ap (λ t. count_by t xs) (λ i x. same x i)

@@ -152,6 +152,9 @@ fn pairs_of_set(
 }
 
 /// The pairs of a static set and a user whose count the command may change, other than those that a deletion takes out.
+///
+/// # Errors
+/// `AllocError` where there is no memory for it.
 pub fn affected_pairs(
     alloc: Global,
     tables: &Tables,

@@ -12,7 +12,7 @@ use sorted_keys::KeyTest;
 use std::alloc::AllocError;
 
 /// The number of a role, where it is one.
-pub fn number_of(numbers: &IndexSet<Name>, role: &Name) -> Option<usize>
+pub(crate) fn number_of(numbers: &IndexSet<Name>, role: &Name) -> Option<usize>
     ensures numbered { IfSome result (λ i. (i < length numbers.now.keys) × (role_at numbers.now.keys i ≡ role.now)) }
     ensures absent { IfNone result (has name_cmp role.now numbers.now.keys ≡ false) }
 {
@@ -20,7 +20,7 @@ pub fn number_of(numbers: &IndexSet<Name>, role: &Name) -> Option<usize>
 }
 
 /// The number of a role.
-pub fn number(numbers: &IndexSet<Name>, role: &Name) -> usize
+pub(crate) fn number(numbers: &IndexSet<Name>, role: &Name) -> usize
     requires { IsTrue (has name_cmp role.now numbers.now.keys) }
     ensures in_range { result < length numbers.now.keys }
     ensures role { role_at numbers.now.keys result ≡ role.now }
@@ -29,14 +29,14 @@ pub fn number(numbers: &IndexSet<Name>, role: &Name) -> usize
 }
 
 /// Whether both number the same roles.
-pub fn same_roles(numbers: &IndexSet<Name>, others: &IndexSet<Name>) -> bool
+pub(crate) fn same_roles(numbers: &IndexSet<Name>, others: &IndexSet<Name>) -> bool
     ensures { IsTrue result ↔ (roles_of numbers.now.keys ≡ roles_of others.now.keys) }
 {
     numbers.is_subset(others) && others.is_subset(numbers)
 }
 
 /// A test of a role and its number.
-pub trait NumberedTest {
+pub(crate) trait NumberedTest {
     /// Whether a role with a number passes.
     ghost passes: { Self → ℕ → NameValue → Bool };
 
@@ -47,7 +47,7 @@ pub trait NumberedTest {
 
 /// The roles that a role inherits, told by their numbers.
 #[derive(Drop)]
-pub struct JuniorsOf<'a> {
+pub(crate) struct JuniorsOf<'a> {
     pub inherited: &'a Relation,
     pub above: usize,
 }
@@ -62,7 +62,7 @@ impl NumberedTest for JuniorsOf<'_> {
 
 /// The roles that pass a test of their names.
 #[derive(Drop)]
-pub struct ByName<'a, T: KeyTest<Name>> {
+pub(crate) struct ByName<'a, T: KeyTest<Name>> {
     pub test: &'a T,
 }
 
@@ -75,7 +75,7 @@ impl<T: KeyTest<Name>> NumberedTest for ByName<'_, T> {
 }
 
 /// The names, and the roles that pass a test.
-pub fn with_roles_where<T: NumberedTest>(
+pub(crate) fn with_roles_where<T: NumberedTest>(
     names: NameSet,
     roles: &[Name],
     test: &T,

@@ -33,7 +33,7 @@ fn add_pairs<T: KeyTest<(Name, Name)>>(
 }
 
 /// The declared pairs that pass a test, by their numbers, of the ascendants that inherit a role.
-pub fn pairs_above<T: KeyTest<(Name, Name)>>(
+pub(crate) fn pairs_above<T: KeyTest<(Name, Name)>>(
     alloc: Global,
     numbers: &IndexSet<Name>,
     declared: &SortedSet<(Name, Name)>,
@@ -55,7 +55,7 @@ pub fn pairs_above<T: KeyTest<(Name, Name)>>(
 }
 
 /// Makes the rows of what inherits a role anew, over these pairs.
-pub fn renew(alloc: Global, inherited: &mut Relation, above: usize, pairs: &[(usize, usize)])
+pub(crate) fn renew(alloc: Global, inherited: &mut Relation, above: usize, pairs: &[(usize, usize)])
     requires { AreBelow pairs.now (count inherited.old) }
     ensures { IsRenewed inherited.old above pairs.now inherited.new }
 {

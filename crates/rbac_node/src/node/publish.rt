@@ -14,6 +14,9 @@ use std::alloc::Global;
 impl<G: GroupName> Node<G> {
     /// Publishes what was not yet published of what its member sent, and then of its history, on that member's rows. After a
     /// refusal what was published stays, and a later call goes on from there.
+    ///
+    /// # Errors
+    /// `RowFull`, `Taken` or `NoMemory` where not all was published. What was published stays so.
     pub fn publish(
         &mut self,
         alloc: Global,

@@ -72,6 +72,9 @@ impl<G: GroupName> Node<G> {
 
     /// One receipt of the next message of another member's sent row. After a refusal the node may know that message, and all
     /// else is as before.
+    ///
+    /// # Errors
+    /// `NotShown` where the row shows no further message of the member, `Receive` with the first refusal of `Member::receive`, or `NoMemory`.
     pub fn receive_next(
         &mut self,
         from: u32,

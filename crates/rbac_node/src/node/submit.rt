@@ -14,6 +14,9 @@ impl<G: GroupName> Node<G> {
     ghost use Rattle.rbac_node.specs.Node.{with_own_member, AreDeliveries};
 
     /// One submit of its member. The caller's number is one that this node gave.
+    ///
+    /// # Errors
+    /// The first refusal of `Member::submit`. Nothing has changed.
     pub fn submit(
         &mut self,
         caller: u32,
@@ -32,6 +35,9 @@ impl<G: GroupName> Node<G> {
 
     /// One submit of a copy of a command, which is made only where nothing but memory stands in its way. The caller's number is
     /// one that this node gave.
+    ///
+    /// # Errors
+    /// The first refusal of `Member::submit`. Nothing has changed.
     pub fn submit_copy(
         &mut self,
         caller: u32,
@@ -49,6 +55,9 @@ impl<G: GroupName> Node<G> {
     }
 
     /// One delivery of its member.
+    ///
+    /// # Errors
+    /// `AllocError` where there is no memory for it. Nothing has changed.
     pub fn deliver(&mut self, alloc: Global) -> Result<Option<usize>, AllocError>
         ensures place { IfOk result (λ place. place ≡ place_of (node_of self.old.member) (due_at self.old.member)) }
         ensures delivered { OnOk result (self.new ≡ with_own_member self.old (deliver_due self.old.member (due_at self.old.member))) }

@@ -134,14 +134,11 @@ impl<G: GroupName, K: Gate + Drop, C: Courier + Drop> Service<G, K, C> {
         ensures member { IfOk result (λ receipt. receipt.stamp.member ≡ pass.old.member) }
         ensures refused { IfErr result (λ refusal. IsCallRefused pass.old command refusal pass.new) }
     {
-        let ticket = match self.submit(rt, alloc, pass, command) {
-            Ok(ticket) => ticket,
-            Err(refusal) => return Err(CallRefusal::Submit(refusal)),
-        };
-        match self.await_answer(rt, pass, ticket) {
-            Ok(receipt) => Ok(receipt),
-            Err(refusal) => Err(CallRefusal::Await(refusal)),
-        }
+        let ticket = self
+            .submit(rt, alloc, pass, command)
+            .map_err(CallRefusal::Submit)?;
+        self.await_answer(rt, pass, ticket)
+            .map_err(CallRefusal::Await)
     }
 
     /// Both passes, of one member of this service, have the longer of the two fronts, which begins with what each had seen. It

@@ -1,7 +1,7 @@
 -- The members of one group, and what each of them has taken of each other one.
 use Rattle.std.specs.Prelude.{ℕ, ◌≡◌, ◌≢◌, ◌<◌, ◌+◌, List, [], ◌++◌, length, map, slice_index_or}
 use Rattle.std.specs.List.{filter}
-use Rattle.rbac_terms.specs.Vocabulary.{Vocabulary}
+use Rattle.rbac_terms.specs.Vocabulary.{Vocabulary, no_vocabulary}
 use Rattle.rbac_words.specs.Group.{Group}
 use Rattle.rbac_terms.specs.State.{founding_state}
 use Rattle.rbac_words.specs.Stamp.{last_stamp}

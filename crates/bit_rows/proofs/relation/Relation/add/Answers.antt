@@ -30,8 +30,8 @@ invariant_of-self-2 c =
     let same = c.deref_mut.ensures.value in
     subst IsRelation (sym (items c)) (relation_added old c.widen_all.new.rows c.in_ok-row.row c.self.invariant (rw same at c.widen_all.ensures.length) (wider c) (rw same at c.widen_all.ensures.bits) (room c) (own c))
 
-pub returns-clause-ok_related : goal.returns-clause-ok_related
-returns-clause-ok_related c = λ i j.
+pub returns-clause-related_to_itself : goal.returns-clause-related_to_itself
+returns-clause-related_to_itself c = λ i j.
     let old = c.self.inside.rows.items in
     let same = c.deref_mut.ensures.value in
     ap (λ rows. bit rows i j) (items c)

@@ -16,7 +16,7 @@ pub invariant_of-self-in_err-add : goal.invariant_of-self-in_err-add
 invariant_of-self-in_err-add c =
     let inside = c.self.inside in
     subst (λ names. IsExact names inside.declared.content c.add.new.self) (sym c.in_ok-reserve.ensures.keys)
-    (exact_same inside.numbers.keys inside.declared.content inside.inherited c.add.new.self c.self.invariant c.in_err-add.ensures.err_count c.in_err-add.ensures.err_related)
+    (exact_same inside.numbers.keys inside.declared.content inside.inherited c.add.new.self c.self.invariant c.in_err-add.ensures.same_count c.in_err-add.ensures.same_relation)
 
 absent : (c : goal.After-unwrap) → has name_cmp c.args.role.now c.self.inside.numbers.keys ≡ false
 absent c = role_missing c.self.inside.numbers.keys c.args.role.now c.number_of.result (sym c.is_some.ensures ∙ c.if-is_some.false) c.number_of.ensures.absent
@@ -28,7 +28,7 @@ pub invariant_of-self-2 : goal.invariant_of-self-2
 invariant_of-self-2 c =
     let inside = c.self.inside in
     subst (λ names. IsExact names inside.declared.content c.add.new.self) (sym (put_last c))
-    (exact_added inside.numbers.keys c.args.role.now inside.declared.content inside.inherited c.add.new.self c.self.invariant (absent c) c.invariants.ensures c.in_ok-add.ensures.ok_count c.in_ok-add.ensures.ok_related)
+    (exact_added inside.numbers.keys c.args.role.now inside.declared.content inside.inherited c.add.new.self c.self.invariant (absent c) c.invariants.ensures c.in_ok-add.ensures.longer c.in_ok-add.ensures.related_to_itself)
 
 pub returns-clause-added : goal.returns-clause-added
 returns-clause-added c =

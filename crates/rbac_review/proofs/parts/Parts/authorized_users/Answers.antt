@@ -4,7 +4,8 @@ use Rattle.rbac_terms.specs.Inheritance.{seniors}
 use Rattle.rbac_terms.specs.Authorization.{is_authorized}
 use Rattle.rbac_review.specs.Among.{is_assigned_one}
 use Rattle.rbac_review.specs.Parts.{state_of}
-use Rattle.rbac_review.proofs.ReviewLemmas.{if_same, filter-same, assigned_a_senior}
+use Rattle.rbac_review.proofs.ReviewLemmas.{if_same, assigned_a_senior}
+use Rattle.sorted_keys.proofs.Lists.{filter-same}
 use Rattle.rbac_review.proofs.parts.Parts.authorized_users.Goals as goal
 
 pub returns : goal.returns
