@@ -35,10 +35,6 @@ name_of text = if is_name text then Ok text else Err BadName
 abbrev pub names_of : List (List ℕ) → Reading (List Name)
 names_of texts = if list_all is_name texts then Ok texts else Err BadName
 
--- the permission that two texts are
-abbrev pub permission_of : Permission → Reading Permission
-permission_of pair = if is_name pair.0 && is_name pair.1 then Ok pair else Err BadName
-
 -- the permissions that these pairs are
 abbrev pub permissions_of : List Permission → Reading (List Permission)
 permissions_of pairs = if list_all (λ pair. is_name pair.0 && is_name pair.1) pairs then Ok pairs else Err BadName

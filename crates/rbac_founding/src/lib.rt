@@ -6,7 +6,7 @@ mod entries;
 mod founding;
 pub mod keys;
 pub mod limits;
-mod names;
+pub mod names;
 mod reading;
 mod refusal;
 mod sample;

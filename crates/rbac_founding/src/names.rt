@@ -1,8 +1,10 @@
-//! The texts of a founding file as names.
-ghost use Rattle.std.specs.Prelude.{◌≡◌, map};
-ghost use Rattle.rbac_founding.specs.Steps.{seen};
+//! Texts as names, those of a founding file among them.
+ghost use Rattle.std.specs.Prelude.{◌≡◌, ◌&&◌, Bool, map, if◌then◌else◌, Ok, Err};
+ghost use Rattle.std.specs.List.{list_all};
+ghost use Rattle.rbac_terms.specs.Name.{is_name};
+ghost use Rattle.rbac_founding.specs.Steps.{seen, ReadsBut};
 ghost use Rattle.rbac_founding.specs.FoundingFile.{Reads};
-ghost use Rattle.rbac_founding.specs.FoundingEntries.{name_of, names_of, pair_of, permission_of, permissions_of, text_of};
+ghost use Rattle.rbac_founding.specs.FoundingEntries.{name_of, names_of, pair_of, permissions_of, text_of};
 
 use crate::entries::pair_of;
 use crate::refusal::FoundingRefusal;
@@ -10,14 +12,34 @@ use rbac_words::{Name, NameRefusal};
 use std::alloc::Global;
 use toml::Value;
 
-fn name_of(alloc: Global, text: &str) -> Result<Name, FoundingRefusal>
-    ensures { Reads (name_of text.now) result }
+/// The name that a text is.
+///
+/// # Errors
+/// `bad_name` where the text is no name, `no_memory` where memory ends.
+pub fn name_or<E: Copy + Drop>(
+    alloc: Global,
+    text: &str,
+    bad_name: E,
+    no_memory: E,
+) -> Result<Name, E>
+    ensures { ReadsBut no_memory (if is_name text.now then Ok text.now else Err bad_name) result }
 {
     match Name::read(alloc, text.as_bytes()) {
         Ok(name) => Ok(name),
-        Err(NameRefusal::BadName) => Err(FoundingRefusal::BadName),
-        Err(NameRefusal::NoMemory) => Err(FoundingRefusal::NoMemory),
+        Err(NameRefusal::BadName) => Err(bad_name),
+        Err(NameRefusal::NoMemory) => Err(no_memory),
     }
+}
+
+fn name_of(alloc: Global, text: &str) -> Result<Name, FoundingRefusal>
+    ensures { Reads (name_of text.now) result }
+{
+    name_or(
+        alloc,
+        text,
+        FoundingRefusal::BadName,
+        FoundingRefusal::NoMemory,
+    )
 }
 
 fn text_of(value: &Value) -> &str
@@ -26,28 +48,68 @@ fn text_of(value: &Value) -> &str
     value.as_str().unwrap_or("")
 }
 
+/// What the values of an array are read as.
+trait Element {
+    ghost use Rattle.toml.specs.declared.value.Value.{Value};
+
+    /// The element that a value shows, if it is well formed.
+    ghost shown: { Value → Self };
+
+    ghost is_formed: { Self → Bool };
+
+    /// The element that a value is.
+    ///
+    /// # Errors
+    /// `BadName` where it is not well formed, `NoMemory` where memory ends.
+    fn element_of(alloc: Global, value: &Value) -> Result<Self, FoundingRefusal>
+        ensures { Reads (if is_formed (shown value.now) then Ok (shown value.now) else Err FoundingRefusal.BadName) result };
+}
+
+impl Element for Name {
+    ghost shown = { text_of };
+
+    ghost is_formed = { is_name };
+
+    fn element_of(alloc: Global, value: &Value) -> Result<Name, FoundingRefusal> {
+        name_of(alloc, text_of(value))
+    }
+}
+
 /// The permission that a pair of texts is.
-fn permission_of(alloc: Global, value: &Value) -> Result<(Name, Name), FoundingRefusal>
-    ensures { Reads (permission_of (pair_of value.now)) result }
+impl Element for (Name, Name) {
+    ghost shown = { pair_of };
+
+    ghost is_formed = { λ pair. is_name pair.0 && is_name pair.1 };
+
+    fn element_of(alloc: Global, value: &Value) -> Result<(Name, Name), FoundingRefusal> {
+        let (operation, object) = pair_of(value).unwrap_or(("", ""));
+        let operation = name_of(alloc, operation)?;
+        let object = name_of(alloc, object)?;
+        Ok((operation, object))
+    }
+}
+
+fn elements_of<E: Element + Drop>(
+    alloc: Global,
+    values: &[Value],
+) -> Result<Vec<E>, FoundingRefusal>
+    ensures { Reads (if list_all E.is_formed (map E.shown values.now) then Ok (map E.shown values.now) else Err FoundingRefusal.BadName) (seen (λ elements. elements.items) result) }
 {
-    let (operation, object) = pair_of(value).unwrap_or(("", ""));
-    let operation = name_of(alloc, operation)?;
-    let object = name_of(alloc, object)?;
-    Ok((operation, object))
+    let mut elements = Vec::new(alloc);
+    for value in values {
+        let element = E::element_of(alloc, value)?;
+        if elements.push(element).is_err() {
+            return Err(FoundingRefusal::NoMemory);
+        }
+    }
+    Ok(elements)
 }
 
 /// The names that texts are.
 pub(crate) fn names_of(alloc: Global, texts: &[Value]) -> Result<Vec<Name>, FoundingRefusal>
     ensures { Reads (names_of (map text_of texts.now)) (seen (λ names. names.items) result) }
 {
-    let mut names = Vec::new(alloc);
-    for value in texts {
-        let name = name_of(alloc, text_of(value))?;
-        if names.push(name).is_err() {
-            return Err(FoundingRefusal::NoMemory);
-        }
-    }
-    Ok(names)
+    elements_of(alloc, texts)
 }
 
 /// The permissions that pairs of texts are.
@@ -57,12 +119,5 @@ pub(crate) fn permissions_of(
 ) -> Result<Vec<(Name, Name)>, FoundingRefusal>
     ensures { Reads (permissions_of (map pair_of pairs.now)) (seen (λ permissions. permissions.items) result) }
 {
-    let mut permissions = Vec::new(alloc);
-    for value in pairs {
-        let permission = permission_of(alloc, value)?;
-        if permissions.push(permission).is_err() {
-            return Err(FoundingRefusal::NoMemory);
-        }
-    }
-    Ok(permissions)
+    elements_of(alloc, pairs)
 }

@@ -18,6 +18,9 @@ use std::alloc::Global;
 /// TOML; its version is another one, it has a key too much, it has one too little; a value is of another kind; a number
 /// is out of range or a list too long; a text is no name, something stands twice, a permission speaks of what is not
 /// listed.
+///
+/// # Errors
+/// The first refusal in the order of `FoundingRefusal`, and `NoMemory` where memory ends at any of the checks.
 #[tactic(auto, unfolding(crate::specs::FoundingFile::founding_of))]
 pub fn read_founding(alloc: Global, file: &[u8]) -> Result<Founding, FoundingRefusal>
     ensures founding_read { IfOk result (λ founding. founding_of file.now ≡ Ok founding) }

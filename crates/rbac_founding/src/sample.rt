@@ -63,6 +63,9 @@ fn sample_permissions(alloc: Global) -> Result<Vec<(Name, Name)>, AllocError>
 
 /// The founding that the program plays on where it is given none: one member, operations `approve`, `pay` and `read`,
 /// objects `invoice` and `ledger`, and the permissions to approve and pay invoices and to read ledgers.
+///
+/// # Errors
+/// `AllocError` where memory ends.
 pub fn sample_founding(alloc: Global) -> Result<Founding, AllocError>
     ensures group { IfOk result (λ founding. founding.group ≡ sample_group) }
     ensures vocabulary { IfOk result (λ founding. founding.vocabulary ≡ sample_vocabulary) }

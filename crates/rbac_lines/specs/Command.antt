@@ -35,23 +35,23 @@ three_names first second third fields = do
   only_keys (codes "name" ∷ first ∷ second ∷ third ∷ []) fields
   Ok (one, two, three)
 
--- a command of the name at a key
-abbrev pub of_one : (Name → Command) → List ℕ → Members → Reading Command
-of_one command key fields = do
+-- what is made of the name at a key, a command or a review
+abbrev pub of_one : {T : Type 0} → (Name → T) → List ℕ → Members → Reading T
+of_one made key fields = do
   name ← one_name key fields
-  Ok (command name)
+  Ok (made name)
 
 -- and of the names at two keys
-abbrev pub of_two : (Name → Name → Command) → List ℕ → List ℕ → Members → Reading Command
-of_two command first second fields = do
+abbrev pub of_two : {T : Type 0} → (Name → Name → T) → List ℕ → List ℕ → Members → Reading T
+of_two made first second fields = do
   names ← two_names first second fields
-  Ok (command names.0 names.1)
+  Ok (made names.0 names.1)
 
 -- and of the names at three keys
-abbrev pub of_three : (Name → Name → Name → Command) → List ℕ → List ℕ → List ℕ → Members → Reading Command
-of_three command first second third fields = do
+abbrev pub of_three : {T : Type 0} → (Name → Name → Name → T) → List ℕ → List ℕ → List ℕ → Members → Reading T
+of_three made first second third fields = do
   names ← three_names first second third fields
-  Ok (command names.0 names.1 names.2)
+  Ok (made names.0 names.1 names.2)
 
 -- a user, a session, and the array roles
 abbrev pub create_session : Members → Reading Command
@@ -81,18 +81,6 @@ set_cardinality kind fields = do
 
 -- ---- The commands by their names, and each list goes on with the next one
 
--- a review of the name at a key
-abbrev pub review_of_one : (Name → Review) → List ℕ → Members → Reading Review
-review_of_one review key fields = do
-  name ← one_name key fields
-  Ok (review name)
-
--- and of the names at two keys
-abbrev pub review_of_two : (Name → Name → Review) → List ℕ → List ℕ → Members → Reading Review
-review_of_two review first second fields = do
-  names ← two_names first second fields
-  Ok (review names.0 names.1)
-
 -- the review that lists the sets of a kind: it has no field
 abbrev pub role_sets : Separation → Members → Reading Review
 role_sets kind fields = do
@@ -102,27 +90,27 @@ role_sets kind fields = do
 -- the reviews of users, roles and sessions, by their names
 abbrev pub reviews : List (List ℕ × (Members → Reading Review))
 reviews =
-    (codes "AssignedUsers", review_of_one AssignedUsers (codes "role"))
-    ∷ (codes "AssignedRoles", review_of_one AssignedRoles (codes "user"))
-    ∷ (codes "AuthorizedUsers", review_of_one AuthorizedUsers (codes "role"))
-    ∷ (codes "AuthorizedRoles", review_of_one AuthorizedRoles (codes "user"))
-    ∷ (codes "RolePermissions", review_of_one RolePermissions (codes "role"))
-    ∷ (codes "UserPermissions", review_of_one UserPermissions (codes "user"))
-    ∷ (codes "SessionRoles", review_of_one SessionRoles (codes "session"))
-    ∷ (codes "SessionPermissions", review_of_one SessionPermissions (codes "session"))
-    ∷ (codes "RoleOperationsOnObject", review_of_two RoleOperationsOnObject (codes "role") (codes "object"))
-    ∷ (codes "UserOperationsOnObject", review_of_two UserOperationsOnObject (codes "user") (codes "object"))
+    (codes "AssignedUsers", of_one AssignedUsers (codes "role"))
+    ∷ (codes "AssignedRoles", of_one AssignedRoles (codes "user"))
+    ∷ (codes "AuthorizedUsers", of_one AuthorizedUsers (codes "role"))
+    ∷ (codes "AuthorizedRoles", of_one AuthorizedRoles (codes "user"))
+    ∷ (codes "RolePermissions", of_one RolePermissions (codes "role"))
+    ∷ (codes "UserPermissions", of_one UserPermissions (codes "user"))
+    ∷ (codes "SessionRoles", of_one SessionRoles (codes "session"))
+    ∷ (codes "SessionPermissions", of_one SessionPermissions (codes "session"))
+    ∷ (codes "RoleOperationsOnObject", of_two RoleOperationsOnObject (codes "role") (codes "object"))
+    ∷ (codes "UserOperationsOnObject", of_two UserOperationsOnObject (codes "user") (codes "object"))
     ∷ []
 
 -- the reviews of sets of separation, by their names
 abbrev pub set_reviews : List (List ℕ × (Members → Reading Review))
 set_reviews =
     (codes "SsdRoleSets", role_sets Static)
-    ∷ (codes "SsdRoleSetRoles", review_of_one (RoleSetRoles Static) (codes "set"))
-    ∷ (codes "SsdRoleSetCardinality", review_of_one (RoleSetCardinality Static) (codes "set"))
+    ∷ (codes "SsdRoleSetRoles", of_one (RoleSetRoles Static) (codes "set"))
+    ∷ (codes "SsdRoleSetCardinality", of_one (RoleSetCardinality Static) (codes "set"))
     ∷ (codes "DsdRoleSets", role_sets Dynamic)
-    ∷ (codes "DsdRoleSetRoles", review_of_one (RoleSetRoles Dynamic) (codes "set"))
-    ∷ (codes "DsdRoleSetCardinality", review_of_one (RoleSetCardinality Dynamic) (codes "set"))
+    ∷ (codes "DsdRoleSetRoles", of_one (RoleSetRoles Dynamic) (codes "set"))
+    ∷ (codes "DsdRoleSetCardinality", of_one (RoleSetCardinality Dynamic) (codes "set"))
     ∷ []
 
 -- a review of sets of separation, or no command that is known

@@ -9,9 +9,9 @@ ghost use Rattle.rbac_lines.specs.Conversation.{Answers, AnswersLine, Conversati
 
 use crate::desk::Desk;
 use crate::reading::read_client;
-use crate::refusal::{DeskRefusal, LineRefusal};
+use crate::refusal::DeskRefusal;
 use crate::running::MOST_READS;
-use crate::text::{put_line_refused, put_reply};
+use crate::text::{put_reply, refuse};
 use line_engine::{RunFault, Summary, Taking, Watched, run_lines};
 use rbac_words::{Answer, Command};
 use std::alloc::{AllocError, Global};
@@ -39,11 +39,7 @@ impl<D: Desk> Taking for Conversing<D> {
     ) -> Result<bool, AllocError> {
         match read_client(alloc, line) {
             Ok((at, command)) => ask(desk, alloc, number, at, command, text),
-            Err(LineRefusal::NoMemory) => Err(AllocError),
-            Err(refusal) => {
-                put_line_refused(text, number, refusal)?;
-                Ok(true)
-            }
+            Err(refusal) => refuse(text, number, refusal),
         }
     }
 }
@@ -82,6 +78,10 @@ fn ask<D: Desk>(
 /// input was read to its end, and each line has its answer. A fault says why the conversation ended early; the clause
 /// `outcome` says which lines were answered by then. Of a line that is too long only the front is kept, which asks for the same
 /// (`kept_line_asks_the_same`).
+///
+/// # Errors
+/// `Read` where the reader fails, `Write` where the writer does, `TooManyReads` where the input has not ended after 268,435,456
+/// reads, `NoMemory` where memory ends, the desk's included.
 pub fn converse<R: Read, W: Write, D: Desk>(
     alloc: Global,
     reader: &mut Watched<R>,

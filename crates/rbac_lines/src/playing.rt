@@ -6,10 +6,8 @@ ghost use Rattle.rbac_lines.specs.Text.{outcome_text};
 ghost use Rattle.rbac_lines.specs.Output.{delivered_record, event_text, PlaysLine};
 
 use crate::reading::read_line;
-use crate::refusal::LineRefusal;
 use crate::text::{
-    put_delivered, put_line_refused, put_nothing_delivered, put_received, put_refused,
-    put_submitted,
+    put_delivered, put_nothing_delivered, put_received, put_refused, put_submitted, refuse,
 };
 use line_engine::Taking;
 use rbac_words::{Event, Outcome, Record, Refusal};
@@ -37,11 +35,7 @@ impl Taking for Playing {
     ) -> Result<bool, AllocError> {
         match read_line(alloc, line) {
             Ok(event) => play(alloc, world, number, &event, text),
-            Err(LineRefusal::NoMemory) => Err(AllocError),
-            Err(refusal) => {
-                put_line_refused(text, number, refusal)?;
-                Ok(true)
-            }
+            Err(refusal) => refuse(text, number, refusal),
         }
     }
 }

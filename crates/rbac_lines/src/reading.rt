@@ -19,6 +19,10 @@ use std::alloc::Global;
 
 /// Reads a line, without its line feed. It is refused for the first of these: it is too long, it is no JSON, it is no
 /// object; then for what the outer object lacks or has too much; and only then for what its command does.
+///
+/// # Errors
+/// `TooLong`, `NotJson` and `NotObject` of the line as a whole, then `MissingField`, `WrongKind`, `UnknownWord` and `ExtraField` of
+/// its object, then these and `BadName` of its command, and `NoMemory` where memory ends at any of the checks.
 #[tactic(auto, unfolding(crate::specs::Event::event))]
 pub fn read_line(alloc: Global, line: &[u8]) -> Result<Event, LineRefusal>
     ensures event_read { IfOk result (λ answer. event line.now ≡ Ok answer) }

@@ -20,6 +20,10 @@ pub(crate) const MOST_READS: u32 = 268_435_456;
 /// Plays all lines of the reader on the world, and writes each line's text right after its step. On Ok the input was read
 /// to its end, and exactly its output was written. A fault says why the run ended early; the clause `outcome` says which
 /// lines were played and what was written by then. However it ends, each history is right.
+///
+/// # Errors
+/// `Read` where the reader fails, `Write` where the writer does, `TooManyReads` where the input has not ended after 268,435,456
+/// reads, `NoMemory` where memory ends.
 pub fn run<R: Read, W: Write>(
     alloc: Global,
     reader: &mut Watched<R>,

@@ -1,6 +1,6 @@
 //! The texts that lines are answered with. Each call puts one text, its line feed included, behind what the buffer has. A
 //! buffer of bytes refuses a write only for want of memory, and then it may have a part of the text.
-ghost use Rattle.std.specs.Prelude.{◌≡◌, ◌++◌, codes, OnOk, IfSome, Some};
+ghost use Rattle.std.specs.Prelude.{◌≡◌, ◌≢◌, ◌++◌, true, codes, IfOk, OnOk, IfSome, Some};
 ghost use Rattle.rbac_lines.specs.Text.{answer_text, answered_text, bad_serial_text, denial_text, reply_text, out_of_turn_text, submitted_text, received_text, delivered_text, nothing_delivered_text, refusal_word, refused_text, refusal_text, line_refusal_text};
 
 mod lists;
@@ -20,7 +20,7 @@ fn put<D: Display + Drop>(text: &mut Vec<u8>, shown: D) -> Result<(), AllocError
 }
 
 /// A command was submitted at this stamp.
-pub(crate) fn put_submitted(text: &mut Vec<u8>, line: u64, stamp: Stamp) -> Result<(), AllocError>
+pub fn put_submitted(text: &mut Vec<u8>, line: u64, stamp: Stamp) -> Result<(), AllocError>
     ensures { OnOk result (text.new.items ≡ text.old.items ++ submitted_text line stamp) }
 {
     let Stamp { clock, member } = stamp;
@@ -41,7 +41,7 @@ fn put_acknowledged(text: &mut Vec<u8>, line: u64, stamp: Stamp) -> Result<(), A
 }
 
 /// A message was received, and acknowledged at this stamp if it was a command.
-pub(crate) fn put_received(
+pub fn put_received(
     text: &mut Vec<u8>,
     line: u64,
     acknowledged: Option<Stamp>,
@@ -90,11 +90,7 @@ fn begin_answer(text: &mut Vec<u8>, answer: &Answer) -> Result<(), AllocError>
 }
 
 /// A command was delivered, and this is its record.
-pub(crate) fn put_delivered(
-    text: &mut Vec<u8>,
-    line: u64,
-    delivered: &Record,
-) -> Result<(), AllocError>
+pub fn put_delivered(text: &mut Vec<u8>, line: u64, delivered: &Record) -> Result<(), AllocError>
     ensures { OnOk result (text.new.items ≡ text.old.items ++ delivered_text line delivered.now) }
 {
     begin_answer(text, &delivered.answer)?;
@@ -109,7 +105,7 @@ pub(crate) fn put_delivered(
 }
 
 /// No command was due.
-pub(crate) fn put_nothing_delivered(text: &mut Vec<u8>, line: u64) -> Result<(), AllocError>
+pub fn put_nothing_delivered(text: &mut Vec<u8>, line: u64) -> Result<(), AllocError>
     ensures { OnOk result (text.new.items ≡ text.old.items ++ nothing_delivered_text line) }
 {
     put(text, format_args!("{{\"answer\":null,\"line\":{line}}}\n"))
@@ -167,11 +163,7 @@ fn put_bad_serial(text: &mut Vec<u8>, line: u64, next: u64, word: &str) -> Resul
 }
 
 /// The event was refused.
-pub(crate) fn put_refused(
-    text: &mut Vec<u8>,
-    line: u64,
-    refusal: &Refusal,
-) -> Result<(), AllocError>
+pub fn put_refused(text: &mut Vec<u8>, line: u64, refusal: &Refusal) -> Result<(), AllocError>
     ensures { OnOk result (text.new.items ≡ text.old.items ++ refusal_text line refusal.now) }
 {
     let word = refusal_word(refusal);
@@ -184,15 +176,19 @@ pub(crate) fn put_refused(
     }
 }
 
-/// The line was refused.
-pub(crate) fn put_line_refused(
-    text: &mut Vec<u8>,
-    line: u64,
-    refusal: LineRefusal,
-) -> Result<(), AllocError>
-    ensures { OnOk result (text.new.items ≡ text.old.items ++ line_refusal_text line refusal) }
+/// The line was refused. Where that was for want of memory, there is no text. Ok says that it is refused.
+pub fn refuse(text: &mut Vec<u8>, line: u64, refusal: LineRefusal) -> Result<bool, AllocError>
+    ensures text { OnOk result (text.new.items ≡ text.old.items ++ line_refusal_text line refusal) }
+    ensures refused { IfOk result (λ is_refused. is_refused ≡ true) }
+    ensures other { OnOk result (refusal ≢ LineRefusal.NoMemory) }
 {
-    put_refused_line(text, line, refusal.word())
+    match refusal {
+        LineRefusal::NoMemory => Err(AllocError),
+        other => {
+            put_refused_line(text, line, other.word())?;
+            Ok(true)
+        }
+    }
 }
 
 /// The command of a client line was answered.
@@ -204,7 +200,7 @@ fn put_answered(text: &mut Vec<u8>, line: u64, answer: &Answer) -> Result<(), Al
 }
 
 /// What a desk replied to the command of a client line.
-pub(crate) fn put_reply(
+pub fn put_reply(
     text: &mut Vec<u8>,
     line: u64,
     reply: &Result<Answer, DeskRefusal>,

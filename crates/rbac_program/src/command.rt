@@ -1,10 +1,10 @@
 //! The whole program but for the standard streams.
-ghost use Rattle.std.specs.Prelude.{◌≡◌, ◌≢◌, ◌≤◌, IfSome, OnOk, false, length};
+ghost use Rattle.std.specs.Prelude.{◌≡◌, ◌≢◌, ◌≤◌, IfSome, false, is_ok, if◌then◌else◌, length};
 ghost use Rattle.std.specs.IoError.{error_kind};
 ghost use Rattle.std.specs.Io.KnownBytes.{Appends};
 ghost use Rattle.line_engine.specs.Watched.{failed_of, inner_of};
 ghost use Rattle.rbac_lines.specs.Output.{output};
-ghost use Rattle.rbac_program.specs.Sample.{sample_world, PlaysSample};
+ghost use Rattle.rbac_program.specs.Sample.{sample_world};
 
 use crate::fault::Fault;
 use crate::play::play;
@@ -62,10 +62,11 @@ fn watched_command<
         IfSome (R.remaining reader) (λ input. Appends (W.contents (inner_of writer.old)) (W.contents (inner_of writer.new)) (output input sample_world)) }
 {
     match read_words(rt.alloc(), words) {
-        Ok(asked) => match run_asked(rt, asked, reader, writer, errors) {
-            Ok(()) => DONE,
-            Err(fault) => tell(errors, fault),
-        },
+        Ok(Asked::Play(asked)) => status_of(play(rt, asked, reader, writer), errors),
+        Ok(Asked::Serve(founding)) => {
+            let served = serve(rt, founding, reader, writer, errors);
+            status_of(served, errors)
+        }
         Err(error) if error.kind() == clap::error::ErrorKind::OutOfMemory => {
             tell(errors, Fault::from(AllocError))
         }
@@ -80,27 +81,13 @@ fn watched_command<
     }
 }
 
-// Does what was asked for.
-fn run_asked<
-    'w,
-    T: Files + AllocGlobal + Threads + Wait + Clock + Copy + Send + Sync,
-    R: Read + Drop,
-    W: Write,
-    E: Write,
->(
-    rt: &T,
-    asked: Asked<'w>,
-    reader: R,
-    writer: &mut Watched<W>,
-    errors: &mut E,
-) -> Result<(), Fault<'w>>
-    requires { failed_of writer.old ≡ false }
-    ensures { PlaysSample asked.entry →
-        OnOk result (IfSome (R.remaining reader) (λ input. Appends (W.contents (inner_of writer.old)) (W.contents (inner_of writer.new)) (output input sample_world))) }
+// The status of what was done. A fault of it is told.
+fn status_of<E: Write>(done: Result<(), Fault<'_>>, errors: &mut E) -> u8
+    ensures { result ≡ (if is_ok done then 0 else 1) }
 {
-    match asked {
-        Asked::Play(asked) => play(rt, asked, reader, writer),
-        Asked::Serve(founding) => serve(rt, founding, reader, writer, errors),
+    match done {
+        Ok(()) => DONE,
+        Err(fault) => tell(errors, fault),
     }
 }
 

@@ -14,6 +14,10 @@ use std::alloc::Global;
 
 /// Reads a client line, without its line feed: the number of a member, and the command that it is asked for. It is refused for
 /// the first of the reasons that `read_line` names, but that it has no word.
+///
+/// # Errors
+/// `TooLong`, `NotJson` and `NotObject` of the line as a whole, then `MissingField`, `WrongKind` and `ExtraField` of its object, then
+/// these, `UnknownWord` and `BadName` of its command, and `NoMemory` where memory ends at any of the checks.
 #[tactic(auto, unfolding(crate::specs::Client::client))]
 pub fn read_client(alloc: Global, line: &[u8]) -> Result<(u32, Command), LineRefusal>
     ensures command_read { IfOk result (λ asked. client line.now ≡ Ok asked) }

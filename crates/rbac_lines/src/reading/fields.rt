@@ -11,14 +11,18 @@ ghost use Rattle.rbac_lines.specs.Fields.{Reads, value_in, whole_in, text_in, ob
 
 use crate::refusal::LineRefusal;
 use rbac_founding::keys::is_one_of;
-use rbac_words::{Name, NameRefusal, NameSet};
+use rbac_founding::names::name_or;
+use rbac_words::{Name, NameSet};
 use serde_json::{Map, Value};
 use std::alloc::Global;
 
 /// A JSON object, whose keys have no order. Where a key was given twice, it has the last value.
 pub(crate) type Object = Map<String, Value>;
 
-fn value_in<'o>(object: &'o Object, key: &str) -> Result<&'o Value, LineRefusal>
+/// What is read, or the first refusal.
+pub(crate) type Reading<T> = Result<T, LineRefusal>;
+
+fn value_in<'o>(object: &'o Object, key: &str) -> Reading<&'o Value>
     ensures { seen (λ value. view value.now) result ≡ value_in key.now (members_view object.now.entries) }
 {
     object.get(key).ok_or(LineRefusal::MissingField)
@@ -36,7 +40,7 @@ pub(crate) fn whole_in(object: &Object, key: &str) -> Result<u32, LineRefusal>
 }
 
 /// The text at a key.
-pub(crate) fn text_in<'o>(object: &'o Object, key: &str) -> Result<&'o str, LineRefusal>
+pub(crate) fn text_in<'o>(object: &'o Object, key: &str) -> Reading<&'o str>
     ensures { seen (λ text. text.now) result ≡ text_in key.now (members_view object.now.entries) }
 {
     let value = value_in(object, key)?;
@@ -44,7 +48,7 @@ pub(crate) fn text_in<'o>(object: &'o Object, key: &str) -> Result<&'o str, Line
 }
 
 /// The object at a key.
-pub(crate) fn object_in<'o>(object: &'o Object, key: &str) -> Result<&'o Object, LineRefusal>
+pub(crate) fn object_in<'o>(object: &'o Object, key: &str) -> Reading<&'o Object>
     ensures { seen (λ inner. members_view inner.now.entries) result ≡ object_in key.now (members_view object.now.entries) }
 {
     let value = value_in(object, key)?;
@@ -52,18 +56,14 @@ pub(crate) fn object_in<'o>(object: &'o Object, key: &str) -> Result<&'o Object,
 }
 
 /// The name that a text is.
-fn name_of(alloc: Global, text: &str) -> Result<Name, LineRefusal>
+fn name_of(alloc: Global, text: &str) -> Reading<Name>
     ensures { Reads (name_of text.now) result }
 {
-    match Name::read(alloc, text.as_bytes()) {
-        Ok(name) => Ok(name),
-        Err(NameRefusal::BadName) => Err(LineRefusal::BadName),
-        Err(NameRefusal::NoMemory) => Err(LineRefusal::NoMemory),
-    }
+    name_or(alloc, text, LineRefusal::BadName, LineRefusal::NoMemory)
 }
 
 /// The name at a key.
-pub(crate) fn name_in(alloc: Global, object: &Object, key: &str) -> Result<Name, LineRefusal>
+pub(crate) fn name_in(alloc: Global, object: &Object, key: &str) -> Reading<Name>
     ensures { Reads (name_in key.now (members_view object.now.entries)) result }
 {
     let text = text_in(object, key)?;
@@ -85,7 +85,7 @@ fn text_of(value: &Value) -> &str
 
 /// The set of the names in an array. An element that is no text is refused before any text that is no name, so that
 /// the array is looked through before the first name is read. A name given twice counts once.
-fn names_of(alloc: Global, array: &[Value]) -> Result<NameSet, LineRefusal>
+fn names_of(alloc: Global, array: &[Value]) -> Reading<NameSet>
     ensures { Reads (names_of (items_view array.now)) result }
 {
     if !are_texts(array) {
@@ -100,7 +100,7 @@ fn names_of(alloc: Global, array: &[Value]) -> Result<NameSet, LineRefusal>
 }
 
 /// The set of the names at a key.
-pub(crate) fn names_in(alloc: Global, object: &Object, key: &str) -> Result<NameSet, LineRefusal>
+pub(crate) fn names_in(alloc: Global, object: &Object, key: &str) -> Reading<NameSet>
     ensures { Reads (names_in key.now (members_view object.now.entries)) result }
 {
     let value = value_in(object, key)?;
@@ -115,7 +115,7 @@ fn has_only(object: &Object, keys: &[&str]) -> bool
 }
 
 /// Refuses an object that has a key besides these.
-pub(crate) fn only_keys(object: &Object, keys: &[&str]) -> Result<(), LineRefusal>
+pub(crate) fn only_keys(object: &Object, keys: &[&str]) -> Reading<()>
     ensures { result ≡ only_keys (map (λ key. key.now) keys.now) (members_view object.now.entries) }
 {
     if has_only(object, keys) {

@@ -2,49 +2,34 @@
 ghost use Rattle.std.specs.Prelude.{codes};
 ghost use Rattle.serde_json.specs.View.{members_view};
 ghost use Rattle.rbac_lines.specs.Fields.{Reads, by_word};
-ghost use Rattle.rbac_lines.specs.Command.{review_command, reviews, review_of_one, role_sets, set_review};
+ghost use Rattle.rbac_lines.specs.Command.{review_command, reviews, of_one, role_sets, set_review};
 
-use crate::reading::commands::{one_name, two_names};
-use crate::reading::fields::{Object, only_keys};
+use crate::reading::commands::{one_name, one_role, one_user, two_names};
+use crate::reading::fields::{Object, Reading, only_keys};
 use crate::refusal::LineRefusal;
 use rbac_words::{Command, Review, Separation};
 use std::alloc::Global;
 
 /// Reads a command object of this name, where it is a review.
 #[tactic(auto, unfolding(crate::specs::Command::review_command))]
-pub(crate) fn review_command(
-    alloc: Global,
-    fields: &Object,
-    name: &str,
-) -> Result<Command, LineRefusal>
+pub(crate) fn review_command(alloc: Global, fields: &Object, name: &str) -> Reading<Command>
     ensures { Reads (review_command name.now (members_view fields.now.entries)) result }
 {
     let review = review_of(alloc, fields, name)?;
     Ok(Command::Review(review))
 }
 
-fn review_of(alloc: Global, fields: &Object, name: &str) -> Result<Review, LineRefusal>
+#[tactic(auto, unfolding(crate::specs::Command::set_review))]
+fn review_of(alloc: Global, fields: &Object, name: &str) -> Reading<Review>
     ensures { Reads (by_word reviews set_review name.now (members_view fields.now.entries)) result }
 {
     match name {
-        "AssignedUsers" => one_name(alloc, fields, "role").map(|role| Review::AssignedUsers {
-            role,
-        }),
-        "AssignedRoles" => one_name(alloc, fields, "user").map(|user| Review::AssignedRoles {
-            user,
-        }),
-        "AuthorizedUsers" => one_name(alloc, fields, "role").map(|role| Review::AuthorizedUsers {
-            role,
-        }),
-        "AuthorizedRoles" => one_name(alloc, fields, "user").map(|user| Review::AuthorizedRoles {
-            user,
-        }),
-        "RolePermissions" => one_name(alloc, fields, "role").map(|role| Review::RolePermissions {
-            role,
-        }),
-        "UserPermissions" => one_name(alloc, fields, "user").map(|user| Review::UserPermissions {
-            user,
-        }),
+        "AssignedUsers" => one_role(alloc, fields).map(|role| Review::AssignedUsers { role }),
+        "AssignedRoles" => one_user(alloc, fields).map(|user| Review::AssignedRoles { user }),
+        "AuthorizedUsers" => one_role(alloc, fields).map(|role| Review::AuthorizedUsers { role }),
+        "AuthorizedRoles" => one_user(alloc, fields).map(|user| Review::AuthorizedRoles { user }),
+        "RolePermissions" => one_role(alloc, fields).map(|role| Review::RolePermissions { role }),
+        "UserPermissions" => one_user(alloc, fields).map(|user| Review::UserPermissions { user }),
         "SessionRoles" => one_name(alloc, fields, "session").map(|session| Review::SessionRoles {
             session,
         }),
@@ -59,15 +44,6 @@ fn review_of(alloc: Global, fields: &Object, name: &str) -> Result<Review, LineR
             let (user, object) = two_names(alloc, fields, "user", "object")?;
             Ok(Review::UserOperationsOnObject { user, object })
         }
-        name => set_review(alloc, fields, name),
-    }
-}
-
-#[tactic(auto, unfolding(crate::specs::Command::set_review))]
-fn set_review(alloc: Global, fields: &Object, name: &str) -> Result<Review, LineRefusal>
-    ensures { Reads (set_review name.now (members_view fields.now.entries)) result }
-{
-    match name {
         "SsdRoleSets" => role_sets(fields, Separation::Static),
         "SsdRoleSetRoles" => role_set_roles(alloc, fields, Separation::Static),
         "SsdRoleSetCardinality" => role_set_cardinality(alloc, fields, Separation::Static),
@@ -78,25 +54,21 @@ fn set_review(alloc: Global, fields: &Object, name: &str) -> Result<Review, Line
     }
 }
 
-fn role_sets(fields: &Object, kind: Separation) -> Result<Review, LineRefusal>
+fn role_sets(fields: &Object, kind: Separation) -> Reading<Review>
     ensures { Reads (role_sets kind (members_view fields.now.entries)) result }
 {
     only_keys(fields, &["name"])?;
     Ok(Review::RoleSets { kind })
 }
 
-fn role_set_roles(alloc: Global, fields: &Object, kind: Separation) -> Result<Review, LineRefusal>
-    ensures { Reads (review_of_one (Review.RoleSetRoles kind) (codes "set") (members_view fields.now.entries)) result }
+fn role_set_roles(alloc: Global, fields: &Object, kind: Separation) -> Reading<Review>
+    ensures { Reads (of_one (Review.RoleSetRoles kind) (codes "set") (members_view fields.now.entries)) result }
 {
     one_name(alloc, fields, "set").map(|set| Review::RoleSetRoles { kind, set })
 }
 
-fn role_set_cardinality(
-    alloc: Global,
-    fields: &Object,
-    kind: Separation,
-) -> Result<Review, LineRefusal>
-    ensures { Reads (review_of_one (Review.RoleSetCardinality kind) (codes "set") (members_view fields.now.entries)) result }
+fn role_set_cardinality(alloc: Global, fields: &Object, kind: Separation) -> Reading<Review>
+    ensures { Reads (of_one (Review.RoleSetCardinality kind) (codes "set") (members_view fields.now.entries)) result }
 {
     one_name(alloc, fields, "set").map(|set| Review::RoleSetCardinality { kind, set })
 }

@@ -6,18 +6,13 @@ ghost use Rattle.rbac_lines.specs.Command.{separation_command, create_set, of_on
 
 use crate::reading::commands::reviews::review_command;
 use crate::reading::commands::{one_name, two_names};
-use crate::reading::fields::{Object, name_in, names_in, only_keys, whole_in};
-use crate::refusal::LineRefusal;
+use crate::reading::fields::{Object, Reading, name_in, names_in, only_keys, whole_in};
 use rbac_words::{Command, Separation};
 use std::alloc::Global;
 
 /// Reads a command object of this name, where it changes a set of separation or is a review.
 #[tactic(auto, unfolding(crate::specs::Command::separation_command))]
-pub(crate) fn separation_command(
-    alloc: Global,
-    fields: &Object,
-    name: &str,
-) -> Result<Command, LineRefusal>
+pub(crate) fn separation_command(alloc: Global, fields: &Object, name: &str) -> Reading<Command>
     ensures { Reads (separation_command name.now (members_view fields.now.entries)) result }
 {
     match name {
@@ -35,7 +30,7 @@ pub(crate) fn separation_command(
     }
 }
 
-fn create_set(alloc: Global, fields: &Object, kind: Separation) -> Result<Command, LineRefusal>
+fn create_set(alloc: Global, fields: &Object, kind: Separation) -> Reading<Command>
     ensures { Reads (create_set kind (members_view fields.now.entries)) result }
 {
     let set = name_in(alloc, fields, "set")?;
@@ -50,31 +45,27 @@ fn create_set(alloc: Global, fields: &Object, kind: Separation) -> Result<Comman
     })
 }
 
-fn delete_set(alloc: Global, fields: &Object, kind: Separation) -> Result<Command, LineRefusal>
+fn delete_set(alloc: Global, fields: &Object, kind: Separation) -> Reading<Command>
     ensures { Reads (of_one (Command.DeleteSet kind) (codes "set") (members_view fields.now.entries)) result }
 {
     one_name(alloc, fields, "set").map(|set| Command::DeleteSet { kind, set })
 }
 
-fn add_role_member(alloc: Global, fields: &Object, kind: Separation) -> Result<Command, LineRefusal>
+fn add_role_member(alloc: Global, fields: &Object, kind: Separation) -> Reading<Command>
     ensures { Reads (of_two (Command.AddRoleMember kind) (codes "set") (codes "role") (members_view fields.now.entries)) result }
 {
     let (set, role) = two_names(alloc, fields, "set", "role")?;
     Ok(Command::AddRoleMember { kind, set, role })
 }
 
-fn delete_role_member(
-    alloc: Global,
-    fields: &Object,
-    kind: Separation,
-) -> Result<Command, LineRefusal>
+fn delete_role_member(alloc: Global, fields: &Object, kind: Separation) -> Reading<Command>
     ensures { Reads (of_two (Command.DeleteRoleMember kind) (codes "set") (codes "role") (members_view fields.now.entries)) result }
 {
     let (set, role) = two_names(alloc, fields, "set", "role")?;
     Ok(Command::DeleteRoleMember { kind, set, role })
 }
 
-fn set_cardinality(alloc: Global, fields: &Object, kind: Separation) -> Result<Command, LineRefusal>
+fn set_cardinality(alloc: Global, fields: &Object, kind: Separation) -> Reading<Command>
     ensures { Reads (set_cardinality kind (members_view fields.now.entries)) result }
 {
     let set = name_in(alloc, fields, "set")?;

@@ -6,18 +6,13 @@ ghost use Rattle.rbac_lines.specs.Command.{session_command, create_session, of_t
 
 use crate::reading::commands::separation::separation_command;
 use crate::reading::commands::{three_names, two_names};
-use crate::reading::fields::{Object, name_in, names_in, only_keys};
-use crate::refusal::LineRefusal;
+use crate::reading::fields::{Object, Reading, name_in, names_in, only_keys};
 use rbac_words::Command;
 use std::alloc::Global;
 
 /// Reads a command object of this name, where it is about sessions or one of those that follow.
 #[tactic(auto, unfolding(crate::specs::Command::session_command))]
-pub(crate) fn session_command(
-    alloc: Global,
-    fields: &Object,
-    name: &str,
-) -> Result<Command, LineRefusal>
+pub(crate) fn session_command(alloc: Global, fields: &Object, name: &str) -> Reading<Command>
     ensures { Reads (session_command name.now (members_view fields.now.entries)) result }
 {
     match name {
@@ -47,7 +42,7 @@ pub(crate) fn session_command(
     }
 }
 
-fn create_session(alloc: Global, fields: &Object) -> Result<Command, LineRefusal>
+fn create_session(alloc: Global, fields: &Object) -> Reading<Command>
     ensures { Reads (create_session (members_view fields.now.entries)) result }
 {
     let user = name_in(alloc, fields, "user")?;
@@ -61,7 +56,7 @@ fn create_session(alloc: Global, fields: &Object) -> Result<Command, LineRefusal
     })
 }
 
-fn check_access(alloc: Global, fields: &Object) -> Result<Command, LineRefusal>
+fn check_access(alloc: Global, fields: &Object) -> Reading<Command>
     ensures { Reads (of_three Command.CheckAccess (codes "session") (codes "operation") (codes "object") (members_view fields.now.entries)) result }
 {
     let (session, operation, object) = three_names(
