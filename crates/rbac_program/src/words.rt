@@ -31,7 +31,7 @@ const ABOUT: &str =
     "Takes commands of role-based access control, one JSON object a line, and answers each line";
 
 // The founding format that is read, the date of this version, and the kit that it is proved with.
-const VERSION: &str = "1 (2026-11-23, rattle-kit-13b logic dac8208d650f15bf)";
+const VERSION: &str = "1 (2026-11-26, rattle-kit-13f logic dac8208d650f15bf)";
 
 const AFTER_HELP: &str = "\
 Without words: the same as 'play - -'.
