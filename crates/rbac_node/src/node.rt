@@ -1,5 +1,5 @@
 //! What lies under a member's lock.
-ghost use Rattle.std.specs.Prelude.{◌≡◌, ◌≤◌, ◌<◌, ◌+◌, nat_lt, true, [], length, map, replicate, IfOk, OnOk, OnErr, IfSome, IfNone, OnSome};
+ghost use Rattle.std.specs.Prelude.{◌≡◌, ◌≤◌, ◌<◌, ◌+◌, nat_lt, true, false, [], length, map, replicate, IfOk, OnOk, OnErr, IfSome, IfNone, OnSome};
 ghost use Rattle.rbac_words.specs.Keeping.Member.{IsNumber};
 ghost use Rattle.rbac_node.specs.Cells.{history_cells};
 ghost use Rattle.rbac_node.specs.Inside.{AreReads};

@@ -5,6 +5,7 @@ ghost use Rattle.rbac_board.specs.Known.{AreOfOneRow, IsOf};
 ghost use Rattle.rbac_node.specs.Cells.{history_cells};
 
 mod answer;
+mod same_command;
 mod ticket;
 
 use crate::group_name::GroupName;

@@ -49,8 +49,9 @@ pub enum MeetRefusal {
 impl From<SubmitRefusal> for ServiceRefusal {
     ghost use Rattle.rbac_member.specs.Calls.{submit_refused};
     ghost use Rattle.rbac_node.specs.Told.{told};
+    ghost use Rattle.rbac_node.specs.declared.refusal.ServiceRefusal.TheVariants as refused;
 
-    ghost from_gives = { λ refusal made. (made ≡ told (submit_refused refusal)) × (made ≢ ServiceRefusal.Busy) };
+    ghost from_gives = { λ refusal made. (made ≡ told (submit_refused refusal)) × (made ≢ refused.Busy) };
 
     fn from(refusal: SubmitRefusal) -> ServiceRefusal {
         match refusal {

@@ -5,6 +5,7 @@ ghost use Rattle.rbac_node.specs.Pass.{answered_with};
 
 use crate::group_name::GroupName;
 use crate::node::Node;
+use crate::pass::same_command::is_same;
 use crate::pass::{Pass, Receipt, Ticket};
 use rbac_words::{Record, Submission};
 use std::alloc::AllocError;
@@ -16,7 +17,7 @@ fn is_answer_to(delivered: &Record, call: &Submission) -> bool
     delivered.stamp == call.stamp
         && delivered.caller == call.caller
         && delivered.serial == call.serial
-        && delivered.command == call.command
+        && is_same(&delivered.command, &call.command)
 }
 
 // Where the record of a command stands in a history, from one place on and before another.
