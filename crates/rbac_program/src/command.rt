@@ -83,7 +83,7 @@ fn watched_command<
 
 // The status of what was done. A fault of it is told.
 fn status_of<E: Write>(done: Result<(), Fault<'_>>, errors: &mut E) -> u8
-    ensures { result ≡ (if is_ok done then 0 else 1) }
+    ensures { result ≡ (if is_ok done.entry then 0 else 1) }
 {
     match done {
         Ok(()) => DONE,

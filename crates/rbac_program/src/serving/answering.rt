@@ -4,7 +4,7 @@ ghost use Rattle.line_engine.specs.Watched.{failed_of};
 
 use crate::fault::Fault;
 use crate::serving::desk::PassDesk;
-use rbac_lines::{Desk, Watched, converse, watch};
+use rbac_lines::{RunFault, Watched, converse, watch};
 use rbac_service::{Courier, Gate, GroupName, Pass, PumpEnd, Service};
 use std::alloc::Global;
 use std::io::{Read, Write};
@@ -20,17 +20,28 @@ pub(crate) struct Answered<'w, G: GroupName> {
     pub(crate) all_stopped: bool,
 }
 
-// Answers the reader's lines at the desk.
-fn talk<'w, D: Desk, R: Read + Drop, W: Write>(
+// Talks with a desk of these passes, and gives them back.
+fn talk<'w, G: GroupName, K: Gate + Drop, C: Courier + Drop, T: Wait, R: Read + Drop, W: Write>(
+    rt: &T,
     alloc: Global,
-    desk: &mut D,
+    service: &Service<G, K, C>,
+    passes: Vec<Pass<G>>,
     reader: R,
     writer: &mut Watched<W>,
-) -> Result<(), Fault<'w>>
+) -> (Result<(), Fault<'w>>, Vec<Pass<G>>)
     requires { failed_of writer.old ≡ false }
 {
-    converse(alloc, &mut watch(reader), writer, desk)?;
-    Ok(())
+    let mut desk = PassDesk {
+        rt,
+        service,
+        passes,
+    };
+    let ended = converse(alloc, &mut watch(reader), writer, &mut desk);
+    let PassDesk { passes, .. } = desk;
+    match ended {
+        Ok(_) => (Ok(()), passes),
+        Err(fault) => (Err(Fault::Run(fault)), passes),
+    }
 }
 
 // Waits for the threads. True where each ended by the stop.
@@ -83,18 +94,12 @@ pub(crate) fn answer<
                     Err(_) => is_running = false,
                 }
             }
-            let mut desk = PassDesk {
-                rt,
-                service,
-                passes,
-            };
-            let ended = if is_running {
-                talk(alloc, &mut desk, reader, writer)
+            let (ended, passes) = if is_running {
+                talk(rt, alloc, service, passes, reader, writer)
             } else {
-                Err(Fault::NoThread)
+                (Err(Fault::NoThread), passes)
             };
             service.stop(rt);
-            let PassDesk { passes, .. } = desk;
             Answered {
                 ended,
                 passes,
