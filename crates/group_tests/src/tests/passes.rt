@@ -194,15 +194,9 @@ fn strangers<G: GroupName, R: Abort>(
     let mut unknown = new_pass(rt, rows, &mut twin);
     expect_confirmed(rt, &mut node, &mut other, false);
     expect_meeting(rt, &mut first, &mut other, Err(MeetRefusal::OtherMember));
-    for foreign in [&mut other, &mut unknown] {
-        expect_refusal(
-            rt,
-            foreign,
-            &mut node,
-            add_ann(rt, alloc),
-            ServiceRefusal::Foreign,
-        );
-    }
+    let foreign = ServiceRefusal::Foreign;
+    expect_refusal(rt, &mut other, &mut node, add_ann(rt, alloc), foreign);
+    expect_refusal(rt, &mut unknown, &mut node, add_ann(rt, alloc), foreign);
     let ticket = ask(rt, &mut other, &mut neighbour, add_ann(rt, alloc));
     expect_refusal(
         rt,
@@ -212,15 +206,10 @@ fn strangers<G: GroupName, R: Abort>(
         ServiceRefusal::Busy,
     );
     node.stop();
-    for stopped in [&mut first, &mut other, &mut unknown] {
-        expect_refusal(
-            rt,
-            stopped,
-            &mut node,
-            add_ann(rt, alloc),
-            ServiceRefusal::Stopped,
-        );
-    }
+    let stopped = ServiceRefusal::Stopped;
+    expect_refusal(rt, &mut first, &mut node, add_ann(rt, alloc), stopped);
+    expect_refusal(rt, &mut other, &mut node, add_ann(rt, alloc), stopped);
+    expect_refusal(rt, &mut unknown, &mut node, add_ann(rt, alloc), stopped);
     drop(ticket);
     drop(given);
     drop(unknown);
