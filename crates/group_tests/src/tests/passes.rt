@@ -215,6 +215,10 @@ fn strangers<G: GroupName, R: Abort>(
     drop(unknown);
     drop(other);
     drop(first);
+    drop(twin);
+    drop(neighbour);
+    drop(node);
+    drop(vocabulary);
 }
 
 fn is_no_group<G: GroupName>(alloc: Global, nodes: &mut [Node<G>]) -> bool {
