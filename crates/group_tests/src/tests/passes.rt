@@ -174,56 +174,7 @@ fn new_node<G: GroupName>(
     found.expect(rt, "memory")
 }
 
-// A pass of another member is foreign, and meets none of this one, and the node doesn't confirm it. While it waits it is busy first.
-fn expect_other_member<G: GroupName>(
-    rt: &impl Abort,
-    alloc: Global,
-    node: &mut Node<G>,
-    neighbour: &mut Node<G>,
-    first: &mut Pass<G>,
-    other: &mut Pass<G>,
-) {
-    expect_confirmed(rt, node, other, false);
-    expect_meeting(rt, first, other, Err(MeetRefusal::OtherMember));
-    let foreign = ServiceRefusal::Foreign;
-    expect_refusal(rt, other, node, add_ann(rt, alloc), foreign);
-    drop(ask(rt, other, neighbour, add_ann(rt, alloc)));
-    let busy = ServiceRefusal::Busy;
-    expect_refusal(rt, other, node, add_ann(rt, alloc), busy);
-}
-
-// A pass of a caller whose number the node did not give is foreign.
-fn expect_unknown_caller<G: GroupName>(
-    rt: &impl Abort,
-    alloc: Global,
-    rows: &Rows,
-    node: &mut Node<G>,
-    twin: &mut Node<G>,
-)
-    requires rows { (rows.now ≡ G.cells) × (G.group.members ≤ length rows.now.sent) }
-{
-    drop(new_pass(rt, rows, twin));
-    let mut unknown = new_pass(rt, rows, twin);
-    let foreign = ServiceRefusal::Foreign;
-    expect_refusal(rt, &mut unknown, node, add_ann(rt, alloc), foreign);
-    drop(unknown);
-}
-
-// A stopped node says so first.
-fn expect_stopped<G: GroupName>(
-    rt: &impl Abort,
-    alloc: Global,
-    node: &mut Node<G>,
-    first: &mut Pass<G>,
-    other: &mut Pass<G>,
-) {
-    node.stop();
-    let stopped = ServiceRefusal::Stopped;
-    expect_refusal(rt, first, node, add_ann(rt, alloc), stopped);
-    expect_refusal(rt, other, node, add_ann(rt, alloc), stopped);
-}
-
-// What two nodes of a group, and a second node of the first member, tell passes of each other.
+// A pass of another member, and one of a caller whose number the node did not give, are foreign, after Stopped and Busy.
 fn strangers<G: GroupName, R: Abort>(
     rt: &R,
     alloc: Global,
@@ -235,19 +186,39 @@ fn strangers<G: GroupName, R: Abort>(
     requires rows { (group.members ≡ 2) × (length rows.now.sent ≡ 2) }
 {
     let mut node: Node<G> = new_node(rt, alloc, rows, group, 1, &vocabulary);
+    let mut neighbour: Node<G> = new_node(rt, alloc, rows, group, 2, &vocabulary);
     let mut twin: Node<G> = new_node(rt, alloc, rows, group, 1, &vocabulary);
     let mut first = new_pass(rt, rows, &mut node);
-    expect_unknown_caller(rt, alloc, rows, &mut node, &mut twin);
-    drop(twin);
-    let mut neighbour: Node<G> = new_node(rt, alloc, rows, group, 2, &vocabulary);
-    drop(vocabulary);
     let mut other = new_pass(rt, rows, &mut neighbour);
-    expect_other_member(rt, alloc, &mut node, &mut neighbour, &mut first, &mut other);
-    drop(neighbour);
-    expect_stopped(rt, alloc, &mut node, &mut first, &mut other);
+    let given = new_pass(rt, rows, &mut twin);
+    let mut unknown = new_pass(rt, rows, &mut twin);
+    expect_confirmed(rt, &mut node, &mut other, false);
+    expect_meeting(rt, &mut first, &mut other, Err(MeetRefusal::OtherMember));
+    let foreign = ServiceRefusal::Foreign;
+    expect_refusal(rt, &mut other, &mut node, add_ann(rt, alloc), foreign);
+    expect_refusal(rt, &mut unknown, &mut node, add_ann(rt, alloc), foreign);
+    let ticket = ask(rt, &mut other, &mut neighbour, add_ann(rt, alloc));
+    expect_refusal(
+        rt,
+        &mut other,
+        &mut node,
+        add_ann(rt, alloc),
+        ServiceRefusal::Busy,
+    );
+    node.stop();
+    let stopped = ServiceRefusal::Stopped;
+    expect_refusal(rt, &mut first, &mut node, add_ann(rt, alloc), stopped);
+    expect_refusal(rt, &mut other, &mut node, add_ann(rt, alloc), stopped);
+    expect_refusal(rt, &mut unknown, &mut node, add_ann(rt, alloc), stopped);
+    drop(ticket);
+    drop(given);
+    drop(unknown);
     drop(other);
     drop(first);
+    drop(twin);
+    drop(neighbour);
     drop(node);
+    drop(vocabulary);
 }
 
 fn is_no_group<G: GroupName>(alloc: Global, nodes: &mut [Node<G>]) -> bool {
