@@ -10,5 +10,6 @@ mod nodes;
 mod passes;
 mod schedule_lines;
 mod schedules;
+mod stamps;
 mod words;
 mod worlds;

@@ -37,7 +37,7 @@ pub enum ReceiveRefusal {
     Gap { expected: u64 },
     /// The stamp is not of the sender, or not above the last one taken from it.
     StampNotRising,
-    /// The clock would pass its limit, the step of the acknowledgement included.
+    /// The clock would pass its limit, the step of an acknowledgement that is due included.
     ClockFull,
     /// The message is to be acknowledged, and the member has sent as many messages as it may.
     SentFull,

@@ -30,7 +30,7 @@ pub enum Event {
 pub enum Outcome {
     /// The stamp of the command.
     Submitted(Stamp),
-    /// The stamp of the acknowledgement, which only a command gets.
+    /// The stamp of the acknowledgement, if the message was acknowledged.
     Received(Option<Stamp>),
     /// The place of the new record in the member's history, if one was due.
     Delivered(Option<usize>),

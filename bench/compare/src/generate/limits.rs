@@ -3,6 +3,7 @@
 //! Each also asks, at the limit, for what an earlier precondition denies, and goes below the limit and back to it.
 
 use super::builder::{self, Builder};
+use super::model::Model;
 use crate::case::Case;
 use crate::random::Random;
 use crate::tree::{self, Tree};
@@ -54,17 +55,20 @@ fn users() -> Vec<u8> {
     builder.schedule
 }
 
-/// Member 2 takes each command and member 1 each acknowledgement, and then each of them delivers all commands: both deny the
-/// same one, and then nothing is left.
+/// Member 2 takes each command and member 1 what it acknowledges of them, and then each of them delivers all commands: both deny
+/// the same one, and then nothing is left.
 fn users_at_two_members() -> Case {
     const USERS: u32 = 4_097;
     let mut builder = Builder::new();
+    let mut model = Model::new(2, 0, 65_536);
     for user in 1..=USERS {
         let event = builder.next_submit(0, builder::command("AddUser", &[field("user", &format!("u{user}"))]));
         builder.line(event.compact());
+        model.submit(1, 0);
     }
     for (at, from) in [(2, 1), (1, 2)] {
-        for number in 1..=USERS {
+        for _ in 0..model.sent(from) {
+            let number = model.receive(at, from);
             builder.line(builder::receive(at, from, number).compact());
         }
     }

@@ -1,6 +1,7 @@
 //! Nodes of `rbac_node` and their rows: what is published, what comes in, and what a full row takes.
 ghost use Rattle.std.specs.Prelude.{◌≡◌, ◌≤◌, length};
 
+use crate::tests::stamps::stamp;
 use rbac_node::{GroupName, Node, NodeRefusal, PublishRefusal, Rows};
 use rbac_words::{Answer, Command, Group, Name, Stamp, Vocabulary};
 use std::alloc::Global;
@@ -34,10 +35,6 @@ fn founding_of(rt: &impl Abort, alloc: Global, group: Group, places: u32) -> Fou
         vocabulary: vocabulary.expect(rt, "a vocabulary"),
         rows: Rows::found(alloc, shown).expect(rt, "memory"),
     }
-}
-
-fn stamp(clock: u64, member: u32) -> Stamp {
-    Stamp { clock, member }
 }
 
 // The node of member `number` of the founding that G names.
