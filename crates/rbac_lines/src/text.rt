@@ -40,7 +40,7 @@ fn put_acknowledged(text: &mut Vec<u8>, line: u64, stamp: Stamp) -> Result<(), A
     )
 }
 
-/// A message was received, and acknowledged at this stamp if it was a command.
+/// A message was received, and acknowledged at this stamp if it was acknowledged.
 pub fn put_received(
     text: &mut Vec<u8>,
     line: u64,
