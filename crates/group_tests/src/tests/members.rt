@@ -178,6 +178,18 @@ fn a_serial_out_of_turn_is_refused_after_acknowledgements(rt: HostRuntime) {
 }
 
 #[test]
+fn a_full_member_takes_an_acknowledgement(rt: HostRuntime) {
+    let alloc = rt.alloc();
+    let mut member = first_of(&rt, alloc, 2, 0, 1);
+    expect_submit(&rt, alloc, &mut member, 0, Ok(stamp(1, 1)));
+    expect_delivery(&rt, alloc, &mut member, None);
+    expect_ack(&rt, &mut member, 1, stamp(3, 2), Ok(None));
+    assert_eq!(rt; (member.clock(), member.sent().len()), (4, 1));
+    expect_delivery(&rt, alloc, &mut member, Some(0));
+    drop(member);
+}
+
+#[test]
 fn receives_the_next_number_of_another_member(rt: HostRuntime) {
     let mut member = first_of(&rt, rt.alloc(), 2, 0, 5);
     let gap = ReceiveRefusal::Gap { expected: 1 };
