@@ -147,10 +147,42 @@ fn receives_acknowledgements_that_rise(rt: HostRuntime) {
     let mut member = first_of(&rt, rt.alloc(), 2, 0, 5);
     let falls = Err(ReceiveRefusal::StampNotRising);
     expect_ack(&rt, &mut member, 1, stamp(5, 2), Ok(None));
+    assert_eq!(rt; member.clock(), 6);
     expect_ack(&rt, &mut member, 2, stamp(5, 2), falls);
     expect_ack(&rt, &mut member, 2, stamp(6, 3), falls);
     expect_ack(&rt, &mut member, 2, stamp(7, 2), Ok(None));
     assert_eq!(rt; (member.clock(), member.read(2), member.read(1)), (8, 2, 0));
+    drop(member);
+}
+
+#[test]
+fn a_serial_out_of_turn_is_refused_after_acknowledgements(rt: HostRuntime) {
+    let alloc = rt.alloc();
+    let mut member = first_of(&rt, alloc, 2, 0, 5);
+    expect_ack(&rt, &mut member, 1, stamp(5, 2), Ok(None));
+    expect_ack(&rt, &mut member, 2, stamp(7, 2), Ok(None));
+    let second = call(&rt, alloc, stamp(9, 2), 1);
+    let next = ReceiveRefusal::BadSerial { next: 0 };
+    expect_receipt(&rt, &mut member, 2, 3, second, Err(next));
+    // It is as before: number 3 is still the next one, and so is serial 0.
+    assert_eq!(rt;
+        (member.clock(), member.read(2), member.sent().len()),
+        (8, 2, 0)
+    );
+    let first = call(&rt, alloc, stamp(9, 2), 0);
+    expect_receipt(&rt, &mut member, 2, 3, first, Ok(Some(stamp(11, 1))));
+    drop(member);
+}
+
+#[test]
+fn a_full_member_takes_an_acknowledgement(rt: HostRuntime) {
+    let alloc = rt.alloc();
+    let mut member = first_of(&rt, alloc, 2, 0, 1);
+    expect_submit(&rt, alloc, &mut member, 0, Ok(stamp(1, 1)));
+    expect_delivery(&rt, alloc, &mut member, None);
+    expect_ack(&rt, &mut member, 1, stamp(3, 2), Ok(None));
+    assert_eq!(rt; (member.clock(), member.sent().len()), (4, 1));
+    expect_delivery(&rt, alloc, &mut member, Some(0));
     drop(member);
 }
 

@@ -1,7 +1,7 @@
 use Rattle.std.proofs.Common.{ap, ◌∙◌, Option}
 use Rattle.rbac_words.specs.Stamp.{has_passed}
 use Rattle.rbac_words.specs.Message.{stamp_of, has_later}
-use Rattle.rbac_words.specs.Member.{Member}
+use Rattle.rbac_words.specs.Keeping.Member.{Member}
 use Rattle.rbac_words.specs.declared.stamp.Stamp.{Stamp}
 use Rattle.rbac_order.proofs.StampLemmas.{passed_by_one}
 use Rattle.rbac_member.proofs.member.Member.has_later.Goals as goal
