@@ -47,12 +47,12 @@ impl Courier for Lost {
     }
 }
 
-fn name(rt: &impl Abort, alloc: Global, text: &str) -> Name {
+pub(crate) fn name(rt: &impl Abort, alloc: Global, text: &str) -> Name {
     Name::read(alloc, text.as_bytes()).expect(rt, "a name")
 }
 
 // The command that adds ann.
-fn add_ann(rt: &impl Abort, alloc: Global) -> Command {
+pub(crate) fn add_ann(rt: &impl Abort, alloc: Global) -> Command {
     let user = name(rt, alloc, "ann");
     Command::AddUser { user }
 }
@@ -138,7 +138,7 @@ pub(crate) fn sample_founding(rt: &impl Abort, alloc: Global, members: u32) -> F
 }
 
 // The command that asks whether a session that is not there may read the ledger.
-fn check(rt: &impl Abort, alloc: Global) -> Command {
+pub(crate) fn check(rt: &impl Abort, alloc: Global) -> Command {
     Command::CheckAccess {
         session: name(rt, alloc, "s1"),
         operation: name(rt, alloc, "read"),
@@ -147,7 +147,7 @@ fn check(rt: &impl Abort, alloc: Global) -> Command {
 }
 
 // The service of the founding that G names, with this courier.
-fn founded<G: GroupName, C: Courier + Drop>(
+pub(crate) fn founded<G: GroupName, C: Courier + Drop>(
     rt: &impl Abort,
     alloc: Global,
     founding: Founding,
@@ -162,7 +162,7 @@ fn founded<G: GroupName, C: Courier + Drop>(
     service.expect(rt, "memory")
 }
 
-fn new_pass<G: GroupName, K: Gate + Drop, C: Courier + Drop, R: Wait + Abort>(
+pub(crate) fn new_pass<G: GroupName, K: Gate + Drop, C: Courier + Drop, R: Wait + Abort>(
     rt: &R,
     service: &Service<G, K, C>,
     at: u32,
@@ -326,7 +326,7 @@ fn expect_published<G: GroupName>(
 }
 
 // The nodes are a group, whose members have delivered so many commands.
-fn expect_audit<G: GroupName>(
+pub(crate) fn expect_audit<G: GroupName>(
     rt: &impl Abort,
     alloc: Global,
     nodes: &mut [Node<G>],
@@ -341,7 +341,7 @@ fn is_no_group<G: GroupName>(alloc: Global, nodes: &mut [Node<G>]) -> bool {
 }
 
 // The first node confirms the pass.
-fn expect_confirmed<G: GroupName>(rt: &impl Abort, nodes: &mut [Node<G>], pass: &mut Pass<G>) {
+pub(crate) fn expect_confirmed<G: GroupName>(rt: &impl Abort, nodes: &mut [Node<G>], pass: &mut Pass<G>) {
     let node = nodes.first_mut().expect(rt, "a node");
     assert!(rt; node.confirms(pass));
 }

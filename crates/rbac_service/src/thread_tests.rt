@@ -1,6 +1,8 @@
 //! A service whose members run in threads, beside callers in threads of their own.
 ghost use Rattle.std.specs.Prelude.{◌≡◌, length};
 
+mod serving;
+
 use crate::tests::{Founding, founding_of};
 use crate::{
     ChannelCourier, Courier, Gate, GroupName, Hint, Moment, NoGate, Pass, PumpEnd, Service, Wake,
@@ -200,7 +202,7 @@ fn a_call_is_held_while_another_is_answered(rt: HostRuntime) {
     run_with_gate::<Brand, _>(&rt, rt.alloc(), founding);
 }
 
-// Loses every second hint, gives every third one twice, and sweeps in each tenth turn.
+// Loses every second hint, gives every third one twice where it is not lost, and sweeps in each tenth turn.
 #[derive(Drop)]
 struct Unreliable<R: Wait + Clock + Drop> {
     courier: ChannelCourier<R>,
@@ -240,7 +242,7 @@ fn unreliable<R: Wait + Clock + Abort + Copy + Drop>(rt: &R, alloc: Global) -> U
 #[test]
 fn lost_and_repeated_hints_lose_no_answer(rt: HostRuntime) {
     let alloc = rt.alloc();
-    let courier = unreliable(&rt, alloc);
+    let courier = lossy_courier(&rt, alloc);
     run_with::<Brand, _, _>(&rt, alloc, small_founding(&rt, alloc), courier, 6, 12);
 }
 
