@@ -231,7 +231,7 @@ impl<R: Wait + Clock + Drop> Courier for Unreliable<R> {
     }
 }
 
-fn unreliable<R: Wait + Clock + Abort + Copy + Drop>(rt: &R, alloc: Global) -> Unreliable<R> {
+fn lossy_courier<R: Wait + Clock + Abort + Copy + Drop>(rt: &R, alloc: Global) -> Unreliable<R> {
     Unreliable {
         courier: ChannelCourier::found(*rt, alloc, 2).expect(rt, "memory"),
         hints: AtomicU64::new(0),
