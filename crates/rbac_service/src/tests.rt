@@ -189,7 +189,7 @@ fn turn_all<G: GroupName, R: Wait>(rt: &R, alloc: Global, service: &Service<G, N
 }
 
 // Submits a command, and the ticket is the pass's own.
-fn submitted<G: GroupName, K: Gate + Drop, C: Courier + Drop, R: Wait + Abort>(
+pub(crate) fn submitted<G: GroupName, K: Gate + Drop, C: Courier + Drop, R: Wait + Abort>(
     rt: &R,
     alloc: Global,
     service: &Service<G, K, C>,
@@ -242,7 +242,7 @@ fn expect_receipt<G: GroupName, K: Gate + Drop, C: Courier + Drop, R: Wait + Abo
 }
 
 // A command whose answer does not come before the stop: the ticket comes back.
-fn expect_stopped<G: GroupName, K: Gate + Drop, C: Courier + Drop, R: Wait + Abort>(
+pub(crate) fn expect_stopped<G: GroupName, K: Gate + Drop, C: Courier + Drop, R: Wait + Abort>(
     rt: &R,
     service: &Service<G, K, C>,
     pass: &mut Pass<G>,

@@ -2,6 +2,7 @@
 ghost use Rattle.std.specs.Prelude.{◌≡◌, length};
 
 mod serving;
+mod silent;
 
 use crate::tests::{Founding, founding_of};
 use crate::{
