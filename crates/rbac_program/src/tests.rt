@@ -90,11 +90,7 @@ fn plays_a_long_schedule_file(rt: HostRuntime) -> Result<(), Fail> {
     }
     assert!(rt; schedule.len() > 1_048_576);
     fs::write(&rt, "long.jsonl", &schedule)?;
-    expect(
-        &rt,
-        &["rbac_monitor", "play", "-", "long.jsonl"],
-        &answers,
-    );
+    expect(&rt, &["rbac_monitor", "play", "-", "long.jsonl"], &answers);
     fs::remove_file(&rt, "long.jsonl")?;
     Ok(())
 }

@@ -341,7 +341,11 @@ fn is_no_group<G: GroupName>(alloc: Global, nodes: &mut [Node<G>]) -> bool {
 }
 
 // The first node confirms the pass.
-pub(crate) fn expect_confirmed<G: GroupName>(rt: &impl Abort, nodes: &mut [Node<G>], pass: &mut Pass<G>) {
+pub(crate) fn expect_confirmed<G: GroupName>(
+    rt: &impl Abort,
+    nodes: &mut [Node<G>],
+    pass: &mut Pass<G>,
+) {
     let node = nodes.first_mut().expect(rt, "a node");
     assert!(rt; node.confirms(pass));
 }

@@ -150,10 +150,11 @@ fn spoil_beside<G: GroupName + Send + Sync, R: Threads + Wait + Abort + Send + S
 
 // What another thread set is got here. The member that delivers then finds its cell taken and gives up, and its caller is told
 // nothing of the record that is no answer.
-fn run_taken<
-    G: GroupName + Send + Sync,
-    R: Threads + Wait + Abort + Send + Sync,
->(rt: &R, alloc: Global, founding: Founding)
+fn run_taken<G: GroupName + Send + Sync, R: Threads + Wait + Abort + Send + Sync>(
+    rt: &R,
+    alloc: Global,
+    founding: Founding,
+)
     requires names { (founding.group ≡ G.group) × (founding.words ≡ G.vocabulary) × (founding.rows ≡ G.cells) }
     requires members { length founding.rows.sent ≡ founding.group.members }
 {

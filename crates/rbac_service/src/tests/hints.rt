@@ -2,7 +2,8 @@
 ghost use Rattle.std.specs.Prelude.{◌≡◌, length};
 
 use super::{
-    Founding, Lost, add_ann, expect_no_record, expect_record, founded, founding_of, new_pass, submitted,
+    Founding, Lost, add_ann, expect_no_record, expect_record, founded, founding_of, new_pass,
+    submitted,
 };
 use crate::{GroupName, Hint, NoGate, Service, Wake};
 use rbac_words::Answer;
@@ -48,17 +49,41 @@ fn expect_read<G: GroupName, R: Wait + Abort>(
     assert_eq!(rt; read, wanted);
 }
 
-// The same of a hint, which tells nothing new: nobody is told.
+// At this hint member 2 has read so many messages of member 1.
+fn expect_hint<G: GroupName, R: Wait + Abort>(
+    rt: &R,
+    alloc: Global,
+    service: &Service<G, NoGate, Lost>,
+    (from, number): (u32, usize),
+    wanted: u32,
+) {
+    let hint = Hint { from, number };
+    expect_read(rt, alloc, service, Wake::Hint(hint), wanted);
+}
+
+// At this hint member 2 reads nothing, so that it has read as many as before, and nobody is told.
 fn expect_nothing<G: GroupName, R: Wait + Abort>(
     rt: &R,
     alloc: Global,
     service: &Service<G, NoGate, Lost>,
-    hint: Hint,
+    hint: (u32, usize),
     wanted: u32,
 ) {
     let before = told(service);
-    expect_read(rt, alloc, service, Wake::Hint(hint), wanted);
+    expect_hint(rt, alloc, service, hint, wanted);
     assert_eq!(rt; told(service), before);
+}
+
+// Hints of no message, of member 2 itself, and of members that the group does not have.
+fn expect_none<G: GroupName, R: Wait + Abort>(
+    rt: &R,
+    alloc: Global,
+    service: &Service<G, NoGate, Lost>,
+) {
+    expect_nothing(rt, alloc, service, (1, 0), 0);
+    expect_nothing(rt, alloc, service, (2, 4), 0);
+    expect_nothing(rt, alloc, service, (3, 4), 0);
+    expect_nothing(rt, alloc, service, (0, 4), 0);
 }
 
 // Member 1 has published four messages, and member 2 gets hints of them.
@@ -70,15 +95,12 @@ fn run_hints<G: GroupName, R: Wait + Abort>(rt: &R, alloc: Global, founding: Fou
     for _ in 0..4u32 {
         submit_one(rt, alloc, &service, 1);
     }
-    let hint = |from, number| Hint { from, number };
-    for (from, number) in [(1, 0), (2, 4), (3, 4), (0, 4)] {
-        expect_nothing(rt, alloc, &service, hint(from, number), 0);
-    }
-    expect_read(rt, alloc, &service, Wake::Hint(hint(1, 1)), 1);
-    expect_nothing(rt, alloc, &service, hint(1, 1), 1);
-    expect_read(rt, alloc, &service, Wake::Hint(hint(1, 3)), 3);
-    expect_nothing(rt, alloc, &service, hint(1, 2), 3);
-    expect_read(rt, alloc, &service, Wake::Hint(hint(1, 9)), 4);
+    expect_none(rt, alloc, &service);
+    expect_hint(rt, alloc, &service, (1, 1), 1);
+    expect_nothing(rt, alloc, &service, (1, 1), 1);
+    expect_hint(rt, alloc, &service, (1, 3), 3);
+    expect_nothing(rt, alloc, &service, (1, 2), 3);
+    expect_hint(rt, alloc, &service, (1, 9), 4);
     drop(service);
 }
 

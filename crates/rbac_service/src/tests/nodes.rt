@@ -76,7 +76,10 @@ fn expect_done<G: GroupName>(rt: &impl Abort, node: &Node<G>, wanted: Stamp) {
     let history = node.member().history();
     assert_eq!(rt; history.len(), 1);
     let record = history.first().expect(rt, "a record");
-    assert_eq!(rt; (record.stamp, record.caller, record.serial), (wanted, 0, 0));
+    assert_eq!(rt;
+        (record.stamp, record.caller, record.serial),
+        (wanted, 0, 0)
+    );
     assert!(rt; record.answer.same(&Answer::Done));
 }
 

@@ -34,10 +34,11 @@ fn wait_beside<
     })
 }
 
-fn run<
-    G: GroupName + Send + Sync,
-    R: Threads + Wait + Clock + Abort + Copy + Drop + Send + Sync,
->(rt: &R, alloc: Global, founding: Founding)
+fn run<G: GroupName + Send + Sync, R: Threads + Wait + Clock + Abort + Copy + Drop + Send + Sync>(
+    rt: &R,
+    alloc: Global,
+    founding: Founding,
+)
     requires names { (founding.group ≡ G.group) × (founding.words ≡ G.vocabulary) × (founding.rows ≡ G.cells) }
     requires members { length founding.rows.sent ≡ founding.group.members }
 {
