@@ -445,7 +445,7 @@ fn expect_record<G: GroupName, K: Gate + Drop, C: Courier + Drop>(
 }
 
 // Nothing is published at a place of a member's history.
-fn expect_no_record<G: GroupName, K: Gate + Drop, C: Courier + Drop>(
+pub(crate) fn expect_no_record<G: GroupName, K: Gate + Drop, C: Courier + Drop>(
     rt: &impl Abort,
     service: &Service<G, K, C>,
     at: u32,

@@ -2,7 +2,8 @@
 ghost use Rattle.std.specs.Prelude.{◌≡◌, length};
 
 use crate::tests::{
-    Founding, add_ann, expect_audit, expect_stopped, founded, founding_of, new_pass, submitted,
+    Founding, add_ann, expect_audit, expect_no_record, expect_stopped, founded, founding_of,
+    new_pass, submitted,
 };
 use crate::{ChannelCourier, Courier, GroupName, NoGate, Pass, PumpEnd, Service};
 use std::alloc::Global;
@@ -47,6 +48,7 @@ fn run<G: GroupName + Send + Sync, R: Threads + Wait + Clock + Abort + Copy + Dr
     let mut pass = new_pass(rt, &service, 1);
     assert!(rt; wait_beside(rt, alloc, &service, &mut pass));
     assert_eq!(rt; pass.front_len(), 0);
+    expect_no_record(rt, &service, 1, 0);
     let mut nodes = service.take_nodes();
     expect_audit(rt, alloc, &mut nodes, &[0, 0]);
     drop(nodes);
