@@ -1,6 +1,7 @@
 //! Whole schedules through `play` of `rbac_world`, one event after the other: what each event answers, and its member's clock after
 //! it. What is expected was written by hand.
 
+use crate::tests::stamps::stamp;
 use rbac_words::{Answer, Command, Denial, Group, Name, Stamp, Vocabulary};
 use rbac_world::{Event, Outcome, Refusal, World, play};
 use std::alloc::Global;
@@ -28,8 +29,8 @@ fn add_user(rt: &impl Abort, alloc: Global, text: &str) -> Command {
     }
 }
 
-fn stamped(clock: u64, member: u32) -> Stamp {
-    Stamp { clock, member }
+fn receive(at: u32, from: u32, number: u32) -> Event {
+    Event::Receive { at, from, number }
 }
 
 // Plays one event, which is dropped here, and compares its answer and the clock of a member after it.
@@ -58,7 +59,7 @@ fn expect_submit(rt: &impl Abort, alloc: Global, world: &mut World, at: u32, com
         serial: 0,
         command,
     };
-    let wanted = Ok(Outcome::Submitted(stamped(1, at)));
+    let wanted = Ok(Outcome::Submitted(stamp(1, at)));
     expect(rt, alloc, world, event, wanted, at, 1);
 }
 
@@ -71,13 +72,13 @@ fn expect_receipt(
     is_acknowledged: bool,
     clock: u64,
 ) {
-    let stamp = if is_acknowledged {
-        Some(stamped(clock, at))
+    let acknowledged = if is_acknowledged {
+        Some(stamp(clock, at))
     } else {
         None
     };
-    let event = Event::Receive { at, from, number };
-    let wanted = Ok(Outcome::Received(stamp));
+    let event = receive(at, from, number);
+    let wanted = Ok(Outcome::Received(acknowledged));
     expect(rt, alloc, world, event, wanted, at, clock);
 }
 
@@ -120,9 +121,9 @@ fn expect_record(
 
 // A member's history is the command of member 1, which is done, and that of member 2, which is denied.
 fn expect_both_records(rt: &impl Abort, world: &World, at: u32, denial: Denial) {
-    expect_record(rt, world, at, 0, stamped(1, 1), Answer::Done);
+    expect_record(rt, world, at, 0, stamp(1, 1), Answer::Done);
     let denied = Answer::Denied(denial);
-    expect_record(rt, world, at, 1, stamped(1, 2), denied);
+    expect_record(rt, world, at, 1, stamp(1, 2), denied);
 }
 
 #[test]
@@ -149,13 +150,15 @@ fn two_submits_are_read_to_the_end(rt: HostRuntime) {
     expect_submit(&rt, alloc, &mut world, 2, add_user(&rt, alloc, "ann"));
     assert!(rt; !world.read_to_end());
     expect_receipt(&rt, alloc, &mut world, (1, 2, 1), true, 3);
-    expect_receipt(&rt, alloc, &mut world, (2, 1, 1), true, 3);
-    expect_receipt(&rt, alloc, &mut world, (1, 2, 2), false, 4);
+    // Member 2 has sent [1,2], which comes after [1,1].
+    expect_receipt(&rt, alloc, &mut world, (2, 1, 1), false, 2);
+    let event = receive(1, 2, 2);
+    expect(&rt, alloc, &mut world, event, Err(Refusal::NotSent), 1, 3);
     assert!(rt; !world.read_to_end());
     expect_receipt(&rt, alloc, &mut world, (2, 1, 2), false, 4);
     assert!(rt; world.read_to_end());
-    for at in [1, 2] {
-        expect_two_deliveries(&rt, alloc, &mut world, at, 4);
+    for (at, clock) in [(1, 3), (2, 4)] {
+        expect_two_deliveries(&rt, alloc, &mut world, at, clock);
         expect_both_records(&rt, &world, at, Denial::UserExists);
     }
     drop(world);
@@ -174,7 +177,7 @@ fn one_submit_is_read_to_the_end(rt: HostRuntime) {
     for (at, clock) in [(1, 4), (2, 3)] {
         expect_delivery(&rt, alloc, &mut world, at, Some(0), clock);
         expect_delivery(&rt, alloc, &mut world, at, None, clock);
-        expect_record(&rt, &world, at, 0, stamped(1, 1), Answer::Done);
+        expect_record(&rt, &world, at, 0, stamp(1, 1), Answer::Done);
     }
     drop(world);
 }
