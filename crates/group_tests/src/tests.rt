@@ -8,6 +8,7 @@ mod links;
 mod members;
 mod nodes;
 mod passes;
+mod refusals;
 mod schedule_lines;
 mod schedules;
 mod words;
