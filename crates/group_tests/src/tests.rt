@@ -9,6 +9,7 @@ mod members;
 mod nodes;
 mod passes;
 mod plays;
+mod refusals;
 mod schedule_lines;
 mod schedules;
 mod stamps;

@@ -20,7 +20,7 @@ fn put<D: Display + Drop>(text: &mut Vec<u8>, shown: D) -> Result<(), AllocError
 }
 
 /// A command was submitted at this stamp.
-pub fn put_submitted(text: &mut Vec<u8>, line: u64, stamp: Stamp) -> Result<(), AllocError>
+pub(crate) fn put_submitted(text: &mut Vec<u8>, line: u64, stamp: Stamp) -> Result<(), AllocError>
     ensures { OnOk result (text.new.items ≡ text.old.items ++ submitted_text line stamp) }
 {
     let Stamp { clock, member } = stamp;
@@ -41,7 +41,7 @@ fn put_acknowledged(text: &mut Vec<u8>, line: u64, stamp: Stamp) -> Result<(), A
 }
 
 /// A message was received, and acknowledged at this stamp if it was acknowledged.
-pub fn put_received(
+pub(crate) fn put_received(
     text: &mut Vec<u8>,
     line: u64,
     acknowledged: Option<Stamp>,
@@ -90,7 +90,11 @@ fn begin_answer(text: &mut Vec<u8>, answer: &Answer) -> Result<(), AllocError>
 }
 
 /// A command was delivered, and this is its record.
-pub fn put_delivered(text: &mut Vec<u8>, line: u64, delivered: &Record) -> Result<(), AllocError>
+pub(crate) fn put_delivered(
+    text: &mut Vec<u8>,
+    line: u64,
+    delivered: &Record,
+) -> Result<(), AllocError>
     ensures { OnOk result (text.new.items ≡ text.old.items ++ delivered_text line delivered.now) }
 {
     begin_answer(text, &delivered.answer)?;
@@ -105,7 +109,7 @@ pub fn put_delivered(text: &mut Vec<u8>, line: u64, delivered: &Record) -> Resul
 }
 
 /// No command was due.
-pub fn put_nothing_delivered(text: &mut Vec<u8>, line: u64) -> Result<(), AllocError>
+pub(crate) fn put_nothing_delivered(text: &mut Vec<u8>, line: u64) -> Result<(), AllocError>
     ensures { OnOk result (text.new.items ≡ text.old.items ++ nothing_delivered_text line) }
 {
     put(text, format_args!("{{\"answer\":null,\"line\":{line}}}\n"))
@@ -163,7 +167,11 @@ fn put_bad_serial(text: &mut Vec<u8>, line: u64, next: u64, word: &str) -> Resul
 }
 
 /// The event was refused.
-pub fn put_refused(text: &mut Vec<u8>, line: u64, refusal: &Refusal) -> Result<(), AllocError>
+pub(crate) fn put_refused(
+    text: &mut Vec<u8>,
+    line: u64,
+    refusal: &Refusal,
+) -> Result<(), AllocError>
     ensures { OnOk result (text.new.items ≡ text.old.items ++ refusal_text line refusal.now) }
 {
     let word = refusal_word(refusal);
@@ -177,7 +185,11 @@ pub fn put_refused(text: &mut Vec<u8>, line: u64, refusal: &Refusal) -> Result<(
 }
 
 /// The line was refused. Where that was for want of memory, there is no text. Ok says that it is refused.
-pub fn refuse(text: &mut Vec<u8>, line: u64, refusal: LineRefusal) -> Result<bool, AllocError>
+pub(crate) fn refuse(
+    text: &mut Vec<u8>,
+    line: u64,
+    refusal: LineRefusal,
+) -> Result<bool, AllocError>
     ensures text { OnOk result (text.new.items ≡ text.old.items ++ line_refusal_text line refusal) }
     ensures refused { IfOk result (λ is_refused. is_refused ≡ true) }
     ensures other { OnOk result (refusal ≢ LineRefusal.NoMemory) }
@@ -200,7 +212,7 @@ fn put_answered(text: &mut Vec<u8>, line: u64, answer: &Answer) -> Result<(), Al
 }
 
 /// What a desk replied to the command of a client line.
-pub fn put_reply(
+pub(crate) fn put_reply(
     text: &mut Vec<u8>,
     line: u64,
     reply: &Result<Answer, DeskRefusal>,

@@ -8,13 +8,15 @@ mod hints;
 mod nodes;
 
 use crate::{
-    AuditRefusal, AwaitRefusal, Courier, EnrollRefusal, Gate, GroupName, Hint, MeetRefusal, NoGate,
-    Node, Pass, PumpEnd, Rows, Service, ServiceRefusal, Ticket, Wake, audit,
+    AuditRefusal, AwaitRefusal, CallRefusal, Courier, EnrollRefusal, Gate, GroupName, Hint,
+    MeetRefusal, NoGate, Node, Pass, PumpEnd, Rows, Service, ServiceRefusal, Ticket, Wake, audit,
 };
 use rbac_words::{
     Answer, Command, Denial, Group, Name, NameSet, Record, Review, Stamp, Vocabulary,
 };
 use std::alloc::Global;
+use std::error::Error;
+use std::fmt::InlineText;
 use std::marker::Brand;
 use std::process::Abort;
 use std::sync::Wait;
@@ -241,7 +243,20 @@ fn expect_receipt<G: GroupName, K: Gate + Drop, C: Courier + Drop, R: Wait + Abo
     assert!(rt; receipt.answer.same(&answer));
 }
 
-// A command whose answer does not come before the stop: the ticket comes back.
+fn expect_text<E: Error>(rt: &impl Abort, error: &E, text: &str) {
+    let shown: InlineText<128> = InlineText::of(error);
+    assert_eq!(rt; shown.as_str(), text);
+}
+
+// The text of a refusal, and the ticket that it gives back.
+fn told(rt: &impl Abort, refusal: AwaitRefusal, text: &str) -> Ticket {
+    expect_text(rt, &refusal, text);
+    match refusal {
+        AwaitRefusal::Stopped(ticket) | AwaitRefusal::NoMemory(ticket) => ticket,
+    }
+}
+
+// A command whose answer does not come before the stop: the ticket comes back, also out of a refusal for another reason.
 pub(crate) fn expect_stopped<G: GroupName, K: Gate + Drop, C: Courier + Drop, R: Wait + Abort>(
     rt: &R,
     service: &Service<G, K, C>,
@@ -250,8 +265,15 @@ pub(crate) fn expect_stopped<G: GroupName, K: Gate + Drop, C: Courier + Drop, R:
 )
     requires { Owns pass.old ticket }
 {
+    let stopped = "the service was stopped before the answer was published";
     let found = service.await_answer(rt, pass, ticket);
-    assert!(rt; matches!(&found, Err(AwaitRefusal::Stopped(_))));
+    let refusal = found.err().expect(rt, "a refusal");
+    let ticket = told(rt, refusal, stopped);
+    let ticket = told(rt, AwaitRefusal::NoMemory(ticket), "no memory");
+    let call = CallRefusal::Await(AwaitRefusal::NoMemory(ticket));
+    let unanswered = "the command is submitted and not answered: no memory";
+    expect_text(rt, &call, unanswered);
+    drop(call);
 }
 
 // Stops the service, which gives a hint to each of so many members.
@@ -499,4 +521,25 @@ fn a_member_whose_cell_is_taken_gives_up(rt: HostRuntime) {
     let founding = founding_of(&rt, rt.alloc(), 1, 16);
     spoil(&rt, rt.alloc(), &founding.rows);
     run_spoiled::<Brand, _>(&rt, rt.alloc(), founding);
+}
+
+#[test]
+fn refusals_of_calls(rt: HostRuntime) {
+    for (refusal, text) in [
+        (
+            EnrollRefusal::UnknownMember,
+            "the group has no member of this number",
+        ),
+        (EnrollRefusal::Stopped, "the service is stopped"),
+        (
+            EnrollRefusal::CallersFull,
+            "the member has given all 4294967295 caller numbers",
+        ),
+    ] {
+        expect_text(&rt, &refusal, text);
+    }
+    let call = CallRefusal::Submit(ServiceRefusal::Busy);
+    let busy = "the command is not submitted: the pass waits for an answer";
+    expect_text(&rt, &call, busy);
+    drop(call);
 }
