@@ -235,7 +235,13 @@ fn acknowledges_nothing_needless(rt: HostRuntime) {
     expect_delivery(&rt, alloc, &mut member, Some(0));
     expect_delivery(&rt, alloc, &mut member, Some(1));
     expect_delivery(&rt, alloc, &mut member, Some(2));
-    expect_record(&rt, &member, 2, stamp(11, 2), Answer::Denied(Denial::UserExists));
+    expect_record(
+        &rt,
+        &member,
+        2,
+        stamp(11, 2),
+        Answer::Denied(Denial::UserExists),
+    );
     drop(member);
 }
 

@@ -3,9 +3,7 @@
 //! case for each variant.
 
 use crate::tests::stamps::stamp;
-use rbac_words::{
-    Answer, Command, Denial, Group, GroupRefusal, Message, Name, Record, Review,
-};
+use rbac_words::{Answer, Command, Denial, Group, GroupRefusal, Message, Name, Record, Review};
 use sorted_keys::Same;
 use std::alloc::Global;
 use std::process::Abort;
