@@ -371,7 +371,10 @@ mod tests {
             let output = format!(r#""line":1,"refused":"{word}""#);
             read(&[FIRST, (line, &output)]).map(|run| run.kinds[1]).unwrap_or("?")
         };
-        assert_eq!(refused(r#""at":2,"from":1,"number":1"#, "ClockFull"), "receive ClockFull for a command to acknowledge");
+        assert_eq!(
+            refused(r#""at":2,"from":1,"number":1"#, "ClockFull"),
+            "receive ClockFull for a command to acknowledge"
+        );
         assert_eq!(refused(r#""at":3,"from":1,"number":1"#, "UnknownMember"), "receive UnknownMember as receiver");
         assert_eq!(refused(r#""at":1,"from":3,"number":1"#, "UnknownMember"), "receive UnknownMember as sender");
         assert_eq!(refused(r#""at":3"#, "UnknownMember"), "deliver UnknownMember");
