@@ -1,7 +1,7 @@
 //! The texts that lines are answered with. Each call puts one text, its line feed included, behind what the buffer has. A
 //! buffer of bytes refuses a write only for want of memory, and then it may have a part of the text.
 ghost use Rattle.std.specs.Prelude.{◌≡◌, ◌≢◌, ◌++◌, true, codes, IfOk, OnOk, IfSome, Some};
-ghost use Rattle.rbac_lines.specs.Text.{answer_text, answered_text, bad_serial_text, denial_text, reply_text, out_of_turn_text, submitted_text, received_text, delivered_text, nothing_delivered_text, refusal_word, refused_text, refusal_text, line_refusal_text};
+ghost use Rattle.rbac_lines.specs.Text.{stamp_text, answer_text, answered_text, bad_serial_text, denial_text, reply_text, out_of_turn_text, submitted_text, received_text, delivered_text, nothing_delivered_text, refusal_word, refused_text, refusal_text, line_refusal_text};
 
 mod lists;
 
@@ -9,8 +9,24 @@ use crate::refusal::{DeskRefusal, LineRefusal};
 use lists::{put_names, put_permissions};
 use rbac_words::{Answer, Denial, Record, Refusal, Stamp};
 use std::alloc::AllocError;
+use std::fmt;
 use std::fmt::Display;
 use std::io::Write;
+
+// A stamp as texts show it.
+#[derive(Clone, Copy, Drop)]
+struct Shown {
+    stamp: Stamp,
+}
+
+impl Display for Shown {
+    ghost output = { λ shown. Some (stamp_text shown.stamp) };
+
+    fn fmt<W: fmt::Write>(&self, f: &mut fmt::Formatter<W>) -> fmt::Result {
+        let Stamp { clock, member } = self.stamp;
+        write!(f, "[{clock},{member}]")
+    }
+}
 
 /// Puts a text behind what the buffer has.
 fn put<D: Display + Drop>(text: &mut Vec<u8>, shown: D) -> Result<(), AllocError>
@@ -23,20 +39,20 @@ fn put<D: Display + Drop>(text: &mut Vec<u8>, shown: D) -> Result<(), AllocError
 pub(crate) fn put_submitted(text: &mut Vec<u8>, line: u64, stamp: Stamp) -> Result<(), AllocError>
     ensures { OnOk result (text.new.items ≡ text.old.items ++ submitted_text line stamp) }
 {
-    let Stamp { clock, member } = stamp;
+    let stamp = Shown { stamp };
     put(
         text,
-        format_args!("{{\"line\":{line},\"stamp\":[{clock},{member}]}}\n"),
+        format_args!("{{\"line\":{line},\"stamp\":{stamp}}}\n"),
     )
 }
 
 fn put_acknowledged(text: &mut Vec<u8>, line: u64, stamp: Stamp) -> Result<(), AllocError>
     ensures { OnOk result (text.new.items ≡ text.old.items ++ received_text line (Some stamp)) }
 {
-    let Stamp { clock, member } = stamp;
+    let stamp = Shown { stamp };
     put(
         text,
-        format_args!("{{\"acknowledged\":[{clock},{member}],\"line\":{line}}}\n"),
+        format_args!("{{\"acknowledged\":{stamp},\"line\":{line}}}\n"),
     )
 }
 
@@ -98,12 +114,14 @@ pub(crate) fn put_delivered(
     ensures { OnOk result (text.new.items ≡ text.old.items ++ delivered_text line delivered.now) }
 {
     begin_answer(text, &delivered.answer)?;
-    let Stamp { clock, member } = delivered.stamp;
+    let stamp = Shown {
+        stamp: delivered.stamp,
+    };
     let (caller, serial) = (delivered.caller, delivered.serial);
     put(
         text,
         format_args!(
-            ",\"caller\":{caller},\"line\":{line},\"serial\":{serial},\"stamp\":[{clock},{member}]}}\n"
+            ",\"caller\":{caller},\"line\":{line},\"serial\":{serial},\"stamp\":{stamp}}}\n"
         ),
     )
 }
