@@ -5,6 +5,7 @@ ghost use Rattle.rbac_words.specs.Keeping.Member.{IsNumber};
 
 mod calls;
 mod ending;
+mod news;
 mod pump;
 mod turn;
 mod waiting;
@@ -17,12 +18,32 @@ use rbac_node::{GroupName, Node, Rows};
 use rbac_words::{Group, Vocabulary};
 use std::alloc::{AllocError, Global};
 use std::sync::Mutex;
+use std::sync::atomic::{AtomicU64, Ordering};
 
 /// A member's lock, and its callers that wait for answers or for the stop.
 #[derive(Drop)]
 pub(crate) struct Slot<G: GroupName> {
     pub(crate) node: Mutex<Node<G>>,
     pub(crate) waiting: Waiting,
+    // How many threads take turns for the member.
+    pumps: AtomicU64,
+}
+
+impl<G: GroupName> Slot<G> {
+    /// A thread takes turns for the member from now on.
+    pub(crate) fn begin_pump(&self) {
+        self.pumps.fetch_add(1, Ordering::SeqCst);
+    }
+
+    /// That thread ends.
+    pub(crate) fn end_pump(&self) {
+        self.pumps.fetch_sub(1, Ordering::SeqCst);
+    }
+
+    /// Whether a thread takes turns for the member.
+    pub(crate) fn is_pumped(&self) -> bool {
+        self.pumps.load(Ordering::SeqCst) != 0
+    }
 }
 
 // Room for the nodes, once they are taken out of their locks. It has a lock too: a node is no `Sync`, and a lock makes it one.
@@ -64,6 +85,7 @@ fn found_slot<G: GroupName>(
     Ok(Slot {
         node: Mutex::new(node),
         waiting: Waiting::found(alloc)?,
+        pumps: AtomicU64::new(0),
     })
 }
 

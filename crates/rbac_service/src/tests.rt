@@ -4,6 +4,7 @@ ghost use Rattle.rbac_node.specs.Pass.{Owns};
 
 mod alone;
 mod cells;
+mod helping;
 mod hints;
 mod nodes;
 

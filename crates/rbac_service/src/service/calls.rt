@@ -79,7 +79,7 @@ impl<G: GroupName, K: Gate + Drop, C: Courier + Drop> Service<G, K, C> {
         drop(node);
         slot.waiting.wake(answered);
         if shown != sent {
-            self.tell(pass.member(), shown, pass.member());
+            self.spread(alloc, pass.member(), shown, pass.member());
         }
         self.gate.at(Moment::Submitted(ticket.stamp()));
         Ok(ticket)

@@ -1,5 +1,5 @@
 //! The body of a member's thread.
-ghost use Rattle.std.specs.Prelude.{◌≡◌, ◌↔◌};
+ghost use Rattle.std.specs.Prelude.{◌≡◌, ◌≢◌, ◌↔◌};
 ghost use Rattle.rbac_words.specs.Keeping.Member.{IsNumber};
 
 use crate::courier::Courier;
@@ -29,9 +29,19 @@ impl<G: GroupName, K: Gate + Drop, C: Courier + Drop> Service<G, K, C> {
     pub fn pump<R: Wait>(&self, rt: &R, alloc: Global, at: u32) -> PumpEnd
         ensures { (result ≡ PumpEnd.UnknownMember) ↔ (IsNumber G.group at → ⊥) }
     {
-        if self.slot(at).is_none() {
+        let Some(slot) = self.slot(at) else {
             return PumpEnd::UnknownMember;
-        }
+        };
+        slot.begin_pump();
+        let end = self.pump_turns(rt, alloc, at);
+        slot.end_pump();
+        end
+    }
+
+    // A turn at each wake, until the service is stopped.
+    fn pump_turns<R: Wait>(&self, rt: &R, alloc: Global, at: u32) -> PumpEnd
+        ensures { result ≢ PumpEnd.UnknownMember }
+    {
         let mut refusals = 0;
         for _turn in rt.forever() {
             let wake = self.courier.next(at);

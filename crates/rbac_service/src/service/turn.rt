@@ -1,12 +1,16 @@
-//! One turn of a member: it receives, delivers and publishes.
+//! One turn of a member: it receives, delivers and publishes. Who has published takes the turns of the others, or tells them.
 
 use crate::courier::{Courier, Hint, Wake};
 use crate::gate::Gate;
-use crate::service::Service;
+use crate::service::news::News;
 use crate::service::waiting::Answered;
+use crate::service::{Service, Slot};
 use rbac_node::{GroupName, Node, NodeRefusal, PublishRefusal};
 use std::alloc::{AllocError, Global};
-use std::sync::Wait;
+use std::sync::{MutexGuard, Wait};
+
+// So often a thread that has published goes round the members before it leaves the rest to hints.
+const MOST_ROUNDS: u32 = 8;
 
 // How a turn ended.
 #[derive(Clone, Copy, Drop)]
@@ -18,6 +22,13 @@ pub(crate) enum Turn {
     Stopped,
     // somebody else has set a cell of the member's rows
     Broken,
+}
+
+// How a turn ended, and up to which number it has published messages, where it has published some.
+#[derive(Clone, Copy, Drop)]
+struct Turned {
+    end: Turn,
+    news: Option<usize>,
 }
 
 /// A node's own commands among those whose records were published from a place on.
@@ -68,33 +79,45 @@ impl<G: GroupName, K: Gate + Drop, C: Courier + Drop> Service<G, K, C> {
         }
     }
 
-    // Tells each other member that this one has published its messages up to a number, and itself where it is alone: a member's
-    // own message brings it nothing that is due while there are others. It begins with the first, since that one may wait.
-    pub(crate) fn tell(&self, from: u32, number: usize, first: u32) {
-        let members = self.slots.len() as u32;
-        for step in 0..members {
-            let place = (first.saturating_sub(1) % members).wrapping_add(step) % members;
-            let at = place + 1;
-            if at != from || members == 1 {
+    // Whether a member is to hear news of another one. A member's own message brings it nothing that is due while there are others.
+    fn hears(&self, at: u32, from: u32) -> bool {
+        at != from || self.slots.len() == 1
+    }
+
+    // Tells a member what others have published.
+    fn tell(&self, at: u32, news: &News) {
+        for place in 0..self.slots.len() as u32 {
+            let from = place + 1;
+            if let Some(number) = news.up_to(from)
+                && self.hears(at, from)
+            {
                 self.courier.tell(at, Hint { from, number });
             }
         }
     }
 
-    // One turn of a member. Those who wait are woken where their answers were published.
-    pub(crate) fn turn<R: Wait>(&self, rt: &R, alloc: Global, at: u32, wake: Wake) -> Turn {
-        let Some(slot) = self.slot(at) else {
-            return Turn::Stopped;
-        };
-        let mut node = slot.node.lock(rt);
+    // Whether there is news for a member.
+    fn is_news(&self, at: u32, news: &News) -> bool {
+        (0..self.slots.len() as u32).any(|place| news.up_to(place + 1).is_some()
+            && self.hears(at, place + 1))
+    }
+
+    // A turn of a member whose lock is held. Those who wait are woken where their answers were published.
+    fn take_turn(
+        &self,
+        alloc: Global,
+        slot: &Slot<G>,
+        node: MutexGuard<'_, Node<G>>,
+        wake: Wake,
+    ) -> Turned {
+        let mut node = node;
         if node.is_stopped() {
-            return Turn::Stopped;
+            return Turned {
+                end: Turn::Stopped,
+                news: None,
+            };
         }
         let (sent, records) = (node.published(), node.published_records());
-        let first = match wake {
-            Wake::Hint(hint) => hint.from,
-            Wake::Sweep => 1,
-        };
         let received = self.receive(&mut node, wake);
         let delivered = node.deliver_all(alloc);
         let published = self.publish(alloc, &mut node);
@@ -102,14 +125,92 @@ impl<G: GroupName, K: Gate + Drop, C: Courier + Drop> Service<G, K, C> {
         let answered = answered_since(&node, records);
         drop(node);
         slot.waiting.wake(answered);
-        if sent_now != sent {
-            self.tell(at, sent_now, first);
-        }
-        match published {
+        let end = match published {
             Err(PublishRefusal::Taken) | Err(PublishRefusal::RowFull) => Turn::Broken,
             Err(PublishRefusal::NoMemory) => Turn::Starved,
             Ok(()) if received.is_err() || delivered.is_err() => Turn::Starved,
             Ok(()) => Turn::Done,
+        };
+        let news = if sent_now != sent {
+            Some(sent_now)
+        } else {
+            None
+        };
+        Turned { end, news }
+    }
+
+    // A turn of a member in place of its thread, where that one runs and the lock is free.
+    fn help(&self, alloc: Global, at: u32) -> Option<Turned> {
+        let slot = self.slot(at)?;
+        if !slot.is_pumped() {
+            return None;
         }
+        let node = slot.node.try_lock()?;
+        Some(self.take_turn(alloc, slot, node, Wake::Sweep))
+    }
+
+    // Brings each member what others have published: by a turn in its place, or by hints. What was published so is answered.
+    fn bring(&self, alloc: Global, news: &News, first: u32) -> News {
+        let members = self.slots.len() as u32;
+        let mut more = News::none();
+        for step in 0..members {
+            let place = (first.saturating_sub(1) % members).wrapping_add(step) % members;
+            let at = place + 1;
+            if !self.is_news(at, news) {
+                continue;
+            }
+            let helped = self.help(alloc, at);
+            if let Some(
+                Turned {
+                    news: Some(number),
+                    ..
+                },
+            ) = helped
+            {
+                more.add(at, number);
+            }
+            // What its turn had no memory for, or found broken, its own thread sees to.
+            if !matches!(
+                helped,
+                Some(Turned {
+                    end: Turn::Done | Turn::Stopped,
+                    ..
+                })
+            ) {
+                self.tell(at, news);
+            }
+        }
+        more
+    }
+
+    // A member has published its messages up to a number: the others hear of it, and of what they publish upon it, by turns that
+    // this thread takes in their place, and by hints where it can't. It begins with the first, since that one may wait.
+    pub(crate) fn spread(&self, alloc: Global, from: u32, number: usize, first: u32) {
+        let mut news = News::of(from, number);
+        for _round in 0..MOST_ROUNDS {
+            if news.is_empty() {
+                return;
+            }
+            news = self.bring(alloc, &news, first);
+        }
+        for place in 0..self.slots.len() as u32 {
+            self.tell(place + 1, &news);
+        }
+    }
+
+    // One turn of a member by its own thread.
+    pub(crate) fn turn<R: Wait>(&self, rt: &R, alloc: Global, at: u32, wake: Wake) -> Turn {
+        let Some(slot) = self.slot(at) else {
+            return Turn::Stopped;
+        };
+        let turned = self.take_turn(alloc, slot, slot.node.lock(rt), wake);
+        if let Some(number) = turned.news {
+            let first = match wake {
+                Wake::Hint(hint) => hint.from,
+                Wake::Sweep => 1,
+            };
+            self.spread(alloc, at, number, first);
+        }
+        turned.end
     }
 }

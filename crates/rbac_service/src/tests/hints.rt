@@ -14,7 +14,7 @@ use std::sync::Wait;
 use std::sync::atomic::Ordering;
 
 // How many hints were given.
-fn told<G: GroupName>(service: &Service<G, NoGate, Lost>) -> u64 {
+pub(crate) fn told<G: GroupName>(service: &Service<G, NoGate, Lost>) -> u64 {
     service.courier.told.load(Ordering::SeqCst)
 }
 
