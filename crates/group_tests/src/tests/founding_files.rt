@@ -213,22 +213,30 @@ fn names(rt: &impl Abort, alloc: Global, texts: &[&str]) -> Vec<Name> {
     names
 }
 
+fn pairs(rt: &impl Abort, alloc: Global, texts: &[(&str, &str)]) -> Vec<(Name, Name)> {
+    let mut pairs = Vec::new(alloc);
+    for (operation, object) in texts {
+        let operation = Name::read(alloc, operation.as_bytes()).expect(rt, "a name");
+        let object = Name::read(alloc, object.as_bytes()).expect(rt, "a name");
+        pairs.push((operation, object)).expect(rt, "memory");
+    }
+    pairs
+}
+
 // Why the sample's names and permissions, with reading this object besides, make no vocabulary.
 fn refusal_with(rt: &impl Abort, alloc: Global, object: &str) -> Option<VocabularyRefusal> {
     let operations = names(rt, alloc, &["approve", "pay", "read"]);
     let objects = names(rt, alloc, &["invoice", "ledger"]);
-    let mut permissions = Vec::new(alloc);
-    let pairs = [
-        ("approve", "invoice"),
-        ("pay", "invoice"),
-        ("read", "ledger"),
-        ("read", object),
-    ];
-    for (operation, object) in pairs {
-        let operation = Name::read(alloc, operation.as_bytes()).expect(rt, "a name");
-        let object = Name::read(alloc, object.as_bytes()).expect(rt, "a name");
-        permissions.push((operation, object)).expect(rt, "memory");
-    }
+    let permissions = pairs(
+        rt,
+        alloc,
+        &[
+            ("approve", "invoice"),
+            ("pay", "invoice"),
+            ("read", "ledger"),
+            ("read", object),
+        ],
+    );
     Vocabulary::build(operations, objects, permissions).err()
 }
 

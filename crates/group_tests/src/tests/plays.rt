@@ -208,21 +208,19 @@ fn add_numbered_user(rt: &impl Abort, alloc: Global, world: &mut World, number: 
     }
 }
 
-// How many commands a member has delivered, and how many of them were done, and how many denied by a limit.
-fn answers_at(rt: &impl Abort, world: &World, at: u32) -> (usize, usize, usize) {
+// So many commands of a member's history were answered so.
+fn expect_count(rt: &impl Abort, world: &World, at: u32, answer: Answer, wanted: usize) {
     let member = world.member(at).expect(rt, "a member");
-    let history = member.history();
-    let limit = Answer::Denied(Denial::Limit);
-    let done = history
-        .iter()
-        .filter(|record| record.answer.same(&Answer::Done));
-    let denied = history.iter().filter(|record| record.answer.same(&limit));
-    (history.len(), done.count(), denied.count())
+    let records = member.history().iter();
+    let count = records.filter(|record| record.answer.same(&answer)).count();
+    assert_eq!(rt; count, wanted);
+    drop(answer);
 }
 
-// Compares the answer of the last record of a member's history.
-fn expect_last(rt: &impl Abort, world: &World, at: u32, answer: Answer) {
+// A member has delivered so many commands, and the last of them was answered so.
+fn expect_last(rt: &impl Abort, world: &World, at: u32, count: usize, answer: Answer) {
     let member = world.member(at).expect(rt, "a member");
+    assert_eq!(rt; member.history().len(), count);
     let record = member.history().last().expect(rt, "a record");
     assert!(rt; record.answer.same(&answer));
     drop(answer);
@@ -236,8 +234,8 @@ fn the_user_past_the_limit_is_denied_at_each_member(rt: HostRuntime) {
         add_numbered_user(&rt, alloc, &mut world, number);
     }
     for at in [1, 2] {
-        assert_eq!(rt; answers_at(&rt, &world, at), (4_097, 4_096, 1));
-        expect_last(&rt, &world, at, Answer::Denied(Denial::Limit));
+        expect_count(&rt, &world, at, Answer::Done, 4_096);
+        expect_last(&rt, &world, at, 4_097, Answer::Denied(Denial::Limit));
     }
     drop(world);
 }
