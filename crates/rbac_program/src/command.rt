@@ -11,7 +11,7 @@ use crate::play::play;
 use crate::serving::serve;
 use crate::words::{Asked, read_words};
 use clap::Error;
-use rbac_lines::{Watched, watch};
+use rbac_lines::{RunFault, Watched, watch};
 use std::alloc::AllocError;
 use std::convert::AsStr;
 use std::fmt::Display;
@@ -22,7 +22,7 @@ use std::thread::Threads;
 use std::time::Clock;
 use std::{env, io};
 
-/// The input was read to its end, or help was asked for.
+/// The input was read to its end, or help was asked for and written.
 const DONE: u8 = 0;
 
 /// A fault of a file, of the founding, of the run or of the audit.
@@ -74,10 +74,7 @@ fn watched_command<
             put(errors, &error);
             REFUSED
         }
-        Err(help) => {
-            put(writer, &help);
-            DONE
-        }
+        Err(help) => show(writer, &help, errors),
     }
 }
 
@@ -123,6 +120,16 @@ pub(crate) fn no_words<E: Write>(error: &io::Error, errors: &mut E) -> u8
             REFUSED
         }
     }
+}
+
+/// Writes what was asked for, and answers the status: a stream that takes no more is a fault.
+fn show<W: Write, D: Display, E: Write>(stream: &mut W, text: &D, errors: &mut E) -> u8
+    ensures { result ≤ 1 }
+{
+    if write!(stream, "{text}").is_err() || stream.flush().is_err() {
+        return tell(errors, Fault::Run(RunFault::Write));
+    }
+    DONE
 }
 
 /// Writes a text. Where it cannot be written the status tells what happened.

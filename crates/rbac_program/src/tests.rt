@@ -376,7 +376,7 @@ fn keeps_the_status_where_nothing_can_be_written(rt: HostRuntime) {
     for (words, status) in [
         (["rbac_monitor"].as_slice(), 1),
         (&["rbac_monitor", "fly"], 2),
-        (&["rbac_monitor", "--help"], 0),
+        (&["rbac_monitor", "--help"], 1),
     ] {
         let answered = command(&rt, words, SCHEDULE, Broken, &mut Broken);
         assert_eq!(rt; answered, status);

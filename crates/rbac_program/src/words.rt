@@ -36,7 +36,35 @@ const VERSION: &str = "1 (2026-11-26, rattle-kit-13f logic dac8208d650f15bf)";
 const AFTER_HELP: &str = "\
 Without words: the same as 'play - -'.
 
-docs/LINES.md says what lines may contain and what each refusal means, docs/lines.schema.json their shape.
+A line of serve asks a member a command, and is answered in one line:
+  {\"at\":1,\"command\":{\"name\":\"AddUser\",\"user\":\"ann\"}}
+  {\"answer\":\"Done\",\"line\":1}
+A line of play is one of these; caller and serial are numbers, serials 0, 1, 2 and so on for each caller:
+  {\"do\":\"submit\",\"at\":1,\"caller\":0,\"serial\":0,\"command\":{\"name\":\"AddUser\",\"user\":\"ann\"}}
+  {\"do\":\"deliver\",\"at\":1}
+  {\"do\":\"receive\",\"at\":1,\"from\":2,\"number\":1}
+An answer is \"Done\", \"Granted\" or \"Refused\", what a review lists, or {\"denied\":WORD,\"number\":N};
+{\"line\":1,\"refused\":WORD} is a line that was not taken.
+
+The commands with their fields, of which roles is an array of names, n a number, each other one a name:
+  AddUser DeleteUser AssignedRoles AuthorizedRoles UserPermissions  user
+  AddRole DeleteRole AssignedUsers AuthorizedUsers RolePermissions  role
+  AssignUser DeassignUser  user role
+  GrantPermission RevokePermission  operation object role
+  AddInheritance DeleteInheritance AddAscendant AddDescendant  ascendant descendant
+  CreateSession  user session roles
+  DeleteSession  user session
+  AddActiveRole DropActiveRole  user session role
+  CheckAccess  session operation object
+  SessionRoles SessionPermissions  session
+  RoleOperationsOnObject  role object
+  UserOperationsOnObject  user object
+  CreateSsdSet CreateDsdSet  set roles n
+  DeleteSsdSet DeleteDsdSet  set
+  AddSsdRoleMember AddDsdRoleMember DeleteSsdRoleMember DeleteDsdRoleMember  set role
+  SetSsdSetCardinality SetDsdSetCardinality  set n
+  SsdRoleSets DsdRoleSets
+  SsdRoleSetRoles DsdRoleSetRoles SsdRoleSetCardinality DsdRoleSetCardinality  set
 
 A founding file is TOML with the keys
   version = 1                needed
@@ -44,14 +72,14 @@ A founding file is TOML with the keys
   operations, objects        arrays of names, needed
   permissions                an array of [operation, object], needed
   clock, sent_limit          whole numbers; 0 and 65536 where they are absent
+A name has 1 to 64 bytes of A-Z a-z 0-9 _ - and the full stop.
 
 Examples:
-  rbac_monitor < examples/first_day.jsonl
-  rbac_monitor play examples/clinic.toml examples/clinic_day.jsonl
-  your_program | rbac_monitor serve examples/clinic.toml | what_reads_the_answers
+  echo '{\"at\":1,\"command\":{\"name\":\"AddUser\",\"user\":\"ann\"}}' | rbac_monitor serve -
+  your_program | rbac_monitor serve FOUNDING | what_reads_the_answers
 
 Status:
-  0  the input was read to its end, or this help was asked for
+  0  the input was read to its end, or this help was asked for and written
   1  a fault of a file, of the founding, of the run or of the audit: one line on the error stream
   2  the command line is refused";
 
