@@ -5,6 +5,8 @@ use crate::case::{Case, Played, lines_of};
 use crate::text::{number_after, text_between};
 use std::collections::BTreeMap;
 
+const LAST_CLOCK: u64 = 9_007_199_254_740_991;
+
 /// A clock and a member's number, in the order of commands.
 type Stamp = (u64, u32);
 
@@ -14,13 +16,16 @@ pub struct GroupRun {
 }
 
 /// What occurs in groups: each of these has to occur.
-pub const KINDS: [&str; 28] = [
+pub const KINDS: [&str; 32] = [
     "submit taken",
     "submit UnknownMember",
     "submit ClockFull",
     "submit SentFull",
     "submit BadSerial",
-    "receive command",
+    "receive command, acknowledged",
+    "receive command, something later was sent",
+    "receive command, something later was sent and the sent list is full",
+    "receive command, something later was sent and the clock comes to its end",
     "receive acknowledgement",
     "receive UnknownMember as receiver",
     "receive UnknownMember as sender",
@@ -28,7 +33,8 @@ pub const KINDS: [&str; 28] = [
     "receive NotSent",
     "receive Repeat",
     "receive Gap",
-    "receive ClockFull for a command",
+    "receive ClockFull for a command to acknowledge",
+    "receive ClockFull for a command where something later was sent",
     "receive ClockFull for an acknowledgement",
     "receive SentFull",
     "deliver own command",
@@ -47,8 +53,9 @@ pub const KINDS: [&str; 28] = [
 
 #[derive(Default)]
 struct Member {
-    /// Whether each message is a command.
-    sent: Vec<bool>,
+    clock: u64,
+    /// The stamp of each message, and whether it is a command.
+    sent: Vec<(Stamp, bool)>,
     /// How many messages were taken of each sender.
     taken: BTreeMap<u32, u32>,
     /// How many commands it knows, delivered ones among them.
@@ -59,8 +66,19 @@ struct Member {
     is_drained: bool,
 }
 
+impl Member {
+    fn message(&self, number: u32) -> Option<(Stamp, bool)> {
+        self.sent.get((number as usize).checked_sub(1)?).copied()
+    }
+
+    fn has_sent_later(&self, stamp: Stamp) -> bool {
+        self.sent.iter().any(|(sent, _)| *sent > stamp)
+    }
+}
+
 struct Run {
     members: Vec<Member>,
+    sent_limit: usize,
     /// The caller and the serial of each submitted command.
     submitted: BTreeMap<Stamp, (u32, u32)>,
     /// The longest sequence that a member delivered: each record with all that was printed but its line.
@@ -74,8 +92,11 @@ impl GroupRun {
         let founding = String::from_utf8_lossy(case.founding.as_deref().unwrap_or_default()).into_owned();
         let members = text_between(&founding, "members = ", "\n").and_then(|number| number.parse().ok());
         let members: usize = members.ok_or("no number of members")?;
+        let number = |key| text_between(&founding, key, "\n").and_then(|number| number.parse().ok());
+        let clock = number("clock = ").unwrap_or(0);
         let mut run = Run {
-            members: (0..members).map(|_| Member::default()).collect(),
+            members: (0..members).map(|_| Member { clock, ..Member::default() }).collect(),
+            sent_limit: number("sent_limit = ").unwrap_or(65_536) as usize,
             submitted: BTreeMap::new(),
             order: Vec::new(),
             kinds: Vec::new(),
@@ -107,13 +128,15 @@ impl Run {
         } else if output.starts_with("{\"answer\":") {
             return self.take_record(at, stamp_behind(output, "\"stamp\":").ok_or("no stamp")?, output);
         } else if output.starts_with("{\"acknowledged\":") {
-            let from = number("from").ok_or("nobody to receive from")?;
-            self.take_receipt(at, from, stamp_behind(output, "\"acknowledged\":"));
+            let (from, number) = number("from").zip(number("number")).ok_or("nothing to receive")?;
+            let message = self.members.get((from as usize).wrapping_sub(1)).and_then(|sender| sender.message(number));
+            let message = message.ok_or("a message that nobody sent")?;
+            return self.take_receipt(at, from, message, stamp_behind(output, "\"acknowledged\":"));
         } else {
             let stamp = stamp_behind(output, "\"stamp\":").ok_or("no stamp")?;
             let (caller, serial) = number("caller").zip(number("serial")).ok_or("no caller")?;
             self.submitted.insert(stamp, (caller, serial));
-            self.send(at, true);
+            self.send(at, stamp, true);
             self.member(at).known += 1;
             self.kinds.push("submit taken");
         }
@@ -124,21 +147,47 @@ impl Run {
         &mut self.members[number as usize - 1]
     }
 
-    fn send(&mut self, at: u32, is_command: bool) {
+    fn send(&mut self, at: u32, stamp: Stamp, is_command: bool) {
         let member = self.member(at);
-        member.sent.push(is_command);
+        member.clock = stamp.0;
+        member.sent.push((stamp, is_command));
         member.is_drained = false;
     }
 
-    fn take_receipt(&mut self, at: u32, from: u32, acknowledgement: Option<Stamp>) {
+    /// A command is acknowledged exactly where nothing later was sent.
+    fn take_receipt(
+        &mut self,
+        at: u32,
+        from: u32,
+        (stamp, is_command): (Stamp, bool),
+        acknowledgement: Option<Stamp>,
+    ) -> Result<(), String> {
+        let sent_limit = self.sent_limit;
         let member = self.member(at);
-        *member.taken.entry(from).or_default() += 1;
-        member.is_drained = false;
-        if acknowledgement.is_some() {
-            member.known += 1;
-            self.send(at, false);
+        let is_due = is_command && !member.has_sent_later(stamp);
+        if is_due != acknowledgement.is_some() {
+            return Err("an acknowledgement that is needless, or none where one is due".to_owned());
         }
-        self.kinds.push(if acknowledgement.is_some() { "receive command" } else { "receive acknowledgement" });
+        *member.taken.entry(from).or_default() += 1;
+        member.known += usize::from(is_command);
+        member.is_drained = false;
+        member.clock = member.clock.max(stamp.0) + 1;
+        let (is_full, is_at_end) = (member.sent.len() == sent_limit, member.clock == LAST_CLOCK);
+        if let Some(acknowledgement) = acknowledgement {
+            self.send(at, acknowledgement, false);
+            self.kinds.push("receive command, acknowledged");
+        } else if is_command {
+            self.kinds.push("receive command, something later was sent");
+            if is_full {
+                self.kinds.push("receive command, something later was sent and the sent list is full");
+            }
+            if is_at_end {
+                self.kinds.push("receive command, something later was sent and the clock comes to its end");
+            }
+        } else {
+            self.kinds.push("receive acknowledgement");
+        }
+        Ok(())
     }
 
     /// Each member's next record is the next one of those who are ahead of it, was submitted, and comes in stamp order.
@@ -167,15 +216,20 @@ impl Run {
     }
 
     fn take_refusal(&mut self, word: &str, at: Option<u32>, from: Option<u32>, number: Option<u32>, is_submit: bool) {
-        let is_command = |from: u32, number: u32| {
-            self.members.get((from as usize).wrapping_sub(1))?.sent.get((number as usize).wrapping_sub(1)).copied()
-        };
+        let member = |number: u32| self.members.get((number as usize).wrapping_sub(1));
         let is_member = |at: u32| (1..=self.members.len()).contains(&(at as usize));
         let refused = match (word, from) {
-            ("ClockFull", Some(from)) => match is_command(from, number.unwrap_or_default()) {
-                Some(true) => "receive ClockFull for a command",
-                _ => "receive ClockFull for an acknowledgement",
-            },
+            ("ClockFull", Some(from)) => {
+                let message = member(from).and_then(|sender| sender.message(number.unwrap_or_default()));
+                let receiver = at.and_then(member);
+                match message {
+                    Some((stamp, true)) if receiver.is_some_and(|at| at.has_sent_later(stamp)) => {
+                        "receive ClockFull for a command where something later was sent"
+                    }
+                    Some((_, true)) => "receive ClockFull for a command to acknowledge",
+                    _ => "receive ClockFull for an acknowledgement",
+                }
+            }
             ("UnknownMember", Some(_)) if at.is_some_and(is_member) => "receive UnknownMember as sender",
             ("UnknownMember", Some(_)) => "receive UnknownMember as receiver",
             ("UnknownMember", None) if !is_submit => "deliver UnknownMember",
@@ -256,11 +310,10 @@ mod tests {
 
     const FIRST: (&str, &str) = (r#""at":1,"caller":0,"serial":0"#, r#""line":1,"stamp":[1,1]"#);
     const SECOND: (&str, &str) = (r#""at":1,"caller":0,"serial":1"#, r#""line":1,"stamp":[2,1]"#);
-    const READ: [(&str, &str); 4] = [
+    const READ: [(&str, &str); 3] = [
         (r#""at":2,"from":1,"number":1"#, r#""acknowledged":[3,2],"line":1"#),
-        (r#""at":2,"from":1,"number":2"#, r#""acknowledged":[5,2],"line":1"#),
+        (r#""at":2,"from":1,"number":2"#, r#""acknowledged":null,"line":1"#),
         (r#""at":1,"from":2,"number":1"#, r#""acknowledged":null,"line":1"#),
-        (r#""at":1,"from":2,"number":2"#, r#""acknowledged":null,"line":1"#),
     ];
     const NOTHING: &str = r#""answer":null,"line":1"#;
 
@@ -287,7 +340,8 @@ mod tests {
         for kind in [
             "run delivered to its end",
             "submit taken",
-            "receive command",
+            "receive command, acknowledged",
+            "receive command, something later was sent",
             "receive acknowledgement",
             "deliver nothing, none held",
         ] {
@@ -306,7 +360,9 @@ mod tests {
         assert!(law_of(&[FIRST, at_1(&record(1, 1, "Done"))]).contains("another serial"));
         let silent = [&[FIRST, SECOND], &READ[..], &[at_1(&first), at_1(NOTHING)]].concat();
         assert!(law_of(&silent).contains("everybody"));
-        assert!(law_of(&silent[..5]).is_empty());
+        assert!(law_of(&silent[..4]).is_empty());
+        let needless = (READ[1].0, r#""acknowledged":[5,2],"line":1"#);
+        assert!(law_of(&[FIRST, SECOND, READ[0], needless]).contains("needless"));
     }
 
     #[test]
@@ -315,7 +371,10 @@ mod tests {
             let output = format!(r#""line":1,"refused":"{word}""#);
             read(&[FIRST, (line, &output)]).map(|run| run.kinds[1]).unwrap_or("?")
         };
-        assert_eq!(refused(r#""at":2,"from":1,"number":1"#, "ClockFull"), "receive ClockFull for a command");
+        assert_eq!(
+            refused(r#""at":2,"from":1,"number":1"#, "ClockFull"),
+            "receive ClockFull for a command to acknowledge"
+        );
         assert_eq!(refused(r#""at":3,"from":1,"number":1"#, "UnknownMember"), "receive UnknownMember as receiver");
         assert_eq!(refused(r#""at":1,"from":3,"number":1"#, "UnknownMember"), "receive UnknownMember as sender");
         assert_eq!(refused(r#""at":3"#, "UnknownMember"), "deliver UnknownMember");

@@ -128,6 +128,42 @@ fn an_acknowledgement_is_one_of_the_messages_that_may_be_sent() {
     );
 }
 
+/// Who has sent something later than a command does not acknowledge it: its clock makes one step, and it needs no room.
+#[test]
+fn a_command_is_acknowledged_where_nothing_later_was_sent() {
+    let first = [(add_user(1, 0, 0, "ann"), r#"{"stamp":[1,1]}"#), (add_user(2, 0, 0, "bob"), r#"{"stamp":[1,2]}"#)];
+    let mut rows = first.to_vec();
+    rows.extend([
+        // Of two stamps with one clock that of the larger member comes later.
+        (receive(2, 1, 1), TAKEN),
+        (deliver(2), r#"{"answer":"Done","caller":0,"serial":0,"stamp":[1,1]}"#),
+        (deliver(2), NOTHING),
+        (receive(1, 2, 1), SENT_FULL),
+    ]);
+    check(&founding(2, "sent_limit = 1"), &rows);
+    let mut rows = first.to_vec();
+    rows.extend([
+        (receive(1, 2, 1), r#"{"acknowledged":[3,1]}"#),
+        (add_user(2, 0, 1, "eve"), r#"{"stamp":[2,2]}"#),
+        (receive(1, 2, 2), TAKEN),
+        (add_user(1, 0, 1, "eve"), r#"{"stamp":[5,1]}"#),
+    ]);
+    check(&founding(2, ""), &rows);
+    // One step is left to member 2, which is enough for what it does not acknowledge, and then none.
+    check(
+        &founding(2, "clock = 9007199254740988"),
+        &[
+            (add_user(1, 0, 0, "ann"), r#"{"stamp":[9007199254740989,1]}"#),
+            (add_user(1, 0, 1, "bob"), r#"{"stamp":[9007199254740990,1]}"#),
+            (add_user(2, 0, 0, "ann"), r#"{"stamp":[9007199254740989,2]}"#),
+            (add_user(2, 0, 1, "bob"), r#"{"stamp":[9007199254740990,2]}"#),
+            (receive(2, 1, 1), TAKEN),
+            (receive(2, 1, 2), CLOCK_FULL),
+            (receive(1, 2, 1), TAKEN),
+        ],
+    );
+}
+
 /// Callers of one number at two members are two callers.
 #[test]
 fn serials_are_counted_at_each_member() {

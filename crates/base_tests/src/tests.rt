@@ -3,6 +3,7 @@
 mod board;
 mod keys;
 mod plans;
+mod refusals;
 mod relations;
 mod runs;
 mod words;

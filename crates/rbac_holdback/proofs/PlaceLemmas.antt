@@ -9,7 +9,7 @@ use Rattle.rbac_words.specs.declared.stamp.Stamp.{Stamp}
 use Rattle.rbac_words.specs.declared.message.Submission.{Submission}
 use Rattle.rbac_words.specs.Message.{submitted_at}
 use Rattle.rbac_words.specs.Stamp.{IsBefore, is_before, stamp_cmp, IsRising, insert_by_stamp}
-use Rattle.rbac_holdback.specs.Holdback.{Holdback, IsHoldback}
+use Rattle.rbac_holdback.specs.Holdback.{Holdback, IsHoldback, CanBeHeld}
 use Rattle.rbac_order.proofs.StampLemmas.{before_trans, before_true, true_before, before_total, IsApart, Each-insert, Rising-insert}
 
 module _ {X : Type 0} where
@@ -66,9 +66,10 @@ pub le-after : (s t : Stamp) → is_le (stamp_cmp t s) ≡ not (is_before s t)
 le-after s t = grind (arith, nat_tests)
 
 -- what the requirements of a put keep; seen is h as its caller sees it
-pub IsHoldback-put : (h seen : Holdback) (x : Submission) → h ≡ seen → IsHoldback h → (1 ≤ x.stamp.member) × (x.stamp.member ≤ seen.members)
-    → Each (λ (y : Submission). y.stamp.member ≡ x.stamp.member → IsBefore y.stamp x.stamp) seen.held → IsHoldback (record { members = h.members; held = insert_by_stamp submitted_at x h.held })
-IsHoldback-put h seen x e k m a = record {
-  rising = Rising-put submitted_at x h.held k.rising (subst (λ (v : Holdback). Each (λ (y : Submission). y.stamp.member ≡ x.stamp.member → IsBefore y.stamp x.stamp) v.held) (sym e) a);
-  senders = Each-insert submitted_at (λ (y : Submission). (1 ≤ y.stamp.member) × (y.stamp.member ≤ h.members)) x h.held (subst (λ (v : Holdback). (1 ≤ x.stamp.member) × (x.stamp.member ≤ v.members)) (sym e) m) k.senders;
-}
+pub IsHoldback-put : (h seen : Holdback) (x : Submission) → h ≡ seen → IsHoldback h → CanBeHeld seen x → IsHoldback (record { members = h.members; held = insert_by_stamp submitted_at x h.held })
+IsHoldback-put h seen x e k can =
+    let fits : CanBeHeld h x = subst (λ (v : Holdback). CanBeHeld v x) (sym e) can in
+    record {
+      rising = Rising-put submitted_at x h.held k.rising fits.above;
+      senders = Each-insert submitted_at (λ (y : Submission). (1 ≤ y.stamp.member) × (y.stamp.member ≤ h.members)) x h.held (fits.low, fits.high) k.senders;
+    }

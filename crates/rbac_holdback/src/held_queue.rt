@@ -1,11 +1,10 @@
 //! What is asked of the commands that are held, however they are kept.
 ghost use Rattle.std.specs.Prelude.{◌≡◌, ◌≤◌, ◌↔◌, IsTrue, [], drop, length, IfErr, OnOk, OnErr, IfSome, IfNone};
-ghost use Rattle.std.specs.List.{AllByRecursion};
 ghost use Rattle.rbac_words.specs.Message.{submitted_at};
-ghost use Rattle.rbac_words.specs.Stamp.{IsBefore, insert_by_stamp};
+ghost use Rattle.rbac_words.specs.Stamp.{insert_by_stamp};
 ghost use Rattle.rbac_words.specs.Keeping.Member.{is_least_passed};
 ghost use Rattle.rbac_words.specs.World.{least as least_of};
-ghost use Rattle.rbac_holdback.specs.Holdback.{Holdback as HoldbackValue, IsHoldback};
+ghost use Rattle.rbac_holdback.specs.Holdback.{Holdback as HoldbackValue, IsHoldback, CanBeHeld};
 
 use crate::passing::is_passed_by_all;
 use rbac_words::{Stamp, Submission as Held};
@@ -28,8 +27,7 @@ pub trait HeldQueue: Sized {
     /// Holds a command, before the first one with a greater stamp. Each member's stamps rise, so it comes after those of
     /// its own member. Where memory is wanting, the command is handed back.
     fn put(&mut self, held: Held) -> Result<(), Held>
-        requires member { (1 ≤ held.stamp.member) × (held.stamp.member ≤ (content self.old).members) }
-        requires above { AllByRecursion (λ x. x.stamp.member ≡ held.stamp.member → IsBefore x.stamp held.stamp) (content self.old).held }
+        requires { CanBeHeld (content self.old) held }
         ensures members { (content self.new).members ≡ (content self.old).members }
         ensures held { OnOk result ((content self.new).held ≡ insert_by_stamp submitted_at held (content self.old).held) }
         ensures handed_back { IfErr result (λ back. back ≡ held) }

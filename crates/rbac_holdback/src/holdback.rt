@@ -1,9 +1,8 @@
 //! The commands that are held, as one queue for each sender.
 ghost use Rattle.std.specs.Prelude.{◌≡◌, ◌≤◌, ◌<◌, [], drop, length, max, IfErr, OnOk, OnErr, IfSome, IfNone, vec_len};
-ghost use Rattle.std.specs.List.{AllByRecursion};
 ghost use Rattle.std.specs.Option.{option_copied};
 ghost use Rattle.rbac_words.specs.Message.{submitted_at};
-ghost use Rattle.rbac_words.specs.Stamp.{IsBefore, insert_by_stamp};
+ghost use Rattle.rbac_words.specs.Stamp.{insert_by_stamp};
 ghost use Rattle.rbac_words.specs.World.{least as least_of};
 ghost use Rattle.rbac_holdback.specs.Holdback.{IsHoldback};
 ghost use Rattle.rbac_holdback.specs.Queues.{AreQueues, IsWidened, held_in, lists_of, lesser as lesser_of};

@@ -1,8 +1,7 @@
 //! The commands that are held, as one list.
 ghost use Rattle.std.specs.Prelude.{◌≡◌, ◌≤◌, [], drop, length, IfErr, OnOk, OnErr, IfSome, IfNone};
-ghost use Rattle.std.specs.List.{AllByRecursion};
 ghost use Rattle.rbac_words.specs.Message.{submitted_at};
-ghost use Rattle.rbac_words.specs.Stamp.{IsBefore, insert_by_stamp};
+ghost use Rattle.rbac_words.specs.Stamp.{insert_by_stamp};
 ghost use Rattle.rbac_words.specs.World.{least as least_of};
 ghost use Rattle.rbac_holdback.specs.Holdback.{IsHoldback};
 

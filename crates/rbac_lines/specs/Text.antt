@@ -76,8 +76,8 @@ refused_word_text word = codes ",\"refused\":\"" ++ word ++ codes "\"}\n"
 abbrev pub submitted_text : ℕ → Stamp → List ℕ
 submitted_text line stamp = codes "{\"line\":" ++ decimal line ++ codes ",\"stamp\":" ++ stamp_text stamp ++ codes "}\n"
 
--- {"acknowledged":[3,1],"line":5} where a command was received, and {"acknowledged":null,"line":5} where an
--- acknowledgement was
+-- {"acknowledged":[3,1],"line":5} where a message was received and acknowledged, and {"acknowledged":null,"line":5} where
+-- it was not acknowledged
 abbrev pub received_text : ℕ → Option Stamp → List ℕ
 received_text line acknowledged = codes "{\"acknowledged\":" ++ stamp_or_null acknowledged ++ codes ",\"line\":" ++ decimal line ++ codes "}\n"
 

@@ -19,7 +19,7 @@ use std::io::{Read, Write};
 use std::marker::PhantomData;
 
 /// A desk takes lines: each asks it for a command, or is refused.
-pub struct Conversing<D: Desk>(PhantomData<D>);
+pub(crate) struct Conversing<D: Desk>(PhantomData<D>);
 
 impl<D: Desk> Taking for Conversing<D> {
     type Over = D;

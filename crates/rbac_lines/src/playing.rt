@@ -15,7 +15,7 @@ use rbac_world::World;
 use std::alloc::{AllocError, Global};
 
 /// A world takes lines: each is an event, or refused.
-pub struct Playing;
+pub(crate) struct Playing;
 
 impl Taking for Playing {
     type Over = World;

@@ -1,7 +1,7 @@
 //! The texts that lines are answered with. Each call puts one text, its line feed included, behind what the buffer has. A
 //! buffer of bytes refuses a write only for want of memory, and then it may have a part of the text.
 ghost use Rattle.std.specs.Prelude.{◌≡◌, ◌≢◌, ◌++◌, true, codes, IfOk, OnOk, IfSome, Some};
-ghost use Rattle.rbac_lines.specs.Text.{answer_text, answered_text, bad_serial_text, denial_text, reply_text, out_of_turn_text, submitted_text, received_text, delivered_text, nothing_delivered_text, refusal_word, refused_text, refusal_text, line_refusal_text};
+ghost use Rattle.rbac_lines.specs.Text.{stamp_text, answer_text, answered_text, bad_serial_text, denial_text, reply_text, out_of_turn_text, submitted_text, received_text, delivered_text, nothing_delivered_text, refusal_word, refused_text, refusal_text, line_refusal_text};
 
 mod lists;
 
@@ -9,8 +9,24 @@ use crate::refusal::{DeskRefusal, LineRefusal};
 use lists::{put_names, put_permissions};
 use rbac_words::{Answer, Denial, Record, Refusal, Stamp};
 use std::alloc::AllocError;
+use std::fmt;
 use std::fmt::Display;
 use std::io::Write;
+
+// A stamp as texts show it.
+#[derive(Clone, Copy, Drop)]
+struct Shown {
+    stamp: Stamp,
+}
+
+impl Display for Shown {
+    ghost output = { λ shown. Some (stamp_text shown.stamp) };
+
+    fn fmt<W: fmt::Write>(&self, f: &mut fmt::Formatter<W>) -> fmt::Result {
+        let Stamp { clock, member } = self.stamp;
+        write!(f, "[{clock},{member}]")
+    }
+}
 
 /// Puts a text behind what the buffer has.
 fn put<D: Display + Drop>(text: &mut Vec<u8>, shown: D) -> Result<(), AllocError>
@@ -20,28 +36,28 @@ fn put<D: Display + Drop>(text: &mut Vec<u8>, shown: D) -> Result<(), AllocError
 }
 
 /// A command was submitted at this stamp.
-pub fn put_submitted(text: &mut Vec<u8>, line: u64, stamp: Stamp) -> Result<(), AllocError>
+pub(crate) fn put_submitted(text: &mut Vec<u8>, line: u64, stamp: Stamp) -> Result<(), AllocError>
     ensures { OnOk result (text.new.items ≡ text.old.items ++ submitted_text line stamp) }
 {
-    let Stamp { clock, member } = stamp;
+    let stamp = Shown { stamp };
     put(
         text,
-        format_args!("{{\"line\":{line},\"stamp\":[{clock},{member}]}}\n"),
+        format_args!("{{\"line\":{line},\"stamp\":{stamp}}}\n"),
     )
 }
 
 fn put_acknowledged(text: &mut Vec<u8>, line: u64, stamp: Stamp) -> Result<(), AllocError>
     ensures { OnOk result (text.new.items ≡ text.old.items ++ received_text line (Some stamp)) }
 {
-    let Stamp { clock, member } = stamp;
+    let stamp = Shown { stamp };
     put(
         text,
-        format_args!("{{\"acknowledged\":[{clock},{member}],\"line\":{line}}}\n"),
+        format_args!("{{\"acknowledged\":{stamp},\"line\":{line}}}\n"),
     )
 }
 
-/// A message was received, and acknowledged at this stamp if it was a command.
-pub fn put_received(
+/// A message was received, and acknowledged at this stamp if it was acknowledged.
+pub(crate) fn put_received(
     text: &mut Vec<u8>,
     line: u64,
     acknowledged: Option<Stamp>,
@@ -90,22 +106,28 @@ fn begin_answer(text: &mut Vec<u8>, answer: &Answer) -> Result<(), AllocError>
 }
 
 /// A command was delivered, and this is its record.
-pub fn put_delivered(text: &mut Vec<u8>, line: u64, delivered: &Record) -> Result<(), AllocError>
+pub(crate) fn put_delivered(
+    text: &mut Vec<u8>,
+    line: u64,
+    delivered: &Record,
+) -> Result<(), AllocError>
     ensures { OnOk result (text.new.items ≡ text.old.items ++ delivered_text line delivered.now) }
 {
     begin_answer(text, &delivered.answer)?;
-    let Stamp { clock, member } = delivered.stamp;
+    let stamp = Shown {
+        stamp: delivered.stamp,
+    };
     let (caller, serial) = (delivered.caller, delivered.serial);
     put(
         text,
         format_args!(
-            ",\"caller\":{caller},\"line\":{line},\"serial\":{serial},\"stamp\":[{clock},{member}]}}\n"
+            ",\"caller\":{caller},\"line\":{line},\"serial\":{serial},\"stamp\":{stamp}}}\n"
         ),
     )
 }
 
 /// No command was due.
-pub fn put_nothing_delivered(text: &mut Vec<u8>, line: u64) -> Result<(), AllocError>
+pub(crate) fn put_nothing_delivered(text: &mut Vec<u8>, line: u64) -> Result<(), AllocError>
     ensures { OnOk result (text.new.items ≡ text.old.items ++ nothing_delivered_text line) }
 {
     put(text, format_args!("{{\"answer\":null,\"line\":{line}}}\n"))
@@ -163,7 +185,11 @@ fn put_bad_serial(text: &mut Vec<u8>, line: u64, next: u64, word: &str) -> Resul
 }
 
 /// The event was refused.
-pub fn put_refused(text: &mut Vec<u8>, line: u64, refusal: &Refusal) -> Result<(), AllocError>
+pub(crate) fn put_refused(
+    text: &mut Vec<u8>,
+    line: u64,
+    refusal: &Refusal,
+) -> Result<(), AllocError>
     ensures { OnOk result (text.new.items ≡ text.old.items ++ refusal_text line refusal.now) }
 {
     let word = refusal_word(refusal);
@@ -177,7 +203,11 @@ pub fn put_refused(text: &mut Vec<u8>, line: u64, refusal: &Refusal) -> Result<(
 }
 
 /// The line was refused. Where that was for want of memory, there is no text. Ok says that it is refused.
-pub fn refuse(text: &mut Vec<u8>, line: u64, refusal: LineRefusal) -> Result<bool, AllocError>
+pub(crate) fn refuse(
+    text: &mut Vec<u8>,
+    line: u64,
+    refusal: LineRefusal,
+) -> Result<bool, AllocError>
     ensures text { OnOk result (text.new.items ≡ text.old.items ++ line_refusal_text line refusal) }
     ensures refused { IfOk result (λ is_refused. is_refused ≡ true) }
     ensures other { OnOk result (refusal ≢ LineRefusal.NoMemory) }
@@ -200,7 +230,7 @@ fn put_answered(text: &mut Vec<u8>, line: u64, answer: &Answer) -> Result<(), Al
 }
 
 /// What a desk replied to the command of a client line.
-pub fn put_reply(
+pub(crate) fn put_reply(
     text: &mut Vec<u8>,
     line: u64,
     reply: &Result<Answer, DeskRefusal>,

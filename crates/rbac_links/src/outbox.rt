@@ -1,10 +1,12 @@
 //! The sent list of a member.
 ghost use Rattle.std.specs.Prelude.{◌≡◌, ◌<◌, ◌≤◌, ◌+◌, [], ◌∷◌, ◌++◌, length, nat_le, option_copied, IfOk, IfErr, OnOk, OnErr};
+ghost use Rattle.rbac_words.specs.Message.{stamp_of};
+ghost use Rattle.rbac_words.specs.Stamp.{last_stamp};
 ghost use Rattle.rbac_links.specs.Outbox.{numbered};
 ghost use Rattle.rbac_links.specs.Refusals.{IsSendRefused};
 
 use crate::refusal::OutboxRefusal;
-use rbac_words::Message;
+use rbac_words::{Message, Stamp};
 use std::alloc::Global;
 use std::marker::Model;
 
@@ -73,6 +75,16 @@ impl Outbox {
         ensures { result.now ≡ self.now.sent }
     {
         &self.messages
+    }
+
+    /// When the last message was sent, if one was.
+    pub fn last(&self) -> Option<Stamp>
+        ensures { result ≡ last_stamp stamp_of self.now.sent }
+    {
+        match self.messages.last() {
+            None => None,
+            Some(message) => Some(message.stamp()),
+        }
     }
 
     /// Message number j, counted from 1, if it was sent.

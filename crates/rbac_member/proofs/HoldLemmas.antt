@@ -17,8 +17,7 @@ use Rattle.sorted_keys.proofs.Lists.{Each-right, Each-weaker}
 use Rattle.rbac_order.proofs.StampLemmas.{insert_above}
 use Rattle.rbac_order.proofs.MessageLemmas.{own_stamps}
 use Rattle.rbac_order.proofs.StepLemmas.{unless_none}
-use Rattle.rbac_holdback.specs.Holdback.{Holdback}
-use Rattle.rbac_member.specs.Lists.{CanBeHeld}
+use Rattle.rbac_holdback.specs.Holdback.{Holdback, CanBeHeld}
 use Rattle.rbac_member.specs.Serials.{counted, AreCounted}
 use Rattle.std.proofs.lemmas.Bool.{eqb-true}
 use Rattle.rbac_member.proofs.SerialLemmas.{counted-held}

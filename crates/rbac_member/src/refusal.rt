@@ -4,45 +4,60 @@ ghost use Rattle.rbac_member.specs.Calls.{of_link, submit_refused, receipt_refus
 
 use rbac_links::LinkRefusal;
 use rbac_words::Refusal;
+use thiserror::Error;
 
 /// Why a member was not founded.
-#[derive(Clone, Copy, Debug, PartialEq, Eq, Drop)]
+#[derive(Clone, Copy, Debug, PartialEq, Eq, Drop, Error)]
 pub enum FoundRefusal {
     /// The group has no member of this number.
+    #[error("the group has no member of this number")]
     UnknownMember,
 }
 
 /// Why a command was not submitted, in the order of the checks.
-#[derive(Clone, Copy, Debug, PartialEq, Eq, Drop)]
+#[derive(Clone, Copy, Debug, PartialEq, Eq, Drop, Error)]
 pub enum SubmitRefusal {
     /// The clock is at its limit.
+    #[error("the member's clock is at its limit")]
     ClockFull,
     /// The member has sent as many messages as it may.
+    #[error("the member has sent as many messages as the founding allows")]
     SentFull,
     /// The serial is not the caller's next.
+    #[error("expected serial {next}")]
     BadSerial { next: u64 },
+    #[error("no memory")]
     NoMemory,
 }
 
 /// Why a message was not received, in the order of the checks.
-#[derive(Clone, Copy, Debug, PartialEq, Eq, Drop)]
+#[derive(Clone, Copy, Debug, PartialEq, Eq, Drop, Error)]
 pub enum ReceiveRefusal {
     /// The group has no member of the sender's number.
+    #[error("the group has no member of this number")]
     UnknownMember,
     /// A member receives nothing from itself.
+    #[error("a member receives nothing from itself")]
     FromSelf,
     /// A message that was received before.
+    #[error("the message was received before: expected message {expected}")]
     Repeat { expected: u64 },
     /// A message before which another one is missing.
+    #[error("a message before this one is missing: expected message {expected}")]
     Gap { expected: u64 },
     /// The stamp is not of the sender, or not above the last one taken from it.
+    #[error("the stamp is not of the sender, or not above the last one taken from it")]
     StampNotRising,
-    /// The clock would pass its limit, the step of the acknowledgement included.
+    /// The clock would pass its limit, the step of an acknowledgement that is due included.
+    #[error("the member's clock is at its limit")]
     ClockFull,
     /// The message is to be acknowledged, and the member has sent as many messages as it may.
+    #[error("the member has sent as many messages as the founding allows")]
     SentFull,
     /// The serial is not the number of its caller's commands that were received or submitted before.
+    #[error("expected serial {next}")]
     BadSerial { next: u64 },
+    #[error("no memory")]
     NoMemory,
 }
 

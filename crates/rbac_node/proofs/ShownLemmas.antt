@@ -1,8 +1,7 @@
 -- Each move of its member keeps what a node shows and sees.
-use Rattle.std.proofs.Common.{ℕ, ◌≡◌, ◌≤◌, ◌<◌, ◌-◌, ◌+◌, List, [], ◌∷◌, ◌++◌, length, cond, get_or-set_other, append-nil, append_assoc, refl, sym, ap, subst, ◌∙◌, arith, Option, None, Some}
+use Rattle.std.proofs.Common.{ℕ, ◌≡◌, ◌≤◌, ◌<◌, ◌-◌, ◌+◌, List, [], ◌∷◌, ◌++◌, length, get_or-set_other, append-nil, append_assoc, refl, sym, ap, subst, ◌∙◌, arith, Option, None, Some}
 use Rattle.std.specs.List.{AllByRecursion as Each, slice_get}
 use Rattle.std.proofs.lemmas.Option.{same_Some}
-use Rattle.std.proofs.lemmas.List.Elements.{filter-append}
 use Rattle.rbac_words.specs.Message.{stamp_of, submissions}
 use Rattle.rbac_words.specs.Front.{is_of}
 use Rattle.rbac_words.specs.World.{read_of, stamp, acknowledgement, acks}
@@ -17,8 +16,8 @@ use Rattle.rbac_words.specs.declared.record.Record.{Record}
 use Rattle.rbac_words.specs.declared.stamp.Stamp.{Stamp}
 use Rattle.sorted_keys.proofs.Lists.{Each-append}
 use Rattle.rbac_order.proofs.MessageLemmas.{submissions-append}
-use Rattle.rbac_order.proofs.SenderLemmas.{of, decide, is_of-no}
-use Rattle.rbac_order.proofs.MemberLemmas.{none, known_submitted, due_is, known_delivered, of-received_other}
+use Rattle.rbac_order.proofs.SenderLemmas.{of, decide}
+use Rattle.rbac_order.proofs.MemberLemmas.{none, of-submitted_other, due_is, known_delivered, of-received_other}
 use Rattle.rbac_order.proofs.StepLemmas.{stays_read, takes_next}
 use Rattle.rbac_node.specs.Node.{NodeState, IsAnother, IsShown, seen_of, with_own_member}
 use Rattle.rbac_node.proofs.PrefixLemmas.{prefix_more}
@@ -48,20 +47,13 @@ shown_after n v more more_history s sent history reads callers = record {
 
 -- ---- A submit
 
--- a command of the member's own is no other one's
-not_own : (v : Member) (k : ℕ) (x : Submission) → x.stamp.member ≡ v.number → IsAnother v k → of k (known v ++ x ∷ []) ≡ of k (known v)
-not_own v k x own another =
-    filter-append (is_of k) (known v) (x ∷ [])
-    ∙ ap (λ b. of k (known v) ++ cond b (x ∷ []) []) (is_of-no k x (λ e. another.other (sym e ∙ own)))
-    ∙ append-nil (of k (known v))
-
 pub shown_submitted : (n : NodeState) (caller serial : ℕ) (command : Command) → IsShown n → caller < n.next_caller → IsShown (with_own_member n (submitted n.member caller serial command))
 shown_submitted n caller serial command s below =
     let v : Member = n.member in
     shown_after n (submitted v caller serial command) (Call (stamp (v.clock + 1) v.number) caller serial command ∷ []) [] s refl (sym (append-nil v.history))
     (λ k another. let same : IsAnother v k = record { number = another.number; other = another.other } in
     stays_read v (submitted v caller serial command) k (seen_of n k) refl refl
-    (ap (of k) (known_submitted v caller serial command) ∙ not_own v k (submission v caller serial command) refl same) (s.reads k same))
+    (of-submitted_other v caller serial command k another.other) (s.reads k same))
     (below, tt)
 
 -- ---- A delivery

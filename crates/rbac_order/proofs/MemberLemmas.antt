@@ -1,5 +1,5 @@
 -- What a member keeps: as it is founded, by a submit, by a delivery and by a receipt.
-use Rattle.std.proofs.Common.{ℕ, zero, suc, Bool, true, false, cond, max, ◌≡◌, ◌≤◌, ◌<◌, ◌+◌, ◌-◌, ◌==◌, ◌||◌, ◌&&◌, inl, List, [], ◌∷◌, ◌++◌, length, map, drop, get_or, set, replicate, refl, sym, ap, subst, ◌∙◌, arith, true≢false, append_assoc, append-nil, length-append, length-set, get_or-set_same, get_or-set_other, nat_le, nat_lt, Option, Some, None}
+use Rattle.std.proofs.Common.{ℕ, zero, suc, Bool, true, false, cond, not, max, ◌≡◌, ◌≤◌, ◌<◌, ◌+◌, ◌-◌, ◌==◌, ◌||◌, ◌&&◌, inl, List, [], ◌∷◌, ◌++◌, length, map, drop, get_or, set, replicate, refl, sym, ap, subst, ◌∙◌, arith, true≢false, append_assoc, append-nil, length-append, length-set, get_or-set_same, get_or-set_other, nat_le, nat_lt, Option, Some, None}
 use Rattle.std.specs.List.{AllByRecursion as Each, filter, list_all}
 use Rattle.std.proofs.lemmas.Bool.{or_left, or_right, ne_eqb}
 use Rattle.std.proofs.lemmas.Bool.Decides.{nat_tests}
@@ -101,14 +101,20 @@ module _ (v : Member) (caller serial : ℕ) (command : Command) where
   own_submitted : IsMember v → of v.number (known v ++ x ∷ []) ≡ submissions v.sent ++ x ∷ []
   own_submitted k = filter-append (is_of v.number) (known v) (x ∷ []) ∙ ap (λ l. l ++ of v.number (x ∷ [])) k.own ∙ ap (λ b. submissions v.sent ++ cond b (x ∷ []) []) (is_of-yes v.number x refl)
 
+  -- a command of the member's own is no other one's
+  of-own_other : (j : ℕ) → (j ≡ v.number → ⊥) → of j (known v ++ x ∷ []) ≡ of j (known v)
+  of-own_other j d = filter-append (is_of j) (known v) (x ∷ []) ∙ ap (λ b. of j (known v) ++ cond b (x ∷ []) []) (is_of-no j x (λ e. d (sym e))) ∙ append-nil (of j (known v))
+
+  -- a submit leaves what is known of each other member
+  pub of-submitted_other : (j : ℕ) → (j ≡ v.number → ⊥) → of j (known (submitted v caller serial command)) ≡ of j (known v)
+  of-submitted_other j d = ap (of j) known_submitted ∙ of-own_other j d
+
   serials_submitted : IsMember v → serial ≡ next_serial caller (submissions v.sent) → (member caller' : ℕ) → CountsFrom 0 (filter (is_by caller') (of member (known v ++ x ∷ [])))
   serials_submitted k next member caller' =
       decide (CountsFrom 0 (filter (is_by caller') (of member (known v ++ x ∷ [])))) member v.number
       (λ e. subst (λ j. CountsFrom 0 (filter (is_by caller') (of j (known v ++ x ∷ [])))) (sym e)
       (subst (λ l. CountsFrom 0 (filter (is_by caller') l)) (sym (own_submitted k)) (serials_go_on (submissions v.sent) x k.lawful.serials next caller')))
-      (λ d. subst (λ l. CountsFrom 0 (filter (is_by caller') l))
-      (sym (filter-append (is_of member) (known v) (x ∷ []) ∙ ap (λ b. of member (known v) ++ cond b (x ∷ []) []) (is_of-no member x (λ e. d (sym e))) ∙ append-nil (of member (known v))))
-      (k.serials member caller'))
+      (λ d. subst (λ l. CountsFrom 0 (filter (is_by caller') l)) (sym (of-own_other member d)) (k.serials member caller'))
 
   -- what holds of each known command and of the new one
   each_submitted : (P : Submission → Type 0) → Each P (known v) → P x → Each P (known (submitted v caller serial command))
@@ -505,8 +511,12 @@ module _ (v : Member) (k : ℕ) (m : Message) (kept : IsMember v) (next : IsNext
   rule_is_enough : must_acknowledge (node_of v) m ≡ false → Each (λ (x : Submission). has_later v.sent x.stamp ≡ true) xs
   rule_is_enough = go m
     where
+      sent_after : (b : Bool) → not b ≡ false → b ≡ true
+      sent_after true e = refl
+      sent_after false e = absurd (true≢false e)
+
       go : (z : Message) → must_acknowledge (node_of v) z ≡ false → Each (λ (x : Submission). has_later v.sent x.stamp ≡ true) (submissions_of z)
-      go (Call stamp caller serial command) e = absurd (true≢false e)
+      go (Call stamp caller serial command) e = (sent_after (has_later v.sent stamp) e, tt)
       go (Ack stamp) e = tt
 
   -- the refusal, the clock and the sent list, as the rule decides

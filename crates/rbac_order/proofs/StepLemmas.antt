@@ -30,8 +30,8 @@ use Rattle.rbac_order.proofs.RangeLemmas.{in_range, was_sent, meets}
 use Rattle.rbac_order.proofs.StampLemmas.{last_stamp-push, after_last}
 use Rattle.rbac_order.proofs.MessageLemmas.{submissions-append, CountsFrom-left}
 use Rattle.std.proofs.lemmas.List.Elements.{filter-append}
-use Rattle.rbac_order.proofs.SenderLemmas.{of, decide, is_of-no}
-use Rattle.rbac_order.proofs.MemberLemmas.{none, get_or-none, keeps_founded, keeps_submit, known_submitted, due_is, known_delivered, keeps_deliver, keeps_received, of-received, of-received_other}
+use Rattle.rbac_order.proofs.SenderLemmas.{of, decide}
+use Rattle.rbac_order.proofs.MemberLemmas.{none, get_or-none, keeps_founded, keeps_submit, of-submitted_other, due_is, known_delivered, keeps_deliver, keeps_received, of-received, of-received_other}
 use Rattle.rbac_order.proofs.GroupLemmas.{node-of_member, is_number, apart, read_by, due_is_due, lawful_front}
 
 -- ---- What a receiver has read of a sender
@@ -137,9 +137,7 @@ module _ (group : Group) (vocabulary : Vocabulary) (ms : List Member) (are : Are
       set_member i (submitted v caller serial command) (Call (stamp (v.clock + 1) v.number) caller serial command ∷ []) h refl refl refl
       (keeps_submit v caller serial command (subst (λ g. submit_refusal g (node_of v) caller serial ≡ None) (sym (are.same_group i h)) free) (are.kept i h)) refl
       (λ j hj d. stays_read v (submitted v caller serial command) (at j).number (at j).sent refl refl
-      (ap (of (at j).number) (known_submitted v caller serial command) ∙ filter-append (is_of (at j).number) (known v) (submission v caller serial command ∷ [])
-      ∙ ap (λ b. of (at j).number (known v) ++ cond b (submission v caller serial command ∷ []) []) (is_of-no (at j).number (submission v caller serial command) (λ e. apart group vocabulary ms are i j h hj d (sym e)))
-      ∙ append-nil (of (at j).number (known v)))
+      (of-submitted_other v caller serial command (at j).number (apart group vocabulary ms are i j h hj d))
       (read_by group vocabulary ms are i j h hj d))
     where
       v : Member

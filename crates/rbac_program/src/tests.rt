@@ -22,26 +22,45 @@ const ANSWERS: &[u8] = br#"{"line":1,"stamp":[1,1]}
 {"answer":"Done","caller":0,"line":2,"serial":0,"stamp":[1,1]}
 "#;
 
-/// A call with these words after the program's name, whose standard input is the schedule, gets this status and this
-/// output, and writes no error.
-fn expect<T: Files + AllocGlobal + Threads + Wait + Clock + Abort + Copy + Send + Sync>(
+/// A call with these words after the program's name, and with this input, ends with status 0 and this output, and writes no
+/// error.
+fn expect_answers<T: Files + AllocGlobal + Threads + Wait + Clock + Abort + Copy + Send + Sync>(
     rt: &T,
     words: &[&str],
-    status: u8,
+    input: &[u8],
     answers: &[u8],
 ) {
     let mut output = Vec::new(rt.alloc());
     let mut errors = Vec::new(rt.alloc());
-    let answered = command(rt, words, SCHEDULE, &mut output, &mut errors);
-    assert_eq!(rt; answered, status);
+    let answered = command(rt, words, input, &mut output, &mut errors);
+    assert_eq!(rt; answered, 0);
     assert!(rt; output.as_slice() == answers);
     assert!(rt; errors.is_empty());
 }
 
+/// The same where the input is the schedule.
+fn expect<T: Files + AllocGlobal + Threads + Wait + Clock + Abort + Copy + Send + Sync>(
+    rt: &T,
+    words: &[&str],
+    answers: &[u8],
+) {
+    expect_answers(rt, words, SCHEDULE, answers);
+}
+
 #[test]
 fn plays_standard_input(rt: HostRuntime) {
-    expect(&rt, &["rbac_monitor"], 0, ANSWERS);
-    expect(&rt, &["rbac_monitor", "play", "-", "-"], 0, ANSWERS);
+    expect(&rt, &["rbac_monitor"], ANSWERS);
+    expect(&rt, &["rbac_monitor", "play", "-", "-"], ANSWERS);
+}
+
+#[test]
+fn plays_an_empty_schedule_with_no_answer(rt: HostRuntime) -> Result<(), Fail> {
+    expect_answers(&rt, &["rbac_monitor"], b"", b"");
+    expect_answers(&rt, &["rbac_monitor", "play", "-", "-"], b"", b"");
+    fs::write(&rt, "empty.jsonl", b"")?;
+    expect(&rt, &["rbac_monitor", "play", "-", "empty.jsonl"], b"");
+    fs::remove_file(&rt, "empty.jsonl")?;
+    Ok(())
 }
 
 #[test]
@@ -55,7 +74,6 @@ fn plays_on_a_founding_file(rt: HostRuntime) -> Result<(), Fail> {
     expect(
         &rt,
         &["rbac_monitor", "play", "clock_7.toml", "-"],
-        0,
         answers.as_slice(),
     );
     fs::remove_file(&rt, "clock_7.toml")?;
@@ -72,12 +90,7 @@ fn plays_a_long_schedule_file(rt: HostRuntime) -> Result<(), Fail> {
     }
     assert!(rt; schedule.len() > 1_048_576);
     fs::write(&rt, "long.jsonl", &schedule)?;
-    expect(
-        &rt,
-        &["rbac_monitor", "play", "-", "long.jsonl"],
-        0,
-        &answers,
-    );
+    expect(&rt, &["rbac_monitor", "play", "-", "long.jsonl"], &answers);
     fs::remove_file(&rt, "long.jsonl")?;
     Ok(())
 }
@@ -112,18 +125,116 @@ objects = ["ledger"]
 permissions = [["read", "ledger"]]
 "#;
 
+/// Serving callers by the members of this founding, which is written to a file of this name, gives these answers to these lines.
+fn expect_served<T: Files + AllocGlobal + Threads + Wait + Clock + Abort + Copy + Send + Sync>(
+    rt: &T,
+    (path, founding): (&str, &[u8]),
+    lines: &[u8],
+    answers: &[u8],
+) -> Result<(), Fail> {
+    fs::write(rt, path, founding)?;
+    expect_answers(rt, &["rbac_monitor", "serve", path], lines, answers);
+    fs::remove_file(rt, path)?;
+    Ok(())
+}
+
 #[test]
 fn serves_callers_of_two_members(rt: HostRuntime) -> Result<(), Fail> {
-    fs::write(&rt, "two_members.toml", TWO_MEMBERS)?;
-    let mut output = Vec::new(rt.alloc());
-    let mut errors = Vec::new(rt.alloc());
-    let words = ["rbac_monitor", "serve", "two_members.toml"];
-    let status = command(&rt, &words, SERVED, &mut output, &mut errors);
-    assert_eq!(rt; status, 0);
-    assert!(rt; output.as_slice() == SERVED_ANSWERS);
-    assert!(rt; errors.is_empty());
-    fs::remove_file(&rt, "two_members.toml")?;
+    expect_served(
+        &rt,
+        ("two_members.toml", TWO_MEMBERS),
+        SERVED,
+        SERVED_ANSWERS,
+    )?;
+    expect_answers(&rt, &["rbac_monitor", "serve", "-"], b"", b"");
     Ok(())
+}
+
+// The sample, with two members.
+const SAMPLE_OF_TWO: &[u8] = br#"
+version = 1
+members = 2
+operations = ["approve", "pay", "read"]
+objects = ["invoice", "ledger"]
+permissions = [["approve", "invoice"], ["pay", "invoice"], ["read", "ledger"]]
+"#;
+
+const SEVEN_LINES: &[u8] = br#"{"at":1,"command":{"name":"AddUser","user":"ann"}}
+{"at":1,"command":{"name":"AddRole","role":"clerk"}}
+{"at":1,"command":{"name":"AssignUser","user":"ann","role":"clerk"}}
+{"at":1,"command":{"name":"GrantPermission","operation":"read","object":"ledger","role":"clerk"}}
+{"at":1,"command":{"name":"CreateSession","user":"ann","session":"s1","roles":["clerk"]}}
+{"at":1,"command":{"name":"CheckAccess","session":"s1","operation":"read","object":"ledger"}}
+{"at":3,"command":{"name":"AddUser","user":"bob"}}
+"#;
+
+const SEVEN_ANSWERS: &[u8] = br#"{"answer":"Done","line":1}
+{"answer":"Done","line":2}
+{"answer":"Done","line":3}
+{"answer":"Done","line":4}
+{"answer":"Done","line":5}
+{"answer":"Granted","line":6}
+{"line":7,"refused":"UnknownMember"}
+"#;
+
+#[test]
+fn a_line_for_a_third_member_of_two_is_refused(rt: HostRuntime) -> Result<(), Fail> {
+    let founding = ("sample_of_two.toml", SAMPLE_OF_TWO);
+    expect_served(&rt, founding, SEVEN_LINES, SEVEN_ANSWERS)
+}
+
+// Each of two members may send one message.
+const ONE_MESSAGE_EACH: &[u8] = br#"
+version = 1
+members = 2
+sent_limit = 1
+operations = []
+objects = []
+permissions = []
+"#;
+
+// The one message of member 2 is its acknowledgement of the first command.
+#[test]
+fn members_that_have_sent_all_refuse_commands(rt: HostRuntime) -> Result<(), Fail> {
+    let lines = br#"{"at":1,"command":{"name":"AddUser","user":"ann"}}
+{"at":1,"command":{"name":"AddRole","role":"r"}}
+{"at":2,"command":{"name":"AddRole","role":"r"}}
+"#;
+    let answers = br#"{"answer":"Done","line":1}
+{"line":2,"refused":"SentFull"}
+{"line":3,"refused":"SentFull"}
+"#;
+    expect_served(
+        &rt,
+        ("one_message_each.toml", ONE_MESSAGE_EACH),
+        lines,
+        answers,
+    )
+}
+
+const CLOCK_BEFORE_ITS_END: &[u8] = br#"
+version = 1
+members = 1
+clock = 9007199254740990
+operations = []
+objects = []
+permissions = []
+"#;
+
+#[test]
+fn a_member_at_the_end_of_its_clock_refuses_commands(rt: HostRuntime) -> Result<(), Fail> {
+    let lines = br#"{"at":1,"command":{"name":"AddUser","user":"ann"}}
+{"at":1,"command":{"name":"AddUser","user":"bob"}}
+"#;
+    let answers = br#"{"answer":"Done","line":1}
+{"line":2,"refused":"ClockFull"}
+"#;
+    expect_served(
+        &rt,
+        ("clock_before_its_end.toml", CLOCK_BEFORE_ITS_END),
+        lines,
+        answers,
+    )
 }
 
 /// Gives so many blanks, and fails after them.

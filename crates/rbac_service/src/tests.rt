@@ -2,14 +2,21 @@
 ghost use Rattle.std.specs.Prelude.{◌≡◌, ◌≤◌, length};
 ghost use Rattle.rbac_node.specs.Pass.{Owns};
 
+mod alone;
+mod cells;
+mod hints;
+mod nodes;
+
 use crate::{
-    AuditRefusal, AwaitRefusal, Courier, EnrollRefusal, GroupName, Hint, MeetRefusal, NoGate, Node,
-    Pass, PumpEnd, Rows, Service, ServiceRefusal, Ticket, Wake, audit,
+    AuditRefusal, AwaitRefusal, CallRefusal, Courier, EnrollRefusal, Gate, GroupName, Hint,
+    MeetRefusal, NoGate, Node, Pass, PumpEnd, Rows, Service, ServiceRefusal, Ticket, Wake, audit,
 };
 use rbac_words::{
     Answer, Command, Denial, Group, Name, NameSet, Record, Review, Stamp, Vocabulary,
 };
 use std::alloc::Global;
+use std::error::Error;
+use std::fmt::InlineText;
 use std::marker::Brand;
 use std::process::Abort;
 use std::sync::Wait;
@@ -42,12 +49,12 @@ impl Courier for Lost {
     }
 }
 
-fn name(rt: &impl Abort, alloc: Global, text: &str) -> Name {
+pub(crate) fn name(rt: &impl Abort, alloc: Global, text: &str) -> Name {
     Name::read(alloc, text.as_bytes()).expect(rt, "a name")
 }
 
 // The command that adds ann.
-fn add_ann(rt: &impl Abort, alloc: Global) -> Command {
+pub(crate) fn add_ann(rt: &impl Abort, alloc: Global) -> Command {
     let user = name(rt, alloc, "ann");
     Command::AddUser { user }
 }
@@ -66,20 +73,74 @@ pub(crate) struct Founding {
     pub(crate) rows: Rows,
 }
 
-// The founding of so many members with no words, who may send so much.
-pub(crate) fn founding_of(rt: &impl Abort, alloc: Global, members: u32, sent_limit: u32) -> Founding
+// The founding of so many members with these words, who may send so much.
+fn founding_with(
+    rt: &impl Abort,
+    alloc: Global,
+    members: u32,
+    sent_limit: u32,
+    words: Vocabulary,
+) -> Founding
     ensures members { result.group.members ≡ members }
     ensures rows { length result.rows.sent ≡ members }
 {
     let group = Group::build(members, 0, sent_limit).expect(rt, "a group");
     let rows = Rows::found(alloc, group).expect(rt, "memory");
-    let words = Vocabulary::build(Vec::new(alloc), Vec::new(alloc), Vec::new(alloc));
-    let words = words.expect(rt, "a vocabulary");
     Founding { group, words, rows }
 }
 
+// The founding of so many members with no words, who may send so much.
+pub(crate) fn founding_of(rt: &impl Abort, alloc: Global, members: u32, sent_limit: u32) -> Founding
+    ensures members { result.group.members ≡ members }
+    ensures rows { length result.rows.sent ≡ members }
+{
+    let words = Vocabulary::build(Vec::new(alloc), Vec::new(alloc), Vec::new(alloc));
+    let words = words.expect(rt, "a vocabulary");
+    founding_with(rt, alloc, members, sent_limit, words)
+}
+
+fn names_of(rt: &impl Abort, alloc: Global, texts: &[&str]) -> Vec<Name> {
+    let mut names = Vec::new(alloc);
+    for text in texts {
+        let pushed = names.push(name(rt, alloc, text));
+        assert!(rt; pushed.is_ok());
+    }
+    names
+}
+
+// The permissions of these operations, each on the object at its place.
+fn permissions_of(
+    rt: &impl Abort,
+    alloc: Global,
+    operations: &[&str],
+    objects: &[&str],
+) -> Vec<(Name, Name)> {
+    let mut permissions = Vec::new(alloc);
+    for (operation, object) in operations.iter().zip(objects) {
+        let pair = (name(rt, alloc, operation), name(rt, alloc, object));
+        let pushed = permissions.push(pair);
+        assert!(rt; pushed.is_ok());
+    }
+    permissions
+}
+
+// The founding of so many members with the words of the sample: three operations, two objects and three permissions.
+pub(crate) fn sample_founding(rt: &impl Abort, alloc: Global, members: u32) -> Founding
+    ensures members { result.group.members ≡ members }
+    ensures rows { length result.rows.sent ≡ members }
+{
+    let operations = ["approve", "pay", "read"];
+    let words = Vocabulary::build(
+        names_of(rt, alloc, &operations),
+        names_of(rt, alloc, &["invoice", "ledger"]),
+        permissions_of(rt, alloc, &operations, &["invoice", "invoice", "ledger"]),
+    );
+    let words = words.expect(rt, "a vocabulary");
+    founding_with(rt, alloc, members, 64, words)
+}
+
 // The command that asks whether a session that is not there may read the ledger.
-fn check(rt: &impl Abort, alloc: Global) -> Command {
+pub(crate) fn check(rt: &impl Abort, alloc: Global) -> Command {
     Command::CheckAccess {
         session: name(rt, alloc, "s1"),
         operation: name(rt, alloc, "read"),
@@ -87,31 +148,33 @@ fn check(rt: &impl Abort, alloc: Global) -> Command {
     }
 }
 
-// The service of the founding that G names.
-fn founded<G: GroupName>(
+// The service of the founding that G names, with this courier.
+pub(crate) fn founded<G: GroupName, C: Courier + Drop>(
     rt: &impl Abort,
     alloc: Global,
     founding: Founding,
-) -> Service<G, NoGate, Lost>
+    courier: C,
+) -> Service<G, NoGate, C>
     requires names { (founding.group ≡ G.group) × (founding.words ≡ G.vocabulary) × (founding.rows ≡ G.cells) }
     requires members { length founding.rows.sent ≡ founding.group.members }
+    ensures { result.rows ≡ founding.rows }
 {
     let Founding { group, words, rows } = founding;
-    let service = Service::found(alloc, rows, group, words, NoGate, Lost::new());
+    let service = Service::found(alloc, rows, group, words, NoGate, courier);
     service.expect(rt, "memory")
 }
 
-fn new_pass<G: GroupName, R: Wait + Abort>(
+pub(crate) fn new_pass<G: GroupName, K: Gate + Drop, C: Courier + Drop, R: Wait + Abort>(
     rt: &R,
-    service: &Service<G, NoGate, Lost>,
+    service: &Service<G, K, C>,
     at: u32,
 ) -> Pass<G> {
     service.enroll(rt, at).expect(rt, "a pass")
 }
 
-fn expect_no_pass<G: GroupName, R: Wait + Abort>(
+fn expect_no_pass<G: GroupName, K: Gate + Drop, C: Courier + Drop, R: Wait + Abort>(
     rt: &R,
-    service: &Service<G, NoGate, Lost>,
+    service: &Service<G, K, C>,
     at: u32,
     wanted: EnrollRefusal,
 ) {
@@ -128,10 +191,10 @@ fn turn_all<G: GroupName, R: Wait>(rt: &R, alloc: Global, service: &Service<G, N
 }
 
 // Submits a command, and the ticket is the pass's own.
-fn submitted<G: GroupName, R: Wait + Abort>(
+pub(crate) fn submitted<G: GroupName, K: Gate + Drop, C: Courier + Drop, R: Wait + Abort>(
     rt: &R,
     alloc: Global,
-    service: &Service<G, NoGate, Lost>,
+    service: &Service<G, K, C>,
     pass: &mut Pass<G>,
     command: Command,
 ) -> Ticket
@@ -145,11 +208,11 @@ fn submitted<G: GroupName, R: Wait + Abort>(
 }
 
 // Submits a command in vain.
-fn expect_refusal<G: GroupName, R: Wait + Abort>(
+fn expect_refusal<G: GroupName, K: Gate + Drop, C: Courier + Drop, R: Wait + Abort>(
     rt: &R,
     alloc: Global,
     pass: &mut Pass<G>,
-    service: &Service<G, NoGate, Lost>,
+    service: &Service<G, K, C>,
     wanted: ServiceRefusal,
 )
     ensures { pass.new ≡ pass.old }
@@ -160,9 +223,9 @@ fn expect_refusal<G: GroupName, R: Wait + Abort>(
 }
 
 // Awaits the answer, and compares it and its place. All commands are member 1's here, so the clock of each is one more.
-fn expect_receipt<G: GroupName, R: Wait + Abort>(
+fn expect_receipt<G: GroupName, K: Gate + Drop, C: Courier + Drop, R: Wait + Abort>(
     rt: &R,
-    service: &Service<G, NoGate, Lost>,
+    service: &Service<G, K, C>,
     pass: &mut Pass<G>,
     ticket: Ticket,
     place: u32,
@@ -180,17 +243,37 @@ fn expect_receipt<G: GroupName, R: Wait + Abort>(
     assert!(rt; receipt.answer.same(&answer));
 }
 
-// A command whose answer does not come before the stop: the ticket comes back.
-fn expect_stopped<G: GroupName, R: Wait + Abort>(
+fn expect_text<E: Error>(rt: &impl Abort, error: &E, text: &str) {
+    let shown: InlineText<128> = InlineText::of(error);
+    assert_eq!(rt; shown.as_str(), text);
+}
+
+// The text of a refusal, and the ticket that it gives back.
+fn told(rt: &impl Abort, refusal: AwaitRefusal, text: &str) -> Ticket {
+    expect_text(rt, &refusal, text);
+    match refusal {
+        AwaitRefusal::Stopped(ticket) | AwaitRefusal::NoMemory(ticket) => ticket,
+    }
+}
+
+// A command whose answer does not come before the stop: the ticket comes back, also out of a refusal for another reason.
+pub(crate) fn expect_stopped<G: GroupName, K: Gate + Drop, C: Courier + Drop, R: Wait + Abort>(
     rt: &R,
-    service: &Service<G, NoGate, Lost>,
+    service: &Service<G, K, C>,
     pass: &mut Pass<G>,
     ticket: Ticket,
 )
     requires { Owns pass.old ticket }
 {
+    let stopped = "the service was stopped before the answer was published";
     let found = service.await_answer(rt, pass, ticket);
-    assert!(rt; matches!(&found, Err(AwaitRefusal::Stopped(_))));
+    let refusal = found.err().expect(rt, "a refusal");
+    let ticket = told(rt, refusal, stopped);
+    let ticket = told(rt, AwaitRefusal::NoMemory(ticket), "no memory");
+    let call = CallRefusal::Await(AwaitRefusal::NoMemory(ticket));
+    let unanswered = "the command is submitted and not answered: no memory";
+    expect_text(rt, &call, unanswered);
+    drop(call);
 }
 
 // Stops the service, which gives a hint to each of so many members.
@@ -242,9 +325,9 @@ fn expect_fronts<G: GroupName>(
     assert_eq!(rt; (one.front_len(), other.front_len()), wanted);
 }
 
-fn expect_meeting<G: GroupName>(
+fn expect_meeting<G: GroupName, K: Gate + Drop, C: Courier + Drop>(
     rt: &impl Abort,
-    service: &Service<G, NoGate, Lost>,
+    service: &Service<G, K, C>,
     one: &mut Pass<G>,
     other: &mut Pass<G>,
     wanted: Result<(), MeetRefusal>,
@@ -265,7 +348,7 @@ fn expect_published<G: GroupName>(
 }
 
 // The nodes are a group, whose members have delivered so many commands.
-fn expect_audit<G: GroupName>(
+pub(crate) fn expect_audit<G: GroupName>(
     rt: &impl Abort,
     alloc: Global,
     nodes: &mut [Node<G>],
@@ -280,7 +363,11 @@ fn is_no_group<G: GroupName>(alloc: Global, nodes: &mut [Node<G>]) -> bool {
 }
 
 // The first node confirms the pass.
-fn expect_confirmed<G: GroupName>(rt: &impl Abort, nodes: &mut [Node<G>], pass: &mut Pass<G>) {
+pub(crate) fn expect_confirmed<G: GroupName>(
+    rt: &impl Abort,
+    nodes: &mut [Node<G>],
+    pass: &mut Pass<G>,
+) {
     let node = nodes.first_mut().expect(rt, "a node");
     assert!(rt; node.confirms(pass));
 }
@@ -310,7 +397,7 @@ fn run_alone<G: GroupName, R: Wait + Abort>(rt: &R, alloc: Global, founding: Fou
     requires names { (founding.group ≡ G.group) × (founding.words ≡ G.vocabulary) × (founding.rows ≡ G.cells) }
     requires members { length founding.rows.sent ≡ founding.group.members }
 {
-    let service: Service<G, NoGate, Lost> = founded(rt, alloc, founding);
+    let service: Service<G, NoGate, Lost> = founded(rt, alloc, founding, Lost::new());
     let mut one = new_pass(rt, &service, 1);
     let mut other = new_pass(rt, &service, 1);
     expect_no_pass(rt, &service, 2, EnrollRefusal::UnknownMember);
@@ -339,7 +426,7 @@ fn run_two<G: GroupName, R: Wait + Abort>(rt: &R, alloc: Global, founding: Found
     requires names { (founding.group ≡ G.group) × (founding.words ≡ G.vocabulary) × (founding.rows ≡ G.cells) }
     requires members { length founding.rows.sent ≡ founding.group.members }
 {
-    let service: Service<G, NoGate, Lost> = founded(rt, alloc, founding);
+    let service: Service<G, NoGate, Lost> = founded(rt, alloc, founding, Lost::new());
     let apart = Err(MeetRefusal::OtherMember);
     let mut one = new_pass(rt, &service, 1);
     let mut other = new_pass(rt, &service, 2);
@@ -363,6 +450,30 @@ fn run_two<G: GroupName, R: Wait + Abort>(rt: &R, alloc: Global, founding: Found
 fn two_members_answer_and_stop(rt: HostRuntime) {
     let founding = founding_of(&rt, rt.alloc(), 2, 16);
     run_two::<Brand, _>(&rt, rt.alloc(), founding);
+}
+
+// What is published at a place of a member's history: a stamp, and an answer.
+fn expect_record<G: GroupName, K: Gate + Drop, C: Courier + Drop>(
+    rt: &impl Abort,
+    service: &Service<G, K, C>,
+    (at, place): (u32, usize),
+    (clock, member): (u64, u32),
+    answer: &Answer,
+) {
+    let record = service.published(at, place).expect(rt, "a record");
+    let found = (record.stamp.clock, record.stamp.member);
+    assert_eq!(rt; found, (clock, member));
+    assert!(rt; record.answer.same(answer));
+}
+
+// Nothing is published at a place of a member's history.
+pub(crate) fn expect_no_record<G: GroupName, K: Gate + Drop, C: Courier + Drop>(
+    rt: &impl Abort,
+    service: &Service<G, K, C>,
+    at: u32,
+    place: usize,
+) {
+    assert!(rt; service.published(at, place).is_none());
 }
 
 // A record that no member made.
@@ -394,7 +505,7 @@ fn run_spoiled<G: GroupName, R: Wait + Abort>(rt: &R, alloc: Global, founding: F
     requires names { (founding.group ≡ G.group) × (founding.words ≡ G.vocabulary) × (founding.rows ≡ G.cells) }
     requires members { length founding.rows.sent ≡ founding.group.members }
 {
-    let service: Service<G, NoGate, Lost> = founded(rt, alloc, founding);
+    let service: Service<G, NoGate, Lost> = founded(rt, alloc, founding, Lost::new());
     assert_eq!(rt; service.pump(rt, alloc, 2), PumpEnd::UnknownMember);
     let mut pass = new_pass(rt, &service, 1);
     let ticket = submitted(rt, alloc, &service, &mut pass, add_ann(rt, alloc));
@@ -410,4 +521,25 @@ fn a_member_whose_cell_is_taken_gives_up(rt: HostRuntime) {
     let founding = founding_of(&rt, rt.alloc(), 1, 16);
     spoil(&rt, rt.alloc(), &founding.rows);
     run_spoiled::<Brand, _>(&rt, rt.alloc(), founding);
+}
+
+#[test]
+fn refusals_of_calls(rt: HostRuntime) {
+    for (refusal, text) in [
+        (
+            EnrollRefusal::UnknownMember,
+            "the group has no member of this number",
+        ),
+        (EnrollRefusal::Stopped, "the service is stopped"),
+        (
+            EnrollRefusal::CallersFull,
+            "the member has given all 4294967295 caller numbers",
+        ),
+    ] {
+        expect_text(&rt, &refusal, text);
+    }
+    let call = CallRefusal::Submit(ServiceRefusal::Busy);
+    let busy = "the command is not submitted: the pass waits for an answer";
+    expect_text(&rt, &call, busy);
+    drop(call);
 }

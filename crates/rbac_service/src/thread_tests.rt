@@ -1,6 +1,9 @@
 //! A service whose members run in threads, beside callers in threads of their own.
 ghost use Rattle.std.specs.Prelude.{◌≡◌, length};
 
+mod serving;
+mod silent;
+
 use crate::tests::{Founding, founding_of};
 use crate::{
     ChannelCourier, Courier, Gate, GroupName, Hint, Moment, NoGate, Pass, PumpEnd, Service, Wake,
@@ -133,7 +136,7 @@ fn two_callers_are_answered(rt: HostRuntime) {
     run_with::<Brand, _, _>(&rt, alloc, founding, courier, 100, 200);
 }
 
-// Holds the call of the first command until another one is answered, for some seconds at most.
+// Holds the call of the first command until another one is answered, for a million looks at most.
 #[derive(Drop)]
 struct HoldsFirst<R: Clock + Copy + Drop> {
     rt: R,
@@ -147,7 +150,7 @@ fn is_first(stamp: Stamp) -> bool {
 
 impl<R: Clock + Copy + Drop> HoldsFirst<R> {
     fn hold(&self) {
-        for _ in 0..100_000u32 {
+        for _ in 0..1_000_000u32 {
             if self.has_answered.load(Ordering::SeqCst) {
                 return;
             }
@@ -200,11 +203,12 @@ fn a_call_is_held_while_another_is_answered(rt: HostRuntime) {
     run_with_gate::<Brand, _>(&rt, rt.alloc(), founding);
 }
 
-// Loses every second hint, and gives every third one of the others twice.
+// Loses every second hint, gives every third one twice where it is not lost, and sweeps in each tenth turn.
 #[derive(Drop)]
 struct Unreliable<R: Wait + Clock + Drop> {
     courier: ChannelCourier<R>,
     hints: AtomicU64,
+    turns: AtomicU64,
 }
 
 impl<R: Wait + Clock + Drop> Courier for Unreliable<R> {
@@ -214,25 +218,33 @@ impl<R: Wait + Clock + Drop> Courier for Unreliable<R> {
             return;
         }
         self.courier.tell(to, hint);
-        if count % 3 == 0 {
+        if count % 3 == 2 {
             self.courier.tell(to, hint);
         }
     }
 
     fn next(&self, at: u32) -> Wake {
+        let count = self.turns.fetch_add(1, Ordering::SeqCst);
+        if count % 10 == 9 {
+            return Wake::Sweep;
+        }
         self.courier.next(at)
+    }
+}
+
+fn lossy_courier<R: Wait + Clock + Abort + Copy + Drop>(rt: &R, alloc: Global) -> Unreliable<R> {
+    Unreliable {
+        courier: ChannelCourier::found(*rt, alloc, 2).expect(rt, "memory"),
+        hints: AtomicU64::new(0),
+        turns: AtomicU64::new(0),
     }
 }
 
 #[test]
 fn lost_and_repeated_hints_lose_no_answer(rt: HostRuntime) {
     let alloc = rt.alloc();
-    let courier = Unreliable {
-        courier: ChannelCourier::found(rt, alloc, 2).expect(&rt, "memory"),
-        hints: AtomicU64::new(0),
-    };
-    let founding = small_founding(&rt, alloc);
-    run_with::<Brand, _, _>(&rt, alloc, founding, courier, 6, 12);
+    let courier = lossy_courier(&rt, alloc);
+    run_with::<Brand, _, _>(&rt, alloc, small_founding(&rt, alloc), courier, 6, 12);
 }
 
 // Two channels. It waits for a hint, and never sweeps.

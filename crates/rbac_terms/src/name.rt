@@ -12,6 +12,7 @@ use std::cmp::Ordering;
 use std::hash::{Hash, Hasher};
 use std::marker::Model;
 use std::sync::Arc;
+use thiserror::Error;
 
 // So many bytes lie beside the count of a name's copies, and those of a longer name in a place of their own.
 type Bytes = SmallVec<u8, 16>;
@@ -118,9 +119,11 @@ impl PartialOrd for Name {
 }
 
 /// Why bytes were not taken as a name, in the order of the checks.
-#[derive(Clone, Copy, Debug, PartialEq, Eq, Drop)]
+#[derive(Clone, Copy, Debug, PartialEq, Eq, Drop, Error)]
 pub enum NameRefusal {
+    #[error("a name has 1 to 64 bytes of A-Z a-z 0-9 _ - .")]
     BadName,
+    #[error("no memory")]
     NoMemory,
 }
 

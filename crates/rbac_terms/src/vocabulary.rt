@@ -13,6 +13,7 @@ use crate::permission_set::PermissionSet;
 use sorted_keys::{Exact, KeyTest, PairProbe, SortedSet};
 use std::alloc::{AllocError, Global};
 use std::marker::Model;
+use thiserror::Error;
 
 /// At most 256 operations, 4,096 objects, and 16,384 pairs of these, the permissions. No command changes them.
 #[derive(Drop)]
@@ -33,11 +34,15 @@ impl Model for Vocabulary {
 }
 
 /// Why lists make no vocabulary, in the order of the checks.
-#[derive(Clone, Copy, Debug, PartialEq, Eq, Drop)]
+#[derive(Clone, Copy, Debug, PartialEq, Eq, Drop, Error)]
 pub enum VocabularyRefusal {
+    #[error("a vocabulary has at most 256 operations, 4096 objects and 16384 permissions")]
     TooMany,
+    #[error("an operation, an object or a permission stands twice")]
     Repeated,
+    #[error("a permission speaks of an operation or an object that is not listed")]
     UnknownName,
+    #[error("no memory")]
     NoMemory,
 }
 

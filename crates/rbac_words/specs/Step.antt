@@ -1,16 +1,17 @@
 -- What a step of a world promises where memory may run out.
 use Rattle.std.specs.Prelude.{Bool, true, ◌≡◌, ◌≢◌, None, is_some, Result, Ok, Err, IfOk, IfErr, OnOk, OnErr}
-use Rattle.rbac_words.specs.World.{World, node, message, must_acknowledge, due, refusal, step, step_outcome}
+use Rattle.rbac_words.specs.Message.{has_commands}
+use Rattle.rbac_words.specs.World.{World, node, message, due, refusal, step, step_outcome}
 use Rattle.rbac_words.specs.declared.event.Event.{Event}
 use Rattle.rbac_words.specs.declared.event.Event.TheVariants.{Submit, Receive, Deliver}
 use Rattle.rbac_words.specs.declared.event.Outcome.{Outcome}
 use Rattle.rbac_words.specs.declared.event.Refusal.{Refusal}
 use Rattle.rbac_words.specs.declared.event.Refusal.TheVariants.{NoMemory}
 
--- whether an event that is not refused makes something longer: a sent list, or a history
+-- whether an event that is not refused makes something longer: a sent list, what is held, or a history
 abbrev pub grows : World → Event → Bool
 grows w (Submit at caller serial command) = true
-grows w (Receive at from n) = must_acknowledge (node w at) (message (node w from) n)
+grows w (Receive at from n) = has_commands (message (node w from) n)
 grows w (Deliver at) = is_some (due w (node w at))
 
 -- what a step answers and leaves, where it may also be refused for want of memory: then no other refusal applies, and the

@@ -95,9 +95,9 @@ stamp clock member = record { clock = clock; member = member }
 abbrev pub submit_at : Node → ℕ → ℕ → Command → Node
 submit_at v caller serial command = record v { clock = v.clock + 1; sent = v.sent ++ Call (stamp (v.clock + 1) v.number) caller serial command ∷ [] }
 
--- the rule of acknowledgements: a message is acknowledged where it has commands, and no other one is
+-- the rule of acknowledgements: a message is acknowledged where it has commands and nothing was sent with a greater stamp
 abbrev pub must_acknowledge : Node → Message → Bool
-must_acknowledge v m = has_commands m
+must_acknowledge v m = has_commands m && not (has_later v.sent (stamp_of m))
 
 -- the clock moves above that of the message, and once more for an acknowledgement
 abbrev pub clock_after : Node → Message → ℕ

@@ -2,6 +2,7 @@
 
 use crate::stamp::Stamp;
 use rbac_terms::Command;
+use thiserror::Error;
 
 /// One atomic step on one member.
 #[derive(Drop)]
@@ -30,33 +31,43 @@ pub enum Event {
 pub enum Outcome {
     /// The stamp of the command.
     Submitted(Stamp),
-    /// The stamp of the acknowledgement, which only a command gets.
+    /// The stamp of the acknowledgement, if the message was acknowledged.
     Received(Option<Stamp>),
     /// The place of the new record in the member's history, if one was due.
     Delivered(Option<usize>),
 }
 
 /// Why an event is refused: the first that applies, in this order.
-#[derive(Clone, Copy, Debug, PartialEq, Eq, Drop)]
+#[derive(Clone, Copy, Debug, PartialEq, Eq, Drop, Error)]
 pub enum Refusal {
     /// `at` or `from` is no member.
+    #[error("the group has no member of this number")]
     UnknownMember,
     /// A member receives nothing from itself.
+    #[error("a member receives nothing from itself")]
     FromSelf,
     /// The sender has sent no message of this number.
+    #[error("the sender has sent no message of this number")]
     NotSent,
     /// A message that was received before.
+    #[error("the message was received before: expected message {expected}")]
     Repeat { expected: u64 },
     /// A message before which another one is missing.
+    #[error("a message before this one is missing: expected message {expected}")]
     Gap { expected: u64 },
     /// The stamp is not of the sender, or not above the last one taken from it.
+    #[error("the stamp is not of the sender, or not above the last one taken from it")]
     StampNotRising,
     /// The clock would pass its limit.
+    #[error("the member's clock is at its limit")]
     ClockFull,
     /// No more can be sent.
+    #[error("the member has sent as many messages as the founding allows")]
     SentFull,
     /// The serial is not the caller's next.
+    #[error("expected serial {next}")]
     BadSerial { next: u64 },
     /// Memory ran out, and nothing happened.
+    #[error("no memory")]
     NoMemory,
 }

@@ -5,6 +5,7 @@ ghost use Rattle.rbac_words.specs.Build.{group_refusal};
 
 use crate::limits::{LAST_CLOCK, MOST_MEMBERS, MOST_SENT};
 use std::marker::Model;
+use thiserror::Error;
 
 /// How many members a group has (1 to 8, numbered from 1), where their clocks start (0 to 9,007,199,254,740,991), and
 /// how many messages each of them may send (1 to 65,536).
@@ -28,10 +29,13 @@ impl Model for Group {
 }
 
 /// Why numbers make no group, in the order of the checks.
-#[derive(Clone, Copy, Debug, PartialEq, Eq, Drop)]
+#[derive(Clone, Copy, Debug, PartialEq, Eq, Drop, Error)]
 pub enum GroupRefusal {
+    #[error("a group has 1 to 8 members")]
     BadMembers,
+    #[error("a clock begins at 9007199254740991 at most")]
     BadClock,
+    #[error("a member may send 1 to 65536 messages")]
     BadSentLimit,
 }
 

@@ -7,9 +7,9 @@ use Rattle.std.proofs.lemmas.List.Elements.{filter-append}
 use Rattle.rbac_terms.specs.Vocabulary.{Vocabulary}
 use Rattle.rbac_words.specs.Group.{Group}
 use Rattle.rbac_words.specs.Stamp.{IsAfter, is_after}
-use Rattle.rbac_words.specs.Message.{stamp_of, is_by, next_serial, CountsFrom}
+use Rattle.rbac_words.specs.Message.{stamp_of, is_by, next_serial, CountsFrom, has_commands}
 use Rattle.rbac_words.specs.Front.{is_of}
-use Rattle.rbac_words.specs.World.{World, Node, node, is_member, read_of, stamp, message, submit_refusal, receive_refusal, room_refusal, submit_at, receive_at, deliver_at, with_node, refusal, outcome, after, place_of, due, answer_unless, world_unless, must_acknowledge, acknowledgement}
+use Rattle.rbac_words.specs.World.{World, Node, node, is_member, read_of, stamp, message, submit_refusal, receive_refusal, room_refusal, submit_at, receive_at, deliver_at, with_node, refusal, outcome, after, place_of, due, answer_unless, world_unless, acknowledgement}
 use Rattle.rbac_words.specs.Keeping.Links.{has_link, is_rising_of}
 use Rattle.rbac_words.specs.Step.{grows, IsStep}
 use Rattle.rbac_words.specs.Keeping.Member.{Member, node_of, links_of, latest_of, known, submitted, received, deliver_due, due_at, or_else, serial_refusal, message_refusal, IsNext}
@@ -268,7 +268,7 @@ module _ (group : Group) (vocabulary : Vocabulary) (ms : List Member) (are : Are
     leaves = place i (received (at i) (at j).number m) ∙ ap (λ k. with_node w (i + 1) (receive_at (node_of (at i)) k m)) (number j hj)
         ∙ ap (λ (u : Node). with_node w (i + 1) (receive_at (node_of (at i)) (j + 1) (message u n))) (sym (node_at j))
         ∙ ap (λ (v : Node). with_node w (i + 1) (receive_at v (j + 1) (message (node w (j + 1)) n))) (sym (node_at i));
-    longer = ap (λ (v : Node). must_acknowledge v (message (node w (j + 1)) n)) (node_at i) ∙ ap (λ (u : Node). must_acknowledge (node_of (at i)) (message u n)) (node_at j);
+    longer = ap (λ (u : Node). has_commands (message u n)) (node_at j);
     keeps = λ free. subst (λ k. AreMembers group vocabulary (set ms i (received (at i) k m))) (sym (number j hj)) (members_receive group vocabulary ms are i j n hi hj d (same_refusal i j n hi hj d ∙ free));
   }
     where

@@ -2,7 +2,8 @@
 use Rattle.std.specs.Prelude.{ℕ, Bool, true, not, ◌≡◌, ◌≢◌, ◌+◌, ◌==◌, ◌||◌, nat_lt, if◌then◌else◌, List, length, slice_set, Option, Some, None, is_some, Result, IfOk, IfErr, OnOk, OnErr}
 use Rattle.rbac_terms.specs.Vocabulary.{Vocabulary}
 use Rattle.rbac_words.specs.Group.{Group}
-use Rattle.rbac_words.specs.World.{stamp, message, acknowledgement, must_acknowledge, place_of, submit_refusal}
+use Rattle.rbac_words.specs.Message.{has_commands}
+use Rattle.rbac_words.specs.World.{stamp, message, acknowledgement, place_of, submit_refusal}
 use Rattle.rbac_words.specs.Step.{IsStep}
 use Rattle.rbac_words.specs.Keeping.Member.{Member, node_of, submitted, received, deliver_due, due_at, message_refusal}
 use Rattle.rbac_words.specs.Keeping.Members.{AreMembers, member_at, world_of}
@@ -57,7 +58,7 @@ receipt_of v sender n = record {
   refusal = receipt_refusal v sender n;
   outcome = Received (acknowledgement (node_of v) (message (node_of sender) n));
   after = received v sender.number (message (node_of sender) n);
-  grows = must_acknowledge (node_of v) (message (node_of sender) n);
+  grows = has_commands (message (node_of sender) n);
 }
 
 abbrev pub delivery_of : Member → Move

@@ -6,9 +6,11 @@ ghost use Rattle.rbac_words.specs.Right.{AreHistoriesRight};
 use crate::world::World;
 use rbac_words::{Event, Outcome, Refusal};
 use std::alloc::Global;
+use thiserror::Error;
 
 /// Memory ran out after so many events.
-#[derive(Clone, Copy, Debug, PartialEq, Eq, Drop)]
+#[derive(Clone, Copy, Debug, PartialEq, Eq, Drop, Error)]
+#[error("no memory after {done} events")]
 pub struct Stopped {
     pub done: usize,
 }

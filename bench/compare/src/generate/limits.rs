@@ -3,6 +3,7 @@
 //! Each also asks, at the limit, for what an earlier precondition denies, and goes below the limit and back to it.
 
 use super::builder::{self, Builder};
+use super::model::Model;
 use crate::case::Case;
 use crate::random::Random;
 use crate::tree::{self, Tree};
@@ -17,6 +18,8 @@ pub fn cases(random: &mut Random) -> Vec<Case> {
         named("dynamic-sets", None, sets("Dsd")),
         named("users", None, users()),
         users_at_two_members(),
+        acknowledgements_at_a_limit("clock", "clock = 9007199254740988"),
+        acknowledgements_at_a_limit("sent", "sent_limit = 2"),
         named("sessions", None, sessions()),
     ];
     for (number, left) in [0, 1, 20].into_iter().enumerate() {
@@ -54,17 +57,20 @@ fn users() -> Vec<u8> {
     builder.schedule
 }
 
-/// Member 2 takes each command and member 1 each acknowledgement, and then each of them delivers all commands: both deny the
-/// same one, and then nothing is left.
+/// Member 2 takes each command and member 1 what it acknowledges of them, and then each of them delivers all commands: both deny
+/// the same one, and then nothing is left.
 fn users_at_two_members() -> Case {
     const USERS: u32 = 4_097;
     let mut builder = Builder::new();
+    let mut model = Model::new(2, 0, 65_536);
     for user in 1..=USERS {
         let event = builder.next_submit(0, builder::command("AddUser", &[field("user", &format!("u{user}"))]));
         builder.line(event.compact());
+        model.submit(1, 0);
     }
     for (at, from) in [(2, 1), (1, 2)] {
-        for number in 1..=USERS {
+        for _ in 0..model.sent(from) {
+            let number = model.receive(at, from);
             builder.line(builder::receive(at, from, number).compact());
         }
     }
@@ -75,6 +81,26 @@ fn users_at_two_members() -> Case {
     }
     let founding = format!("version = 1\nmembers = 2\n{VOCABULARY}");
     Case::of_group("limit-users-at-two-members".to_owned(), founding.into_bytes(), builder.schedule)
+}
+
+/// Two members that submit twice each and take what the other one sent: the first command needs no acknowledgement of member 2 and one
+/// of member 1, and so the second ones.
+fn acknowledgements_at_a_limit(name: &str, limit: &str) -> Case {
+    let mut builder = Builder::new();
+    for (at, serial) in [(1, 0), (1, 1), (2, 0), (2, 1)] {
+        let command = builder::command("AddUser", &[field("user", &format!("u{at}"))]);
+        builder.line(builder::submit(at, 0, serial, command).compact());
+    }
+    for (at, from) in [(2, 1), (1, 2)] {
+        for number in [1, 2, 2, 3] {
+            builder.line(builder::receive(at, from, number).compact());
+        }
+    }
+    for at in [1, 1, 1, 2, 2, 2] {
+        builder.line(builder::deliver(at).compact());
+    }
+    let founding = format!("version = 1\nmembers = 2\n{limit}\n{VOCABULARY}");
+    Case::of_group(format!("limit-acknowledgements-{name}"), founding.into_bytes(), builder.schedule)
 }
 
 fn all_roles() -> Vec<u8> {

@@ -25,6 +25,13 @@ struct Member {
     serials: HashMap<u32, u32>,
 }
 
+impl Member {
+    /// Whether a message is acknowledged: a command is where nothing later was sent.
+    fn must_acknowledge(&self, stamp: Stamp, is_command: bool) -> bool {
+        is_command && self.sent.last().is_none_or(|(last, _)| *last < stamp)
+    }
+}
+
 impl Model {
     pub fn new(members: u32, clock: u64, sent_limit: u32) -> Model {
         let member = Member {
@@ -90,9 +97,10 @@ impl Model {
     fn can_receive(&self, at: u32, from: u32) -> bool {
         let member = self.member(at);
         let next = self.member(from).sent.get(self.taken(at, from) as usize);
-        next.is_some_and(|((clock, _), is_command)| {
-            let clock = member.clock.max(*clock) + 1 + u64::from(*is_command);
-            clock <= LAST_CLOCK && (!is_command || member.sent.len() < self.sent_limit)
+        next.is_some_and(|(stamp, is_command)| {
+            let is_due = member.must_acknowledge(*stamp, *is_command);
+            let clock = member.clock.max(stamp.0) + 1 + u64::from(is_due);
+            clock <= LAST_CLOCK && (!is_due || member.sent.len() < self.sent_limit)
         })
     }
 
@@ -102,10 +110,13 @@ impl Model {
         let (stamp, is_command) = self.member(from).sent[place];
         let member = self.member_mut(at);
         member.taken[from as usize - 1] += 1;
+        let is_due = member.must_acknowledge(stamp, is_command);
         member.clock = member.clock.max(stamp.0) + 1;
-        if is_command {
+        if is_due {
             member.clock += 1;
             member.sent.push(((member.clock, at), false));
+        }
+        if is_command {
             member.held.insert(stamp);
         }
         place as u32 + 1

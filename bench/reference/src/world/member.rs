@@ -76,7 +76,8 @@ impl Member {
         Ok(stamp)
     }
 
-    /// Takes a message, which has to be the sender's next one. A command is held and acknowledged.
+    /// Takes a message, which has to be the sender's next one. A command is held, and acknowledged where nothing that was sent
+    /// from here comes after it.
     pub fn receive(&mut self, sender: usize, number: u32, message: Message) -> Result<Option<Stamp>, EventRefusal> {
         let expected = self.links[sender].taken + 1;
         if number < expected {
@@ -86,26 +87,30 @@ impl Member {
             return Err(EventRefusal::Gap { expected });
         }
         let moved = self.clock.max(message.stamp.clock) + 1;
-        let Some(call) = message.call else {
+        // What is sent here has greater and greater stamps, so the last one tells.
+        let has_sent_later = self.sent.last().is_some_and(|last| last.stamp > message.stamp);
+        if message.call.is_none() || has_sent_later {
             self.require_clock(moved)?;
-            self.take(sender, moved, message.stamp);
+            self.take(sender, moved, message);
             return Ok(None);
-        };
+        }
         // The acknowledgement is one more step of the clock.
         self.require_clock(moved + 1)?;
         self.require_room()?;
-        self.take(sender, moved + 1, message.stamp);
-        self.held.insert(message.stamp, call);
+        self.take(sender, moved + 1, message);
         let stamp = self.stamp();
         self.sent.push(Message { stamp, call: None });
         Ok(Some(stamp))
     }
 
-    fn take(&mut self, sender: usize, clock: u64, stamp: Stamp) {
+    fn take(&mut self, sender: usize, clock: u64, message: Message) {
         self.clock = clock;
         let link = &mut self.links[sender];
         link.taken += 1;
-        link.latest = Some(stamp);
+        link.latest = Some(message.stamp);
+        if let Some(call) = message.call {
+            self.held.insert(message.stamp, call);
+        }
     }
 
     /// Delivers the least held command, if nobody can come before it any more.

@@ -1,7 +1,7 @@
 //! What `rbac_founding` reads founding files as, and of refused ones by files that the next check would refuse too.
 
 use rbac_founding::{Founding, FoundingRefusal, read_founding, sample_founding};
-use rbac_words::{Name, Vocabulary};
+use rbac_words::{Name, Vocabulary, VocabularyRefusal};
 use std::alloc::{AllocError, Global};
 use std::process::Abort;
 
@@ -183,4 +183,68 @@ fn the_first_refusal_of_lists(rt: HostRuntime) {
         let numbers = "version = 1\nmembers = 1";
         expect_refused(&rt, rt.alloc(), numbers, lists, refusal);
     }
+}
+
+// The lists of names in the sample.
+const NAMES: &str = r#"
+version = 1
+members = 1
+operations = ["approve", "pay", "read"]
+objects = ["invoice", "ledger"]
+"#;
+
+#[test]
+fn the_sample_with_a_permission_of_an_unknown_object(rt: HostRuntime) {
+    let unknown = FoundingRefusal::UnknownName;
+    let permissions =
+        r#"permissions = [["approve", "invoice"], ["pay", "invoice"], ["read", "ledger"], ["read", "moon"]]"#;
+    expect_refused(&rt, rt.alloc(), NAMES, permissions, unknown);
+    // An operation that is not listed is refused so too.
+    let permissions = r#"permissions = [["approve", "invoice"], ["fly", "ledger"]]"#;
+    expect_refused(&rt, rt.alloc(), NAMES, permissions, unknown);
+}
+
+fn names(rt: &impl Abort, alloc: Global, texts: &[&str]) -> Vec<Name> {
+    let mut names = Vec::new(alloc);
+    for text in texts {
+        let name = Name::read(alloc, text.as_bytes()).expect(rt, "a name");
+        names.push(name).expect(rt, "memory");
+    }
+    names
+}
+
+fn pairs(rt: &impl Abort, alloc: Global, texts: &[(&str, &str)]) -> Vec<(Name, Name)> {
+    let mut pairs = Vec::new(alloc);
+    for (operation, object) in texts {
+        let operation = Name::read(alloc, operation.as_bytes()).expect(rt, "a name");
+        let object = Name::read(alloc, object.as_bytes()).expect(rt, "a name");
+        pairs.push((operation, object)).expect(rt, "memory");
+    }
+    pairs
+}
+
+// Why the sample's names and permissions, with reading this object besides, make no vocabulary.
+fn refusal_with(rt: &impl Abort, alloc: Global, object: &str) -> Option<VocabularyRefusal> {
+    let operations = names(rt, alloc, &["approve", "pay", "read"]);
+    let objects = names(rt, alloc, &["invoice", "ledger"]);
+    let permissions = pairs(
+        rt,
+        alloc,
+        &[
+            ("approve", "invoice"),
+            ("pay", "invoice"),
+            ("read", "ledger"),
+            ("read", object),
+        ],
+    );
+    Vocabulary::build(operations, objects, permissions).err()
+}
+
+#[test]
+fn a_vocabulary_with_a_permission_of_an_unknown_object(rt: HostRuntime) {
+    let unknown = Some(VocabularyRefusal::UnknownName);
+    assert_eq!(rt; refusal_with(&rt, rt.alloc(), "moon"), unknown);
+    assert_eq!(rt; refusal_with(&rt, rt.alloc(), "invoice"), None);
+    let repeated = Some(VocabularyRefusal::Repeated);
+    assert_eq!(rt; refusal_with(&rt, rt.alloc(), "ledger"), repeated);
 }

@@ -1,20 +1,15 @@
 //! Each public call of `rbac_holdback` with ample memory, and what is least and stable, for both forms. What is expected was written by hand.
 ghost use Rattle.std.specs.Prelude.{◌≡◌, ◌≤◌, length};
-ghost use Rattle.std.specs.List.{AllByRecursion};
 ghost use Rattle.rbac_words.specs.Message.{submitted_at};
-ghost use Rattle.rbac_words.specs.Stamp.{IsBefore, insert_by_stamp};
+ghost use Rattle.rbac_words.specs.Stamp.{insert_by_stamp};
 ghost use Rattle.rbac_words.specs.World.{stamp as stamp_of};
+ghost use Rattle.rbac_holdback.specs.Holdback.{CanBeHeld};
 
+use crate::tests::stamps::stamp;
 use rbac_holdback::{Held, HeldQueue, Holdback, ListHeld};
 use rbac_words::{Command, Name, Stamp};
 use std::alloc::Global;
 use std::process::Abort;
-
-fn stamp(clock: u64, member: u32) -> Stamp
-    ensures { result ≡ stamp_of clock member }
-{
-    Stamp { clock, member }
-}
 
 fn command(rt: &impl Abort, alloc: Global) -> Command {
     Command::AddUser {
@@ -24,13 +19,12 @@ fn command(rt: &impl Abort, alloc: Global) -> Command {
 
 // Holds a command with this stamp.
 fn put<Q: HeldQueue>(rt: &impl Abort, queue: &mut Q, clock: u64, member: u32, command: Command)
-    requires member { (1 ≤ member) × (member ≤ (Q.content queue.old).members) }
-    requires above { AllByRecursion (λ x. x.stamp.member ≡ member → IsBefore x.stamp (stamp_of clock member)) (Q.content queue.old).held }
+    requires { CanBeHeld (Q.content queue.old) (record { stamp = stamp_of clock member; caller = 7; serial = 0; command = command }) }
     ensures members { (Q.content queue.new).members ≡ (Q.content queue.old).members }
     ensures held { (Q.content queue.new).held ≡ insert_by_stamp submitted_at (record { stamp = stamp_of clock member; caller = 7; serial = 0; command = command }) (Q.content queue.old).held }
 {
     let held = Held {
-        stamp: Stamp { clock, member },
+        stamp: stamp(clock, member),
         caller: 7,
         serial: 0,
         command,

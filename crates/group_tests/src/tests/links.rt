@@ -1,12 +1,9 @@
 //! Each public call of `rbac_links` with ample memory. What is expected was written by hand.
 
+use crate::tests::stamps::stamp;
 use rbac_links::{Inlinks, LinkRefusal, Outbox, OutboxRefusal};
 use rbac_words::{Message, Stamp};
 use std::process::Abort;
-
-fn stamp(clock: u64, member: u32) -> Stamp {
-    Stamp { clock, member }
-}
 
 // Member 1 of a group of three.
 fn links() -> Inlinks {
@@ -150,6 +147,11 @@ fn expect_full(rt: &impl Abort, outbox: &mut Outbox) {
     assert!(rt; refused == Some((OutboxRefusal::Full, stamp(9, 1))));
 }
 
+// Compares the stamp of the last message, if there is one.
+fn expect_last(rt: &impl Abort, outbox: &Outbox, wanted: Option<Stamp>) {
+    assert_eq!(rt; outbox.last(), wanted);
+}
+
 // Compares the stamp of a message of this number, if there is one.
 fn expect_message(rt: &impl Abort, outbox: &Outbox, number: u32, wanted: Option<Stamp>) {
     let found = outbox.get(number).map(|message| message.stamp());
@@ -181,8 +183,11 @@ fn a_limit_of_none_sends_nothing(rt: HostRuntime) {
 #[test]
 fn messages_are_counted_from_one(rt: HostRuntime) {
     let mut outbox = Outbox::found(rt.alloc(), u32::MAX);
+    expect_last(&rt, &outbox, None);
     expect_sent(&rt, &mut outbox, 1);
+    expect_last(&rt, &outbox, Some(stamp(1, 1)));
     expect_sent(&rt, &mut outbox, 2);
+    expect_last(&rt, &outbox, Some(stamp(2, 1)));
     expect_message(&rt, &outbox, 0, None);
     expect_message(&rt, &outbox, 1, Some(stamp(1, 1)));
     expect_message(&rt, &outbox, 2, Some(stamp(2, 1)));

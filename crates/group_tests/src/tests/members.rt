@@ -1,6 +1,7 @@
 //! Members of `rbac_member`: what is submitted, received and refused. Members and messages end in `drop`, since the proof of a value that
 //! goes out of scope writes its drop out in place, a case for each variant.
 
+use crate::tests::stamps::stamp;
 use rbac_member::{FoundRefusal, Member, ReceiveRefusal, SubmitRefusal};
 use rbac_words::{Answer, Command, Denial, Group, Message, Name, Stamp, Vocabulary};
 use std::alloc::Global;
@@ -10,10 +11,6 @@ fn add_user(rt: &impl Abort, alloc: Global) -> Command {
     Command::AddUser {
         user: Name::read(alloc, b"ann").expect(rt, "a name"),
     }
-}
-
-fn stamp(clock: u64, member: u32) -> Stamp {
-    Stamp { clock, member }
 }
 
 // A command of caller 0 as another member sends it.
@@ -150,10 +147,42 @@ fn receives_acknowledgements_that_rise(rt: HostRuntime) {
     let mut member = first_of(&rt, rt.alloc(), 2, 0, 5);
     let falls = Err(ReceiveRefusal::StampNotRising);
     expect_ack(&rt, &mut member, 1, stamp(5, 2), Ok(None));
+    assert_eq!(rt; member.clock(), 6);
     expect_ack(&rt, &mut member, 2, stamp(5, 2), falls);
     expect_ack(&rt, &mut member, 2, stamp(6, 3), falls);
     expect_ack(&rt, &mut member, 2, stamp(7, 2), Ok(None));
     assert_eq!(rt; (member.clock(), member.read(2), member.read(1)), (8, 2, 0));
+    drop(member);
+}
+
+#[test]
+fn a_serial_out_of_turn_is_refused_after_acknowledgements(rt: HostRuntime) {
+    let alloc = rt.alloc();
+    let mut member = first_of(&rt, alloc, 2, 0, 5);
+    expect_ack(&rt, &mut member, 1, stamp(5, 2), Ok(None));
+    expect_ack(&rt, &mut member, 2, stamp(7, 2), Ok(None));
+    let second = call(&rt, alloc, stamp(9, 2), 1);
+    let next = ReceiveRefusal::BadSerial { next: 0 };
+    expect_receipt(&rt, &mut member, 2, 3, second, Err(next));
+    // It is as before: number 3 is still the next one, and so is serial 0.
+    assert_eq!(rt;
+        (member.clock(), member.read(2), member.sent().len()),
+        (8, 2, 0)
+    );
+    let first = call(&rt, alloc, stamp(9, 2), 0);
+    expect_receipt(&rt, &mut member, 2, 3, first, Ok(Some(stamp(11, 1))));
+    drop(member);
+}
+
+#[test]
+fn a_full_member_takes_an_acknowledgement(rt: HostRuntime) {
+    let alloc = rt.alloc();
+    let mut member = first_of(&rt, alloc, 2, 0, 1);
+    expect_submit(&rt, alloc, &mut member, 0, Ok(stamp(1, 1)));
+    expect_delivery(&rt, alloc, &mut member, None);
+    expect_ack(&rt, &mut member, 1, stamp(3, 2), Ok(None));
+    assert_eq!(rt; (member.clock(), member.sent().len()), (4, 1));
+    expect_delivery(&rt, alloc, &mut member, Some(0));
     drop(member);
 }
 
@@ -189,6 +218,60 @@ fn acknowledges_a_command_and_holds_it(rt: HostRuntime) {
     let again = call(&rt, alloc, stamp(12, 2), 0);
     let next = ReceiveRefusal::BadSerial { next: 1 };
     expect_receipt(&rt, &mut member, 2, 2, again, Err(next));
+    drop(member);
+}
+
+#[test]
+fn acknowledges_nothing_needless(rt: HostRuntime) {
+    let alloc = rt.alloc();
+    let mut member = first_of(&rt, alloc, 2, 0, 2);
+    let first = call(&rt, alloc, stamp(9, 2), 0);
+    expect_receipt(&rt, &mut member, 2, 1, first, Ok(Some(stamp(11, 1))));
+    let second = call(&rt, alloc, stamp(10, 2), 1);
+    expect_receipt(&rt, &mut member, 2, 2, second, Ok(None));
+    assert_eq!(rt; (member.clock(), member.sent().len()), (12, 1));
+    let third = call(&rt, alloc, stamp(11, 2), 2);
+    expect_receipt(&rt, &mut member, 2, 3, third, Ok(Some(stamp(14, 1))));
+    expect_delivery(&rt, alloc, &mut member, Some(0));
+    expect_delivery(&rt, alloc, &mut member, Some(1));
+    expect_delivery(&rt, alloc, &mut member, Some(2));
+    expect_record(
+        &rt,
+        &member,
+        2,
+        stamp(11, 2),
+        Answer::Denied(Denial::UserExists),
+    );
+    drop(member);
+}
+
+#[test]
+fn a_full_member_takes_what_it_need_not_acknowledge(rt: HostRuntime) {
+    let alloc = rt.alloc();
+    let mut member = first_of(&rt, alloc, 2, 0, 2);
+    expect_submit(&rt, alloc, &mut member, 0, Ok(stamp(1, 1)));
+    expect_submit(&rt, alloc, &mut member, 1, Ok(stamp(2, 1)));
+    let first = call(&rt, alloc, stamp(1, 2), 0);
+    expect_receipt(&rt, &mut member, 2, 1, first, Ok(None));
+    let second = call(&rt, alloc, stamp(2, 2), 1);
+    let full = Err(ReceiveRefusal::SentFull);
+    expect_receipt(&rt, &mut member, 2, 2, second, full);
+    assert_eq!(rt; (member.clock(), member.read(2)), (3, 1));
+    drop(member);
+}
+
+#[test]
+fn a_clock_at_its_end_takes_one_step_for_what_is_not_acknowledged(rt: HostRuntime) {
+    let alloc = rt.alloc();
+    let mut member = first_of(&rt, alloc, 2, 9_007_199_254_740_989, 2);
+    let own = stamp(9_007_199_254_740_990, 1);
+    expect_submit(&rt, alloc, &mut member, 0, Ok(own));
+    let first = call(&rt, alloc, stamp(9_007_199_254_740_988, 2), 0);
+    expect_receipt(&rt, &mut member, 2, 1, first, Ok(None));
+    assert_eq!(rt; member.clock(), 9_007_199_254_740_991);
+    let full = Err(ReceiveRefusal::ClockFull);
+    let second = call(&rt, alloc, stamp(9_007_199_254_740_989, 2), 1);
+    expect_receipt(&rt, &mut member, 2, 2, second, full);
     drop(member);
 }
 

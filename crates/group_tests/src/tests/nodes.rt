@@ -1,7 +1,8 @@
 //! Nodes of `rbac_node` and their rows: what is published, what comes in, and what a full row takes.
 ghost use Rattle.std.specs.Prelude.{◌≡◌, ◌≤◌, length};
 
-use rbac_node::{GroupName, Node, NodeRefusal, PublishRefusal, Rows};
+use crate::tests::stamps::stamp;
+use rbac_node::{AuditRefusal, GroupName, Node, NodeRefusal, PublishRefusal, Rows, audit};
 use rbac_words::{Answer, Command, Group, Name, Stamp, Vocabulary};
 use std::alloc::Global;
 use std::marker::Brand;
@@ -34,10 +35,6 @@ fn founding_of(rt: &impl Abort, alloc: Global, group: Group, places: u32) -> Fou
         vocabulary: vocabulary.expect(rt, "a vocabulary"),
         rows: Rows::found(alloc, shown).expect(rt, "memory"),
     }
-}
-
-fn stamp(clock: u64, member: u32) -> Stamp {
-    Stamp { clock, member }
 }
 
 // The node of member `number` of the founding that G names.
@@ -152,6 +149,27 @@ fn exchange<G: GroupName>(
     expect_deliveries(rt, alloc, one, 0);
 }
 
+// Member 1 sends a second command, which member 2 takes as the next message, and both deliver it.
+fn exchange_again<G: GroupName>(
+    rt: &impl Abort,
+    alloc: Global,
+    rows: &Rows,
+    one: &mut Node<G>,
+    two: &mut Node<G>,
+)
+    requires rows { (rows.now ≡ G.cells) × (length rows.now.sent ≡ G.group.members) }
+    requires two { G.group.members ≡ 2 }
+{
+    expect_submit(rt, alloc, one, stamp(5, 1));
+    expect_publish(rt, alloc, rows, one, Ok(()));
+    expect_receipt(rt, rows, two, 1, Ok(Some(stamp(7, 2))));
+    expect_delivery(rt, alloc, two, 1);
+    expect_publish(rt, alloc, rows, two, Ok(()));
+    expect_receipt(rt, rows, one, 2, Ok(None));
+    expect_clock(rt, one, 8);
+    expect_deliveries(rt, alloc, one, 1);
+}
+
 // What two nodes say to each other.
 fn talk<G: GroupName, R: Abort>(rt: &R, alloc: Global, founding: &Founding)
     requires names { (founding.now.group ≡ G.group) × (founding.now.vocabulary ≡ G.vocabulary) × (founding.now.rows ≡ G.cells) }
@@ -162,12 +180,15 @@ fn talk<G: GroupName, R: Abort>(rt: &R, alloc: Global, founding: &Founding)
     exchange(rt, alloc, &founding.rows, &mut one, &mut two);
     expect_published(rt, &one, (1, 0));
     expect_published(rt, &two, (1, 1));
+    exchange_again(rt, alloc, &founding.rows, &mut one, &mut two);
+    expect_published(rt, &one, (2, 1));
+    expect_published(rt, &two, (2, 2));
     drop(one);
     drop(two);
 }
 
 #[test]
-fn two_nodes_deliver_one_command(rt: HostRuntime) {
+fn two_nodes_deliver_two_commands(rt: HostRuntime) {
     let founding = founding_of(&rt, rt.alloc(), group_of(&rt, 2, 4), 4);
     talk::<Brand, _>(&rt, rt.alloc(), &founding);
     drop(founding);
@@ -192,5 +213,35 @@ fn a_full_row_takes_no_more(rt: HostRuntime) {
     let alone = group_of(&rt, 1, 4);
     let founding = founding_of(&rt, rt.alloc(), alone, 1);
     fill::<Brand, _>(&rt, rt.alloc(), &founding);
+    drop(founding);
+}
+
+// Whether nodes are refused as a group, which are dropped here.
+fn is_no_group<G: GroupName>(alloc: Global, mut nodes: [Node<G>; 2]) -> bool {
+    let is = matches!(audit(alloc, &mut nodes), Err(AuditRefusal::NotAGroup));
+    drop(nodes);
+    is
+}
+
+// Member 2 reads what another node of member 1 has published. This one has sent it too, and has published nothing.
+fn read_too_much<G: GroupName, R: Abort>(rt: &R, alloc: Global, founding: &Founding)
+    requires names { (founding.now.group ≡ G.group) × (founding.now.vocabulary ≡ G.vocabulary) × (founding.now.rows ≡ G.cells) }
+    requires two { (G.group.members ≡ 2) × (length founding.now.rows.sent ≡ 2) }
+{
+    let mut one: Node<G> = found(rt, alloc, founding, 1);
+    let mut twin: Node<G> = found(rt, alloc, founding, 1);
+    let mut two: Node<G> = found(rt, alloc, founding, 2);
+    expect_submit(rt, alloc, &mut one, stamp(1, 1));
+    expect_submit(rt, alloc, &mut twin, stamp(1, 1));
+    expect_publish(rt, alloc, &founding.rows, &mut twin, Ok(()));
+    drop(twin);
+    expect_receipt(rt, &founding.rows, &mut two, 1, Ok(Some(stamp(3, 2))));
+    assert!(rt; is_no_group(alloc, [one, two]));
+}
+
+#[test]
+fn what_was_not_published_is_of_no_group(rt: HostRuntime) {
+    let founding = founding_of(&rt, rt.alloc(), group_of(&rt, 2, 4), 4);
+    read_too_much::<Brand, _>(&rt, rt.alloc(), &founding);
     drop(founding);
 }

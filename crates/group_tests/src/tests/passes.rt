@@ -135,7 +135,7 @@ fn settle<G: GroupName>(rt: &impl Abort, alloc: Global, rows: &Rows, node: &mut 
     published.expect(rt, "room");
 }
 
-// A command is submitted, and answered once it is delivered. Until then the pass is busy.
+// A command is submitted, and answered once its record is published. Until then the pass is busy.
 fn expect_answered<G: GroupName>(
     rt: &impl Abort,
     alloc: Global,
@@ -151,6 +151,8 @@ fn expect_answered<G: GroupName>(
     let mut ticket = ask(rt, pass, node, command);
     let busy = ServiceRefusal::Busy;
     expect_refusal(rt, pass, node, add_ann(rt, alloc), busy);
+    expect_none(rt, pass, node, &mut ticket);
+    node.deliver_all(alloc).expect(rt, "memory");
     expect_none(rt, pass, node, &mut ticket);
     settle(rt, alloc, rows, node);
     expect_answer(rt, pass, node, &mut ticket, place, answer);

@@ -2,17 +2,11 @@
 //! reviews of `rbac_terms`. Copies end in `drop`, since the proof of a value that goes out of scope writes its drop out in place, a
 //! case for each variant.
 
-use rbac_words::{
-    Answer, Command, Denial, Group, GroupRefusal, Message, Name, Record, Review, Stamp,
-};
+use crate::tests::stamps::stamp;
+use rbac_words::{Answer, Command, Denial, Group, GroupRefusal, Message, Name, Record, Review};
 use sorted_keys::Same;
 use std::alloc::Global;
 use std::process::Abort;
-
-const STAMP: Stamp = Stamp {
-    clock: 7,
-    member: 2,
-};
 
 fn expect_group(rt: &impl Abort, members: u32, clock: u64, sent_limit: u32) {
     let group = Group::build(members, clock, sent_limit).expect(rt, "a group");
@@ -39,10 +33,6 @@ fn groups_are_within_limits(rt: HostRuntime) {
         let refused = Group::build(members, clock, sent_limit);
         assert!(rt; refused.err() == Some(refusal));
     }
-}
-
-fn stamp(clock: u64, member: u32) -> Stamp {
-    Stamp { clock, member }
 }
 
 #[test]
@@ -115,7 +105,7 @@ fn a_review_is_copied(rt: HostRuntime) {
 
 fn expect_record_copied(rt: &impl Abort, record: Record) {
     let copy = record.copy().expect(rt, "memory");
-    assert_eq!(rt; (copy.stamp, copy.caller, copy.serial), (STAMP, 3, 4));
+    assert_eq!(rt; (copy.stamp, copy.caller, copy.serial), (stamp(7, 2), 3, 4));
     assert!(rt; copy.answer.same(&Answer::Denied(Denial::NoRole)));
     assert!(rt; is_grant(&copy.command));
     drop(copy);
@@ -125,7 +115,7 @@ fn expect_record_copied(rt: &impl Abort, record: Record) {
 #[test]
 fn a_record_is_copied(rt: HostRuntime) {
     let record = Record {
-        stamp: STAMP,
+        stamp: stamp(7, 2),
         caller: 3,
         serial: 4,
         command: grant(&rt, rt.alloc()),
@@ -138,11 +128,11 @@ fn a_record_is_copied(rt: HostRuntime) {
 fn is_call(message: &Message) -> bool {
     match message {
         Message::Call {
-            stamp,
+            stamp: sent,
             caller: 3,
             serial: 4,
             command,
-        } => *stamp == STAMP && is_grant(command),
+        } => *sent == stamp(7, 2) && is_grant(command),
         _ => false,
     }
 }
@@ -150,7 +140,7 @@ fn is_call(message: &Message) -> bool {
 fn expect_message_copied(rt: &impl Abort, message: Message) {
     let copy = message.copy().expect(rt, "memory");
     assert!(rt; is_call(&copy));
-    assert_eq!(rt; message.stamp(), STAMP);
+    assert_eq!(rt; message.stamp(), stamp(7, 2));
     drop(copy);
     drop(message);
 }
@@ -158,7 +148,7 @@ fn expect_message_copied(rt: &impl Abort, message: Message) {
 #[test]
 fn a_message_is_copied(rt: HostRuntime) {
     let message = Message::Call {
-        stamp: STAMP,
+        stamp: stamp(7, 2),
         caller: 3,
         serial: 4,
         command: grant(&rt, rt.alloc()),

@@ -219,29 +219,35 @@ fn stops_at_the_limit_of_roles(rt: HostRuntime) {
     drop(policy);
 }
 
-// The command that makes the static set of this number, of the roles a and b.
-fn set_command(rt: &impl Abort, alloc: Global, number: u32) -> Command {
+// The command that makes the set of this kind and number, of the roles a and b.
+fn set_command(rt: &impl Abort, alloc: Global, kind: Separation, number: u32) -> Command {
     let set_name = format!(in alloc; "d{number}").expect(rt, "memory");
     Command::CreateSet {
-        kind: Separation::Static,
+        kind,
         set: name(rt, alloc, set_name.as_str()),
         roles: name_set(rt, alloc, &["a", "b"]),
         n: 2,
     }
 }
 
+// Makes as many sets of a kind as there may be, and one more.
+fn expect_limit_of_sets(rt: &impl Abort, alloc: Global, policy: &mut Policy, kind: Separation) {
+    for number in 0..256 {
+        let command = set_command(rt, alloc, kind, number);
+        expect_done(rt, alloc, policy, command);
+    }
+    let command = set_command(rt, alloc, kind, 256);
+    let limit = Answer::Denied(Denial::Limit);
+    expect_answer(rt, alloc, policy, command, limit);
+}
+
 #[test]
-fn stops_at_the_limit_of_sets(rt: HostRuntime) {
+fn stops_at_the_limit_of_sets_of_each_kind(rt: HostRuntime) {
     let mut policy = founded(&rt, rt.alloc());
     add_role(&rt, rt.alloc(), &mut policy, "a");
     add_role(&rt, rt.alloc(), &mut policy, "b");
-    for number in 0..256 {
-        let command = set_command(&rt, rt.alloc(), number);
-        expect_done(&rt, rt.alloc(), &mut policy, command);
-    }
-    let command = set_command(&rt, rt.alloc(), 256);
-    let limit = Answer::Denied(Denial::Limit);
-    expect_answer(&rt, rt.alloc(), &mut policy, command, limit);
+    expect_limit_of_sets(&rt, rt.alloc(), &mut policy, Separation::Static);
+    expect_limit_of_sets(&rt, rt.alloc(), &mut policy, Separation::Dynamic);
     drop(policy);
 }
 

@@ -72,14 +72,17 @@ fn put_array<E: Element>(text: &mut Vec<u8>, before: &str, elements: &[E]) -> Re
     text.extend_from_slice(b"]")
 }
 
-pub fn put_names(text: &mut Vec<u8>, names: &[Name]) -> Result<(), AllocError>
+pub(crate) fn put_names(text: &mut Vec<u8>, names: &[Name]) -> Result<(), AllocError>
     ensures { OnOk result (text.new.items ≡ text.old.items ++ names_text names.now) }
 {
     put_array(text, "{\"names\":", names)?;
     text.extend_from_slice(b"}")
 }
 
-pub fn put_permissions(text: &mut Vec<u8>, permissions: &[(Name, Name)]) -> Result<(), AllocError>
+pub(crate) fn put_permissions(
+    text: &mut Vec<u8>,
+    permissions: &[(Name, Name)],
+) -> Result<(), AllocError>
     ensures { OnOk result (text.new.items ≡ text.old.items ++ permissions_text permissions.now) }
 {
     put_array(text, "{\"permissions\":", permissions)?;

@@ -1,5 +1,7 @@
 //! How a member receives what the others send.
 ghost use Rattle.std.specs.Prelude.{◌≡◌, ◌≢◌, ◌<◌, ◌++◌, true, None, is_some, length, IfOk, IfErr, OnOk, OnErr};
+ghost use Rattle.rbac_words.specs.Message.{has_commands, has_later};
+ghost use Rattle.rbac_words.specs.Stamp.{has_passed as stamp_has_passed};
 ghost use Rattle.rbac_words.specs.World.{acks};
 
 use crate::member::Member;
@@ -9,6 +11,13 @@ use rbac_links::Outbox;
 use rbac_words::limits::LAST_CLOCK;
 use rbac_words::{Message, Stamp};
 use std::alloc::AllocError;
+
+// Whether the last stamp, if there is one, comes after this one.
+fn has_passed(last: Option<Stamp>, stamp: Stamp) -> bool
+    ensures { result ≡ stamp_has_passed last stamp }
+{
+    last.is_some_and(|last| stamp < last)
+}
 
 // Makes room for an acknowledgement, where there is one.
 fn make_room(outbox: &mut Outbox, stamp: Option<Stamp>) -> Result<(), AllocError>
@@ -44,8 +53,9 @@ impl Member {
     ghost use Rattle.rbac_words.specs.World.{must_acknowledge, clock_after, acknowledgement, room_refusal};
     ghost use Rattle.rbac_member.specs.Calls.{receipt_refused, rule_of};
 
-    /// Receives message `number` of member `from`, which is the next one that it has not received: a command is held and
-    /// acknowledged, and no message of a smaller stamp is taken of that member any more. Answers the acknowledgement's stamp.
+    /// Receives message `number` of member `from`, which is the next one that it has not received: a command is held, and
+    /// acknowledged where nothing was sent after it, and no message of a smaller stamp is taken of that member any more. Answers the
+    /// acknowledgement's stamp.
     ///
     /// # Errors
     /// The first that applies: `UnknownMember`, `FromSelf`, `Repeat`, `Gap`, `StampNotRising` of the links; `ClockFull`,
@@ -60,7 +70,7 @@ impl Member {
         ensures received { OnOk result (self.new ≡ received self.old from message.now) }
         ensures accepted { OnOk result (message_refusal self.old from number message.now ≡ None) }
         ensures first_refusal { IfErr result (λ refusal. message_refusal self.old from number message.now ≡ rule_of (receipt_refused refusal)) }
-        ensures memory_needed { IfErr result (λ refusal. refusal ≡ ReceiveRefusal.NoMemory → must_acknowledge (node_of self.old) message.now ≡ true) }
+        ensures memory_needed { IfErr result (λ refusal. refusal ≡ ReceiveRefusal.NoMemory → has_commands message.now ≡ true) }
         ensures unchanged { OnErr result (self.new ≡ self.old) }
     {
         let clock = self.clock_upon(from, number, message)?;
@@ -71,12 +81,19 @@ impl Member {
         }
     }
 
-    // Whether a message is acknowledged: it is where it has a command (Lamport 1978, "Ordering the Events Totally", rule 2: upon a
-    // request it is queued, and a timestamped acknowledgement is sent).
+    // Whether something was sent after this stamp: the last message was, since stamps rise.
+    fn has_later(&self, stamp: Stamp) -> bool
+        ensures { result ≡ has_later self.now.sent stamp }
+    {
+        has_passed(self.outbox.last(), stamp)
+    }
+
+    // Whether a message is acknowledged: it is where it has a command and nothing was sent after it (Lamport 1978, "Ordering the Events
+    // Totally", rule 2 and its footnote: a request is acknowledged, and need not be where a message of a later stamp was sent already).
     fn must_acknowledge(&self, message: &Message) -> bool
         ensures { result ≡ must_acknowledge (node_of self.now) message.now }
     {
-        matches!(message, Message::Call { .. })
+        matches!(message, Message::Call { .. }) && !self.has_later(message.stamp())
     }
 
     // The stamp of what is sent upon a message that leaves this clock, if it is acknowledged.
@@ -94,7 +111,7 @@ impl Member {
         }
     }
 
-    // The clock after a message, where clock and sent list have room for it and its acknowledgement.
+    // The clock after a message, where clock and sent list have room for it and its acknowledgement, if there is one.
     fn room_for(&self, message: &Message) -> Result<u64, ReceiveRefusal>
         ensures clock { IfOk result (λ clock. clock ≡ clock_after (node_of self.now) message.now) }
         ensures accepted { OnOk result (room_refusal self.now.group (node_of self.now) message.now ≡ None) }
@@ -162,7 +179,7 @@ impl Member {
         requires clock { clock ≡ clock_after (node_of self.old) message.now }
         requires stamp { stamp ≡ acknowledgement (node_of self.old) message.now }
         ensures received { OnOk result (self.new ≡ received self.old from message.now) }
-        ensures memory_needed { OnErr result (must_acknowledge (node_of self.old) message.now ≡ true) }
+        ensures memory_needed { OnErr result (has_commands message.now ≡ true) }
         ensures unchanged { OnErr result (self.new ≡ self.old) }
     {
         // All memory is taken before anything changes.

@@ -3,7 +3,7 @@ ghost use Rattle.std.specs.Prelude.{◌≡◌, ◌+◌, ◌++◌, ◌∷◌, [],
 ghost use Rattle.std.specs.List.{AllByRecursion};
 ghost use Rattle.rbac_words.specs.Stamp.{insert_all};
 ghost use Rattle.rbac_words.specs.Message.{submitted_at, submissions_of};
-ghost use Rattle.rbac_member.specs.Lists.{CanBeHeld};
+ghost use Rattle.rbac_holdback.specs.Holdback.{CanBeHeld};
 ghost use Rattle.rbac_member.specs.Serials.{counted};
 
 use crate::member::Member;

@@ -45,7 +45,8 @@ impl<G: GroupName, K: Gate + Drop, C: Courier + Drop> Service<G, K, C> {
     }
 
     /// Submits the pass's next command at its member, and publishes it. Where publishing is refused, the ticket is given all the
-    /// same, and a later turn publishes. The pass is of this service. It may wait for the member's lock.
+    /// same, and a later turn publishes. Where nothing new was published, nobody is told. The pass is of this service. It may wait
+    /// for the member's lock.
     ///
     /// # Errors
     /// The first that applies, as `ServiceRefusal` says; the command is dropped.
@@ -72,12 +73,14 @@ impl<G: GroupName, K: Gate + Drop, C: Courier + Drop> Service<G, K, C> {
         };
         let mut node = slot.node.lock(rt);
         let ticket = pass.submit(&mut node, command)?;
-        let records = node.published_records();
+        let (sent, records) = (node.published(), node.published_records());
         let _published = self.publish(alloc, &mut node);
         let (shown, answered) = (node.published(), answered_since(&node, records));
         drop(node);
         slot.waiting.wake(answered);
-        self.tell(pass.member(), shown, pass.member());
+        if shown != sent {
+            self.tell(pass.member(), shown, pass.member());
+        }
         self.gate.at(Moment::Submitted(ticket.stamp()));
         Ok(ticket)
     }

@@ -35,11 +35,15 @@ impl<G: GroupName, K: Gate + Drop, C: Courier + Drop> Service<G, K, C> {
         node.publish(alloc, self.rows.sent(number), self.rows.history(number))
     }
 
-    // Receives what another member has published, until its row shows no more or the node's member takes no more.
-    fn receive_from(&self, node: &mut Node<G>, from: u32) -> Result<(), AllocError> {
+    // Receives what another member has published, up to the message of this number, until its row shows no more or the node's
+    // member takes no more.
+    fn receive_from(&self, node: &mut Node<G>, from: u32, last: usize) -> Result<(), AllocError> {
         for _ in 0..u32::MAX {
             node.invariants();
             if from < 1 || self.rows.members() < from as usize || from == node.member().number() {
+                return Ok(());
+            }
+            if last <= node.member().read(from) as usize {
                 return Ok(());
             }
             match node.receive_next(from, self.rows.sent(from)) {
@@ -51,13 +55,13 @@ impl<G: GroupName, K: Gate + Drop, C: Courier + Drop> Service<G, K, C> {
         Ok(())
     }
 
-    // Receives what a wake is about.
+    // Receives what a wake is about: up to the number that a hint tells, and of each member all at a sweep.
     fn receive(&self, node: &mut Node<G>, wake: Wake) -> Result<(), AllocError> {
         match wake {
-            Wake::Hint(hint) => self.receive_from(node, hint.from),
+            Wake::Hint(hint) => self.receive_from(node, hint.from, hint.number),
             Wake::Sweep => {
                 for place in 0..self.rows.members() {
-                    self.receive_from(node, place as u32 + 1)?;
+                    self.receive_from(node, place as u32 + 1, usize::MAX)?;
                 }
                 Ok(())
             }

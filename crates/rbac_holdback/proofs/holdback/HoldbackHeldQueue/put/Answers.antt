@@ -33,11 +33,11 @@ put c =
     let new = c.make_queues.new.queues in
     let long : vec_len new ≡ max (vec_len old) held.stamp.member = search rules in
     let more : c.in-Some.count ≡ c.self.inside.count + 1 = search rules in
-    let high = subst (λ (h : Holdback). held.stamp.member ≤ h.members) (sym c.self.view_is) c.requires.member.1 in
+    let high = subst (λ (h : Holdback). held.stamp.member ≤ h.members) (sym c.self.view_is) c.requires.high in
     let above = subst (λ (h : Holdback). IsAboveOwn held h.held) (sym c.self.view_is) c.requires.above in
     let same = held_widened (lists_of old.items) (lists_of new.items) c.make_queues.ensures.made in
     let above_new = subst (IsAboveOwn held) (sym same) above in
-    let made = is_made c.self.inside.members c.self.inside.count held.stamp.member (vec_len old) (vec_len new) old.items new.items old.ok.0 new.ok.0 long c.self.invariant c.make_queues.ensures.made c.requires.member.0 high in
+    let made = is_made c.self.inside.members c.self.inside.count held.stamp.member (vec_len old) (vec_len new) old.items new.items old.ok.0 new.ok.0 long c.self.invariant c.make_queues.ensures.made c.requires.low high in
     let put_is = lists-set new.items i c.index_mut.result.now c.push_back.new.self (λ l. l ++ held ∷ []) c.index_mut.ensures.value made.there c.in-Ok.ensures.items in (
       rw (put_is, more) (kept_put c.self.inside.members c.self.inside.count i (lists_of new.items) held made.kept made.sender made.listed above_new),
       ap held_in put_is
@@ -53,8 +53,8 @@ refused c =
     let old = c.self.inside.queues in
     let new = c.make_queues.new.queues in
     let long : vec_len new ≡ max (vec_len old) member = search rules in
-    let high = subst (λ (h : Holdback). member ≤ h.members) (sym c.self.view_is) c.requires.member.1 in
-    let made = is_made c.self.inside.members c.self.inside.count member (vec_len old) (vec_len new) old.items new.items old.ok.0 new.ok.0 long c.self.invariant c.make_queues.ensures.made c.requires.member.0 high in
+    let high = subst (λ (h : Holdback). member ≤ h.members) (sym c.self.view_is) c.requires.high in
+    let made = is_made c.self.inside.members c.self.inside.count member (vec_len old) (vec_len new) old.items new.items old.ok.0 new.ok.0 long c.self.invariant c.make_queues.ensures.made c.requires.low high in
     let same = lists-set_same new.items (member - 1) c.index_mut.result.now c.push_back.new.self c.index_mut.ensures.value made.there c.in-Err.ensures.items in
     (rw same made.kept, ap held_in same ∙ held_widened (lists_of old.items) (lists_of new.items) c.make_queues.ensures.made ∙ ap (λ (h : Holdback). h.held) c.self.view_is)
 

@@ -32,6 +32,6 @@ pub invariant_of-self : goal.invariant_of-self
 invariant_of-self c =
     let before : Holdback = record { members = c.self.inside.members; held = c.self.inside.held.items } in
     elim c.match-insert.branch [
-      | in-Ok w ↦ rw (w.in-Ok.ensures.items, placed c) (IsHoldback-put before c.args.self.now c.args.held c.self.view_is c.self.invariant c.requires.member c.requires.above)
+      | in-Ok w ↦ rw (w.in-Ok.ensures.items, placed c) (IsHoldback-put before c.args.self.now c.args.held c.self.view_is c.self.invariant c.requires)
       | in-Err w ↦ rw w.in-Err.ensures.unchanged.0 c.self.invariant
     ]

@@ -9,7 +9,7 @@ use Rattle.rbac_words.specs.declared.message.Submission.{Submission}
 use Rattle.rbac_words.specs.declared.stamp.Stamp.{Stamp}
 use Rattle.rbac_order.proofs.MemberLemmas.{passed_submit, keeps_submit}
 use Rattle.rbac_member.specs.Inside.{member_of}
-use Rattle.rbac_member.specs.Lists.{CanBeHeld}
+use Rattle.rbac_holdback.specs.Holdback.{CanBeHeld}
 use Rattle.rbac_member.specs.Serials.{AreCounted}
 use Rattle.rbac_member.proofs.SerialLemmas.{counted-held}
 use Rattle.rbac_member.proofs.HoldLemmas.{submission_fits, submitted_is}

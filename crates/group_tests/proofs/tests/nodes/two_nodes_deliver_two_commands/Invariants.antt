@@ -1,4 +1,4 @@
-use Rattle.group_tests.proofs.tests.nodes.two_nodes_deliver_one_command.Given as goal
+use Rattle.group_tests.proofs.tests.nodes.two_nodes_deliver_two_commands.Given as goal
 
 -- the founding that was just made
 abbrev pub ghosts-talk : goal.ghosts-talk

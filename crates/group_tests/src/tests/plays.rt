@@ -1,0 +1,241 @@
+//! Whole schedules through `play` of `rbac_world`, one event after the other: what each event answers, and its member's clock after
+//! it. What is expected was written by hand.
+
+use crate::tests::stamps::stamp;
+use rbac_words::{Answer, Command, Denial, Group, Name, Stamp, Vocabulary};
+use rbac_world::{Event, Outcome, Refusal, World, play};
+use std::alloc::Global;
+use std::process::Abort;
+
+fn founded(rt: &impl Abort, alloc: Global, members: u32) -> World {
+    let group = Group::build(members, 0, 65_536).expect(rt, "a group");
+    let vocabulary = Vocabulary::build(Vec::new(alloc), Vec::new(alloc), Vec::new(alloc));
+    World::found(alloc, group, vocabulary.expect(rt, "a vocabulary")).expect(rt, "a world")
+}
+
+fn name(rt: &impl Abort, alloc: Global, text: &str) -> Name {
+    Name::read(alloc, text.as_bytes()).expect(rt, "a name")
+}
+
+fn add_role(rt: &impl Abort, alloc: Global) -> Command {
+    Command::AddRole {
+        role: name(rt, alloc, "r"),
+    }
+}
+
+fn add_user(rt: &impl Abort, alloc: Global, text: &str) -> Command {
+    Command::AddUser {
+        user: name(rt, alloc, text),
+    }
+}
+
+fn receive(at: u32, from: u32, number: u32) -> Event {
+    Event::Receive { at, from, number }
+}
+
+// Plays one event, which is dropped here, and compares its answer and the clock of a member after it.
+fn expect(
+    rt: &impl Abort,
+    alloc: Global,
+    world: &mut World,
+    event: Event,
+    wanted: Result<Outcome, Refusal>,
+    at: u32,
+    clock: u64,
+) {
+    let events = [event];
+    let outcomes = play(world, alloc, &events).expect(rt, "memory");
+    assert!(rt; outcomes.as_slice() == [wanted].as_slice());
+    drop(events);
+    let member = world.member(at).expect(rt, "a member");
+    assert_eq!(rt; member.clock(), clock);
+}
+
+// Caller 0 of a member submits its first command, with clock 1.
+fn expect_submit(rt: &impl Abort, alloc: Global, world: &mut World, at: u32, command: Command) {
+    let event = Event::Submit {
+        at,
+        caller: 0,
+        serial: 0,
+        command,
+    };
+    let wanted = Ok(Outcome::Submitted(stamp(1, at)));
+    expect(rt, alloc, world, event, wanted, at, 1);
+}
+
+// A member receives a message of another one, given by both and its number; it acknowledges it with its clock after that, or not.
+fn expect_receipt(
+    rt: &impl Abort,
+    alloc: Global,
+    world: &mut World,
+    (at, from, number): (u32, u32, u32),
+    is_acknowledged: bool,
+    clock: u64,
+) {
+    let acknowledged = if is_acknowledged {
+        Some(stamp(clock, at))
+    } else {
+        None
+    };
+    let event = receive(at, from, number);
+    let wanted = Ok(Outcome::Received(acknowledged));
+    expect(rt, alloc, world, event, wanted, at, clock);
+}
+
+// A member delivers: the record at this place of its history, or none.
+fn expect_delivery(
+    rt: &impl Abort,
+    alloc: Global,
+    world: &mut World,
+    at: u32,
+    place: Option<usize>,
+    clock: u64,
+) {
+    let event = Event::Deliver { at };
+    let wanted = Ok(Outcome::Delivered(place));
+    expect(rt, alloc, world, event, wanted, at, clock);
+}
+
+// A member delivers two commands, and then nothing.
+fn expect_two_deliveries(rt: &impl Abort, alloc: Global, world: &mut World, at: u32, clock: u64) {
+    expect_delivery(rt, alloc, world, at, Some(0), clock);
+    expect_delivery(rt, alloc, world, at, Some(1), clock);
+    expect_delivery(rt, alloc, world, at, None, clock);
+}
+
+// Compares a record of a member's history.
+fn expect_record(
+    rt: &impl Abort,
+    world: &World,
+    at: u32,
+    place: usize,
+    wanted: Stamp,
+    answer: Answer,
+) {
+    let member = world.member(at).expect(rt, "a member");
+    let record = member.history().get(place).expect(rt, "a record");
+    assert_eq!(rt; record.stamp, wanted);
+    assert!(rt; record.answer.same(&answer));
+    drop(answer);
+}
+
+// A member's history is the command of member 1, which is done, and that of member 2, which is denied.
+fn expect_both_records(rt: &impl Abort, world: &World, at: u32, denial: Denial) {
+    expect_record(rt, world, at, 0, stamp(1, 1), Answer::Done);
+    let denied = Answer::Denied(denial);
+    expect_record(rt, world, at, 1, stamp(1, 2), denied);
+}
+
+#[test]
+fn two_submits_at_three_members(rt: HostRuntime) {
+    let alloc = rt.alloc();
+    let mut world = founded(&rt, alloc, 3);
+    expect_submit(&rt, alloc, &mut world, 1, add_role(&rt, alloc));
+    expect_submit(&rt, alloc, &mut world, 2, add_role(&rt, alloc));
+    expect_receipt(&rt, alloc, &mut world, (1, 2, 1), true, 3);
+    // Member 3 was not heard yet.
+    expect_delivery(&rt, alloc, &mut world, 1, None, 3);
+    expect_receipt(&rt, alloc, &mut world, (3, 1, 1), true, 3);
+    expect_receipt(&rt, alloc, &mut world, (1, 3, 1), false, 4);
+    expect_two_deliveries(&rt, alloc, &mut world, 1, 4);
+    expect_both_records(&rt, &world, 1, Denial::RoleExists);
+    drop(world);
+}
+
+#[test]
+fn two_submits_are_read_to_the_end(rt: HostRuntime) {
+    let alloc = rt.alloc();
+    let mut world = founded(&rt, alloc, 2);
+    expect_submit(&rt, alloc, &mut world, 1, add_user(&rt, alloc, "ann"));
+    expect_submit(&rt, alloc, &mut world, 2, add_user(&rt, alloc, "ann"));
+    assert!(rt; !world.read_to_end());
+    expect_receipt(&rt, alloc, &mut world, (1, 2, 1), true, 3);
+    // Member 2 has sent [1,2], which comes after [1,1].
+    expect_receipt(&rt, alloc, &mut world, (2, 1, 1), false, 2);
+    let event = receive(1, 2, 2);
+    expect(&rt, alloc, &mut world, event, Err(Refusal::NotSent), 1, 3);
+    assert!(rt; !world.read_to_end());
+    expect_receipt(&rt, alloc, &mut world, (2, 1, 2), false, 4);
+    assert!(rt; world.read_to_end());
+    for (at, clock) in [(1, 3), (2, 4)] {
+        expect_two_deliveries(&rt, alloc, &mut world, at, clock);
+        expect_both_records(&rt, &world, at, Denial::UserExists);
+    }
+    drop(world);
+}
+
+#[test]
+fn one_submit_is_read_to_the_end(rt: HostRuntime) {
+    let alloc = rt.alloc();
+    let mut world = founded(&rt, alloc, 2);
+    expect_submit(&rt, alloc, &mut world, 1, add_user(&rt, alloc, "ann"));
+    expect_delivery(&rt, alloc, &mut world, 1, None, 1);
+    expect_receipt(&rt, alloc, &mut world, (2, 1, 1), true, 3);
+    assert!(rt; !world.read_to_end());
+    expect_receipt(&rt, alloc, &mut world, (1, 2, 1), false, 4);
+    assert!(rt; world.read_to_end());
+    for (at, clock) in [(1, 4), (2, 3)] {
+        expect_delivery(&rt, alloc, &mut world, at, Some(0), clock);
+        expect_delivery(&rt, alloc, &mut world, at, None, clock);
+        expect_record(&rt, &world, at, 0, stamp(1, 1), Answer::Done);
+    }
+    drop(world);
+}
+
+// Steps by an event, which is dropped here, and which is not refused.
+fn step(rt: &impl Abort, alloc: Global, world: &mut World, event: Event) {
+    let answer = world.step(alloc, &event);
+    assert!(rt; answer.is_ok());
+    drop(event);
+}
+
+// Member 1 submits that the user of this number is added, both members receive what the other one sent upon it, and both deliver.
+fn add_numbered_user(rt: &impl Abort, alloc: Global, world: &mut World, number: u32) {
+    let user = format!(in alloc; "u{number}").expect(rt, "memory");
+    let event = Event::Submit {
+        at: 1,
+        caller: 0,
+        serial: number.saturating_sub(1),
+        command: add_user(rt, alloc, user.as_str()),
+    };
+    drop(user);
+    step(rt, alloc, world, event);
+    for (at, from) in [(2, 1), (1, 2)] {
+        step(rt, alloc, world, Event::Receive { at, from, number });
+    }
+    for at in [1, 2] {
+        step(rt, alloc, world, Event::Deliver { at });
+    }
+}
+
+// So many commands of a member's history were answered so.
+fn expect_count(rt: &impl Abort, world: &World, at: u32, answer: Answer, wanted: usize) {
+    let member = world.member(at).expect(rt, "a member");
+    let records = member.history().iter();
+    let count = records.filter(|record| record.answer.same(&answer)).count();
+    assert_eq!(rt; count, wanted);
+    drop(answer);
+}
+
+// A member has delivered so many commands, and the last of them was answered so.
+fn expect_last(rt: &impl Abort, world: &World, at: u32, count: usize, answer: Answer) {
+    let member = world.member(at).expect(rt, "a member");
+    assert_eq!(rt; member.history().len(), count);
+    let record = member.history().last().expect(rt, "a record");
+    assert!(rt; record.answer.same(&answer));
+    drop(answer);
+}
+
+#[test]
+fn the_user_past_the_limit_is_denied_at_each_member(rt: HostRuntime) {
+    let alloc = rt.alloc();
+    let mut world = founded(&rt, alloc, 2);
+    for number in 1..4_098 {
+        add_numbered_user(&rt, alloc, &mut world, number);
+    }
+    for at in [1, 2] {
+        expect_count(&rt, &world, at, Answer::Done, 4_096);
+        expect_last(&rt, &world, at, 4_097, Answer::Denied(Denial::Limit));
+    }
+    drop(world);
+}

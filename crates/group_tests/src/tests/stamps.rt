@@ -1,0 +1,11 @@
+//! How the tests write a stamp.
+ghost use Rattle.std.specs.Prelude.{◌≡◌};
+ghost use Rattle.rbac_words.specs.World.{stamp as stamp_of};
+
+use rbac_words::Stamp;
+
+pub(crate) fn stamp(clock: u64, member: u32) -> Stamp
+    ensures { result ≡ stamp_of clock member }
+{
+    Stamp { clock, member }
+}

@@ -1,0 +1,202 @@
+//! What the cells of members' rows hold, and what comes of a cell that somebody else has set.
+ghost use Rattle.std.specs.Prelude.{◌≡◌, length};
+
+use super::{
+    Founding, Lost, add_ann, expect_end, expect_no_record, expect_record, expect_stopped, founded,
+    founding_of, new_pass, roles_of_ann, submitted,
+};
+use crate::{GroupName, NoGate, Pass, Rows, Service, Wake};
+use rbac_words::{Answer, Command, Message, NameSet, Record, Stamp};
+use std::alloc::Global;
+use std::marker::Brand;
+use std::process::Abort;
+use std::sync::Wait;
+use std::sync::atomic::Ordering;
+use std::thread;
+use std::thread::Threads;
+
+fn is_ann_added(command: &Command) -> bool {
+    match command {
+        Command::AddUser { user } => user.as_bytes() == b"ann".as_slice(),
+        _ => false,
+    }
+}
+
+// Member 2 delivers the command of member 1 first.
+fn publish_first<G: GroupName, R: Wait + Abort>(
+    rt: &R,
+    alloc: Global,
+    service: &Service<G, NoGate, Lost>,
+    one: &mut Pass<G>,
+) {
+    let ticket = submitted(rt, alloc, service, one, add_ann(rt, alloc));
+    expect_no_record(rt, service, 2, 0);
+    let _second = service.turn(rt, alloc, 2, Wake::Sweep);
+    expect_record(rt, service, (2, 0), (1, 1), &Answer::Done);
+    expect_no_record(rt, service, 1, 0);
+    let _first = service.turn(rt, alloc, 1, Wake::Sweep);
+    expect_record(rt, service, (1, 0), (1, 1), &Answer::Done);
+    drop(ticket);
+}
+
+// Member 2 submits a command, and member 1 delivers it first.
+fn publish_second<G: GroupName, R: Wait + Abort>(
+    rt: &R,
+    alloc: Global,
+    service: &Service<G, NoGate, Lost>,
+    other: &mut Pass<G>,
+) {
+    let none = Answer::Names(NameSet::new(alloc));
+    let ticket = submitted(rt, alloc, service, other, roles_of_ann(rt, alloc));
+    let _first = service.turn(rt, alloc, 1, Wake::Sweep);
+    expect_record(rt, service, (1, 1), (4, 2), &none);
+    expect_no_record(rt, service, 2, 1);
+    let _second = service.turn(rt, alloc, 2, Wake::Sweep);
+    expect_record(rt, service, (2, 1), (4, 2), &none);
+    drop(ticket);
+    drop(none);
+}
+
+// The first record of a member has the caller, the serial and the command that was submitted.
+fn expect_first<G: GroupName>(rt: &impl Abort, service: &Service<G, NoGate, Lost>, at: u32) {
+    let record = service.published(at, 0).expect(rt, "a record");
+    assert_eq!(rt; (record.caller, record.serial), (0, 0));
+    assert!(rt; is_ann_added(&record.command));
+}
+
+// Strangers have published nothing, and nothing stands beyond a row.
+fn expect_no_more<G: GroupName>(rt: &impl Abort, service: &Service<G, NoGate, Lost>) {
+    for at in 0..4u32 {
+        expect_no_record(rt, service, at, 2);
+        expect_no_record(rt, service, at, usize::MAX);
+    }
+    expect_no_record(rt, service, 0, 0);
+    expect_no_record(rt, service, 3, 0);
+}
+
+fn run_published<G: GroupName, R: Wait + Abort>(rt: &R, alloc: Global, founding: Founding)
+    requires names { (founding.group ≡ G.group) × (founding.words ≡ G.vocabulary) × (founding.rows ≡ G.cells) }
+    requires members { length founding.rows.sent ≡ founding.group.members }
+{
+    let service: Service<G, NoGate, Lost> = founded(rt, alloc, founding, Lost::new());
+    let mut one = new_pass(rt, &service, 1);
+    let mut other = new_pass(rt, &service, 2);
+    publish_first(rt, alloc, &service, &mut one);
+    publish_second(rt, alloc, &service, &mut other);
+    expect_first(rt, &service, 1);
+    expect_first(rt, &service, 2);
+    expect_no_more(rt, &service);
+    drop(service);
+    drop(one);
+    drop(other);
+}
+
+#[test]
+fn published_records_are_those_of_their_member_and_place(rt: HostRuntime) {
+    let founding = founding_of(&rt, rt.alloc(), 2, 16);
+    run_published::<Brand, _>(&rt, rt.alloc(), founding);
+}
+
+// A record that no member made.
+fn forged(rt: &impl Abort, alloc: Global) -> Record {
+    Record {
+        stamp: Stamp {
+            clock: 7,
+            member: 1,
+        },
+        caller: 0,
+        serial: 0,
+        command: add_ann(rt, alloc),
+        answer: Answer::Granted,
+    }
+}
+
+// Sets the first cell of member 1's history row.
+fn spoil_history(rt: &impl Abort, alloc: Global, rows: &Rows) {
+    assert!(rt; 1 <= rows.members());
+    let record = Box::new(alloc, forged(rt, alloc)).expect(rt, "memory");
+    let row = rows.history(1);
+    let set = row.set(&mut row.mark(), 0, record);
+    assert!(rt; set.is_ok());
+}
+
+// Sets the first cell of member 1's sent row.
+fn spoil_sent(rt: &impl Abort, alloc: Global, rows: &Rows) {
+    assert!(rt; 1 <= rows.members());
+    let stamp = Stamp {
+        clock: 7,
+        member: 1,
+    };
+    let message = Box::new(alloc, Message::Ack { stamp }).expect(rt, "memory");
+    let row = rows.sent(1);
+    let set = row.set(&mut row.mark(), 0, message);
+    assert!(rt; set.is_ok());
+}
+
+// Sets the cell in a thread of its own.
+fn spoil_beside<G: GroupName + Send + Sync, R: Threads + Wait + Abort + Send + Sync>(
+    rt: &R,
+    alloc: Global,
+    service: &Service<G, NoGate, Lost>,
+) -> bool {
+    thread::scope(thread::scope_env(), rt, move |scope| {
+        let Ok(spoiler) = scope.spawn(move || spoil_history(rt, alloc, &service.rows)) else {
+            return false;
+        };
+        spoiler.join(rt);
+        true
+    })
+}
+
+// What another thread set is got here. The member that delivers then finds its cell taken and gives up, and its caller is told
+// nothing of the record that is no answer.
+fn run_taken<G: GroupName + Send + Sync, R: Threads + Wait + Abort + Send + Sync>(
+    rt: &R,
+    alloc: Global,
+    founding: Founding,
+)
+    requires names { (founding.group ≡ G.group) × (founding.words ≡ G.vocabulary) × (founding.rows ≡ G.cells) }
+    requires members { length founding.rows.sent ≡ founding.group.members }
+{
+    let service: Service<G, NoGate, Lost> = founded(rt, alloc, founding, Lost::new());
+    let mut pass = new_pass(rt, &service, 1);
+    expect_no_record(rt, &service, 1, 0);
+    assert!(rt; spoil_beside(rt, alloc, &service));
+    expect_record(rt, &service, (1, 0), (7, 1), &Answer::Granted);
+    expect_no_record(rt, &service, 1, 1);
+    let ticket = submitted(rt, alloc, &service, &mut pass, add_ann(rt, alloc));
+    expect_end(rt, alloc, &service, 1);
+    expect_stopped(rt, &service, &mut pass, ticket);
+    expect_record(rt, &service, (1, 0), (7, 1), &Answer::Granted);
+    assert_eq!(rt; pass.front_len(), 0);
+    drop(service);
+    drop(pass);
+}
+
+#[test]
+fn a_cell_that_another_thread_set_is_seen(rt: HostRuntime) {
+    let founding = founding_of(&rt, rt.alloc(), 1, 16);
+    run_taken::<Brand, _>(&rt, rt.alloc(), founding);
+}
+
+// What can't be published has its ticket, and nobody is told of it. The member gives up at its next turn.
+fn run_unpublished<G: GroupName, R: Wait + Abort>(rt: &R, alloc: Global, founding: Founding)
+    requires names { (founding.group ≡ G.group) × (founding.words ≡ G.vocabulary) × (founding.rows ≡ G.cells) }
+    requires members { length founding.rows.sent ≡ founding.group.members }
+{
+    let service: Service<G, NoGate, Lost> = founded(rt, alloc, founding, Lost::new());
+    let mut pass = new_pass(rt, &service, 1);
+    spoil_sent(rt, alloc, &service.rows);
+    let ticket = submitted(rt, alloc, &service, &mut pass, add_ann(rt, alloc));
+    assert_eq!(rt; service.courier.told.load(Ordering::SeqCst), 0);
+    expect_end(rt, alloc, &service, 1);
+    expect_stopped(rt, &service, &mut pass, ticket);
+    drop(service);
+    drop(pass);
+}
+
+#[test]
+fn nobody_is_told_of_what_is_not_published(rt: HostRuntime) {
+    let founding = founding_of(&rt, rt.alloc(), 2, 16);
+    run_unpublished::<Brand, _>(&rt, rt.alloc(), founding);
+}
