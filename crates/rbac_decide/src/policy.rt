@@ -124,8 +124,8 @@ impl Policy {
     }
 
     /// Of each policy each set is in order and without repeats, references exist, counts are within their limits, the
-    /// hierarchy has no cycle, static and dynamic separation of duty hold over sets that are well formed, and each session's owner
-    /// exists and is authorized for its active roles.
+    /// hierarchy has no cycle, and where it is limited no role has two declared descendants, static and dynamic separation of duty
+    /// hold over sets that are well formed, and each session's owner exists and is authorized for its active roles.
     pub fn invariants(&self)
         ensures { IsSound self.now }
     {

@@ -25,6 +25,7 @@ entries_view held = record {
   operations = map text_of held.operations.now;
   objects = map text_of held.objects.now;
   permissions = map pair_of held.permissions.now;
+  hierarchy = held.hierarchy.now;
 }
 
 -- the name that a text is

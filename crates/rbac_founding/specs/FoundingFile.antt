@@ -1,9 +1,11 @@
--- Which founding a file stands for: a TOML document of a group's numbers and a vocabulary's lists. A file is refused for
--- the first check that fails, in the order in which they stand here; each of them is made over the whole file.
+-- Which founding a file stands for: a TOML document of a group's numbers, a vocabulary's lists and, in version 2, the kind of
+-- the role hierarchy. A file is refused for the first check that fails, in the order in which they stand here; each of them is
+-- made over the whole file.
 use Rattle.std.specs.Prelude.{ℕ, ℤ, pos, negsuc, Bool, false, not, ◌&&◌, ◌||◌, nat_le, nat_lt, List, [], ◌∷◌, length, codes, if◌then◌else◌, Option, None, Some, is_some, unwrap_or, ok_or, option_map, option_and_then, Result, Ok, Err, ⊤}
 use Rattle.std.specs.Str.{is_utf8}
 use Rattle.std.specs.List.{list_all}
-use Rattle.toml.specs.Data.{Data, integer, Items, no_items, item, Members, no_members, member, get_member, as_str, as_integer, as_array}
+use Rattle.std.specs.Str.{bytes_eq}
+use Rattle.toml.specs.Data.{Data, string, integer, Items, no_items, item, Members, no_members, member, get_member, as_str, as_integer, as_array}
 use Rattle.toml.specs.Parse.{parse_document}
 use Rattle.sorted_keys.specs.Keys.{set_of, repeats}
 use Rattle.rbac_terms.specs.Limits.{most_operations, most_objects, most_permissions}
@@ -14,6 +16,10 @@ use Rattle.rbac_words.specs.Group.{Group}
 use Rattle.rbac_founding.specs.Keys.{is_one_of}
 use Rattle.rbac_founding.specs.Steps.{◌>>=◌, ◌>>◌, provided, ReadsBut}
 use Rattle.rbac_founding.specs.declared.founding.Founding.{Founding}
+use Rattle.rbac_terms.specs.declared.hierarchy_kind.HierarchyKind.{HierarchyKind}
+use Rattle.rbac_terms.specs.declared.hierarchy_kind.HierarchyKind.TheVariants.{General, Limited}
+use Rattle.rbac_founding.specs.declared.version.Version.{Version}
+use Rattle.rbac_founding.specs.declared.version.Version.TheVariants.{First, Second}
 use Rattle.rbac_founding.specs.declared.refusal.FoundingRefusal.{FoundingRefusal}
 use Rattle.rbac_founding.specs.declared.refusal.FoundingRefusal.TheVariants.{TooLong, NotToml, BadVersion, UnknownKey, MissingKey, WrongKind, OutOfRange, BadName, Repeated, UnknownName, NoMemory}
 
@@ -41,27 +47,30 @@ document_of file = if nat_lt longest_file (length file) then Err TooLong else ok
 
 -- ---- Its keys
 
--- the keys that a file has to have
-abbrev pub needed_keys : List (List ℕ)
-needed_keys = codes "members" ∷ codes "operations" ∷ codes "objects" ∷ codes "permissions" ∷ []
+-- the keys that a file of a version has to have
+abbrev pub needed_keys : Version → List (List ℕ)
+needed_keys First = codes "members" ∷ codes "operations" ∷ codes "objects" ∷ codes "permissions" ∷ []
+needed_keys Second = codes "hierarchy" ∷ needed_keys First
 
 -- all keys that it may have
-abbrev pub known_keys : List (List ℕ)
-known_keys = codes "version" ∷ codes "clock" ∷ codes "sent_limit" ∷ needed_keys
+abbrev pub known_keys : Version → List (List ℕ)
+known_keys version = codes "version" ∷ codes "clock" ∷ codes "sent_limit" ∷ needed_keys version
 
 -- the keys of a document
 abbrev pub keys_of : Members → List (List ℕ)
 keys_of no_members = []
 keys_of (member key value rest) = key ∷ keys_of rest
 
--- whether it is the whole number 1
-abbrev pub is_one : ℤ → Bool
-is_one (pos n) = nat_le 1 n && nat_le n 1
-is_one (negsuc n) = false
+-- whether it is this whole number
+abbrev pub is_whole : ℕ → ℤ → Bool
+is_whole n (pos m) = nat_le n m && nat_le m n
+is_whole n (negsuc m) = false
 
--- whether the document is of version 1, the only one
-abbrev pub is_first_version : Members → Bool
-is_first_version document = is_one (unwrap_or (option_and_then as_integer (get_member (codes "version") document)) (pos 0))
+-- the version of a document: 1 or 2
+abbrev pub version_of : Members → Reading Version
+version_of document =
+    let number : ℤ = unwrap_or (option_and_then as_integer (get_member (codes "version") document)) (pos 0) in
+    if is_whole 1 number then Ok First else (if is_whole 2 number then Ok Second else Err BadVersion)
 
 abbrev pub has_only : List (List ℕ) → Members → Bool
 has_only keys document = list_all (is_one_of keys) (keys_of document)
@@ -72,9 +81,9 @@ has_all keys document = list_all (λ key. is_some (get_member key document)) key
 -- the checks of the keys
 abbrev pub right_keys : Members → Reading ⊤
 right_keys document = do
-  provided (is_first_version document) BadVersion
-  provided (has_only known_keys document) UnknownKey
-  provided (has_all needed_keys document) MissingKey
+  version ← version_of document
+  provided (has_only (known_keys version) document) UnknownKey
+  provided (has_all (needed_keys version) document) MissingKey
 
 -- ---- What stands at the keys
 
@@ -85,6 +94,10 @@ whole_at key document = ok_or (option_and_then as_integer (get_member key docume
 -- the whole number at a key, or this one where the key is absent
 abbrev pub whole_or : ℤ → List ℕ → Members → Reading ℤ
 whole_or absent key document = ok_or (as_integer (unwrap_or (get_member key document) (integer absent))) WrongKind
+
+-- the text at a key, or this one where the key is absent
+abbrev pub text_or : List ℕ → List ℕ → Members → Reading (List ℕ)
+text_or absent key document = ok_or (as_str (unwrap_or (get_member key document) (string absent))) WrongKind
 
 -- the elements of an array of which each is of this kind
 abbrev pub each : {T : Type 0} → (Data → Option T) → Items → Option (List T)
@@ -120,8 +133,9 @@ pub record Entries : Type 0 where
   pub operations : List (List ℕ)
   pub objects : List (List ℕ)
   pub permissions : List Permission
+  pub hierarchy : List ℕ
 
--- the entries of a document: the clock is 0 and the limit is the largest one where they are absent
+-- the entries of a document: where they are absent the clock is 0, the limit is the largest one, and the hierarchy is general
 abbrev pub entries_of : Members → Reading Entries
 entries_of document = do
   members ← whole_at (codes "members") document
@@ -130,7 +144,8 @@ entries_of document = do
   operations ← array_at as_texts (codes "operations") document
   objects ← array_at as_texts (codes "objects") document
   permissions ← array_at as_permissions (codes "permissions") document
-  Ok (record { members = members; clock = clock; sent_limit = sent_limit; operations = operations; objects = objects; permissions = permissions })
+  hierarchy ← text_or (codes "general") (codes "hierarchy") document
+  Ok (record { members = members; clock = clock; sent_limit = sent_limit; operations = operations; objects = objects; permissions = permissions; hierarchy = hierarchy })
 
 -- ---- Whether they are in range
 
@@ -155,6 +170,12 @@ group_of entries = do
   provided (are_few entries) OutOfRange
   Ok (record { members = members; clock = clock; sent_limit = sent_limit })
 
+-- the kind of hierarchy that a word stands for
+abbrev pub kind_of : List ℕ → Reading HierarchyKind
+kind_of word =
+    if bytes_eq word (codes "general") then Ok General
+    else (if bytes_eq word (codes "limited") then Ok Limited else Err OutOfRange)
+
 -- ---- Whether they make a vocabulary
 
 -- whether all texts are names
@@ -172,9 +193,9 @@ has_repeats entries = repeats name_cmp entries.operations || repeats name_cmp en
 abbrev pub are_listed : Entries → Bool
 are_listed entries = list_all (is_listed entries.operations entries.objects) entries.permissions
 
--- the vocabulary
-abbrev pub vocabulary_of : Entries → Reading Vocabulary
-vocabulary_of entries = do
+-- the vocabulary, with this kind of hierarchy
+abbrev pub vocabulary_of : HierarchyKind → Entries → Reading Vocabulary
+vocabulary_of kind entries = do
   provided (are_names entries) BadName
   provided (not (has_repeats entries)) Repeated
   provided (are_listed entries) UnknownName
@@ -182,6 +203,7 @@ vocabulary_of entries = do
     operations = set_of name_cmp entries.operations;
     objects = set_of name_cmp entries.objects;
     permissions = set_of pair_cmp entries.permissions;
+    hierarchy = kind;
   })
 
 -- ---- The whole
@@ -194,7 +216,8 @@ founding_of file = do
   right_keys document
   entries ← entries_of document
   group ← group_of entries
-  vocabulary ← vocabulary_of entries
+  kind ← kind_of entries.hierarchy
+  vocabulary ← vocabulary_of kind entries
   Ok (record { group = group; vocabulary = vocabulary })
 
 -- ---- The word of a refusal

@@ -5,13 +5,14 @@ ghost use Rattle.std.specs.List.{list_all, list_any};
 ghost use Rattle.std.specs.Str.{bytes_eq};
 ghost use Rattle.toml.specs.Data.{as_integer, get_member};
 ghost use Rattle.toml.specs.View.{view, table_view};
-ghost use Rattle.rbac_founding.specs.FoundingFile.{Reads, document_of, is_one, is_first_version, has_only, right_keys};
-ghost use Rattle.rbac_founding.specs.Steps.{provided};
-ghost use Rattle.rbac_founding.specs.declared.refusal.FoundingRefusal.TheVariants.{UnknownKey};
+ghost use Rattle.rbac_founding.specs.FoundingFile.{document_of, has_only, right_keys, version_of};
+ghost use Rattle.rbac_founding.specs.Steps.{◌>>◌, provided};
+ghost use Rattle.rbac_founding.specs.declared.refusal.FoundingRefusal.TheVariants.{MissingKey, UnknownKey};
 
 use crate::keys::is_one_of;
 use crate::limits::LONGEST_FILE;
 use crate::refusal::FoundingRefusal;
+use crate::version::Version;
 use std::alloc::Global;
 use toml::{Table, Value};
 
@@ -45,12 +46,14 @@ pub(crate) fn integer_at(document: &Table, key: &str) -> Option<i64>
     value.as_integer()
 }
 
-fn is_first_version(document: &Table) -> bool
-    ensures { result ≡ is_first_version (table_view document.now) }
+/// The version of a document.
+fn version_of(document: &Table) -> Result<Version, FoundingRefusal>
+    ensures { result ≡ version_of (table_view document.now) }
 {
     match integer_at(document, "version") {
-        Some(version) => version == 1,
-        None => false,
+        Some(1) => Ok(Version::First),
+        Some(2) => Ok(Version::Second),
+        _ => Err(FoundingRefusal::BadVersion),
     }
 }
 
@@ -82,28 +85,54 @@ fn has_all(document: &Table, keys: &[&str]) -> bool
     keys.iter().all(|key| has_key(document, *key))
 }
 
+/// Refuses a document that has a key besides the known ones, or lacks a needed one.
+fn check_keys(document: &Table, known: &[&str], needed: &[&str]) -> Result<(), FoundingRefusal>
+    ensures { let d = table_view document.now in result ≡ (provided (has_only (map (λ key. key.now) known.now) d) UnknownKey >> provided (list_all (λ key. is_some (get_member key.now d)) needed.now) MissingKey) }
+{
+    only_keys(document, known)?;
+    if !has_all(document, needed) {
+        return Err(FoundingRefusal::MissingKey);
+    }
+    Ok(())
+}
+
 /// Refuses a document of another version, and one with a key too much or too little.
 pub(crate) fn right_keys(document: &Table) -> Result<(), FoundingRefusal>
     ensures { result ≡ right_keys (table_view document.now) }
 {
-    if !is_first_version(document) {
-        return Err(FoundingRefusal::BadVersion);
+    match version_of(document)? {
+        Version::First => check_keys(
+            document,
+            &[
+                "version",
+                "clock",
+                "sent_limit",
+                "members",
+                "operations",
+                "objects",
+                "permissions",
+            ],
+            &["members", "operations", "objects", "permissions"],
+        ),
+        Version::Second => check_keys(
+            document,
+            &[
+                "version",
+                "clock",
+                "sent_limit",
+                "hierarchy",
+                "members",
+                "operations",
+                "objects",
+                "permissions",
+            ],
+            &[
+                "hierarchy",
+                "members",
+                "operations",
+                "objects",
+                "permissions",
+            ],
+        ),
     }
-    let known = [
-        "version",
-        "clock",
-        "sent_limit",
-        "members",
-        "operations",
-        "objects",
-        "permissions",
-    ];
-    only_keys(document, &known)?;
-    if !has_all(
-        document,
-        &["members", "operations", "objects", "permissions"],
-    ) {
-        return Err(FoundingRefusal::MissingKey);
-    }
-    Ok(())
 }

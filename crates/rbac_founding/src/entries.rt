@@ -4,7 +4,7 @@ ghost use Rattle.std.specs.List.{list_all};
 ghost use Rattle.toml.specs.Data.{as_array, as_str};
 ghost use Rattle.toml.specs.View.{view, items_view, table_view};
 ghost use Rattle.rbac_founding.specs.Steps.{seen};
-ghost use Rattle.rbac_founding.specs.FoundingFile.{array_at, as_permission, as_permissions, as_texts, entries_of, whole_at, whole_or};
+ghost use Rattle.rbac_founding.specs.FoundingFile.{array_at, as_permission, as_permissions, as_texts, entries_of, text_or, whole_at, whole_or};
 ghost use Rattle.rbac_founding.specs.FoundingEntries.{entries_view, pair_of, text_of};
 
 use crate::document::{integer_at, value_at};
@@ -24,6 +24,15 @@ fn whole_or(document: &Table, key: &str, absent: i64) -> Result<i64, FoundingRef
 {
     match value_at(document, key) {
         Some(value) => value.as_integer().ok_or(FoundingRefusal::WrongKind),
+        None => Ok(absent),
+    }
+}
+
+fn text_or<'d>(document: &'d Table, key: &str, absent: &'d str) -> Result<&'d str, FoundingRefusal>
+    ensures { seen (λ text. text.now) result ≡ text_or absent.now key.now (table_view document.now) }
+{
+    match value_at(document, key) {
+        Some(value) => value.as_str().ok_or(FoundingRefusal::WrongKind),
         None => Ok(absent),
     }
 }
@@ -100,6 +109,7 @@ pub(crate) fn entries_of(document: &Table) -> Result<Entries<'_>, FoundingRefusa
     let operations = texts_at(document, "operations")?;
     let objects = texts_at(document, "objects")?;
     let permissions = pairs_at(document, "permissions")?;
+    let hierarchy = text_or(document, "hierarchy", "general")?;
     Ok(Entries {
         members,
         clock,
@@ -107,5 +117,6 @@ pub(crate) fn entries_of(document: &Table) -> Result<Entries<'_>, FoundingRefusa
         operations,
         objects,
         permissions,
+        hierarchy,
     })
 }

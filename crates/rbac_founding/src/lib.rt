@@ -11,6 +11,7 @@ mod reading;
 mod refusal;
 mod sample;
 mod values;
+mod version;
 
 pub use founding::Founding;
 pub use reading::read_founding;

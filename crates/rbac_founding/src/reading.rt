@@ -1,6 +1,6 @@
 //! Reading a founding file.
 ghost use Rattle.std.specs.Prelude.{◌≡◌, ◌≢◌, ◌≤◌, IfOk, IfErr, Ok, Err, IsTrue, OnOk, length};
-ghost use Rattle.rbac_founding.specs.FoundingFile.{Reads, are_few, founding_of, group_of, in_range, vocabulary_of};
+ghost use Rattle.rbac_founding.specs.FoundingFile.{Reads, are_few, founding_of, group_of, in_range, kind_of, vocabulary_of};
 ghost use Rattle.rbac_founding.specs.FoundingEntries.{entries_view};
 
 use crate::document::{document_of, right_keys};
@@ -11,13 +11,13 @@ use crate::refusal::FoundingRefusal;
 use crate::values::Entries;
 use rbac_terms::limits::{MOST_OBJECTS, MOST_OPERATIONS, MOST_PERMISSIONS};
 use rbac_words::limits::{LAST_CLOCK, MOST_MEMBERS, MOST_SENT};
-use rbac_words::{Group, Vocabulary, VocabularyRefusal};
+use rbac_words::{Group, HierarchyKind, Vocabulary, VocabularyRefusal};
 use std::alloc::Global;
 
-/// Reads a founding file. It is refused for the first of these, each over the whole file: it is too long, it is no
-/// TOML; its version is another one, it has a key too much, it has one too little; a value is of another kind; a number
-/// is out of range or a list too long; a text is no name, something stands twice, a permission speaks of what is not
-/// listed.
+/// Reads a founding file, of version 1 or 2. It is refused for the first of these, each over the whole file: it is too long,
+/// it is no TOML; its version is another one, it has a key too much, it has one too little; a value is of another kind; a
+/// number is out of range, a list too long, or the word for the hierarchy none; a text is no name, something stands twice, a
+/// permission speaks of what is not listed.
 ///
 /// # Errors
 /// The first refusal in the order of `FoundingRefusal`, and `NoMemory` where memory ends at any of the checks.
@@ -30,7 +30,8 @@ pub fn read_founding(alloc: Global, file: &[u8]) -> Result<Founding, FoundingRef
     right_keys(&document)?;
     let entries = entries_of(&document)?;
     let group = group_of(&entries)?;
-    let vocabulary = vocabulary_of(alloc, &entries)?;
+    let kind = kind_of(entries.hierarchy)?;
+    let vocabulary = vocabulary_of(alloc, &entries, kind)?;
     Ok(Founding { group, vocabulary })
 }
 
@@ -70,16 +71,33 @@ fn group_of(entries: &Entries) -> Result<Group, FoundingRefusal>
     Ok(group)
 }
 
-/// The vocabulary of lists that are within their limits.
-fn vocabulary_of(alloc: Global, entries: &Entries) -> Result<Vocabulary, FoundingRefusal>
+/// The kind of hierarchy that a word stands for.
+fn kind_of(word: &str) -> Result<HierarchyKind, FoundingRefusal>
+    ensures { result ≡ kind_of word.now }
+{
+    if word == "general" {
+        return Ok(HierarchyKind::General);
+    }
+    if word == "limited" {
+        return Ok(HierarchyKind::Limited);
+    }
+    Err(FoundingRefusal::OutOfRange)
+}
+
+/// The vocabulary of lists that are within their limits, with this kind of hierarchy.
+fn vocabulary_of(
+    alloc: Global,
+    entries: &Entries,
+    kind: HierarchyKind,
+) -> Result<Vocabulary, FoundingRefusal>
     requires { IsTrue (are_few (entries_view entries.now)) }
-    ensures { Reads (vocabulary_of (entries_view entries.now)) result }
+    ensures { Reads (vocabulary_of kind (entries_view entries.now)) result }
 {
     let operations = names_of(alloc, entries.operations)?;
     let objects = names_of(alloc, entries.objects)?;
     let permissions = permissions_of(alloc, entries.permissions)?;
     match Vocabulary::build(operations, objects, permissions) {
-        Ok(vocabulary) => Ok(vocabulary),
+        Ok(vocabulary) => Ok(vocabulary.with_hierarchy(kind)),
         Err(VocabularyRefusal::TooMany) => unreachable!(),
         Err(VocabularyRefusal::Repeated) => Err(FoundingRefusal::Repeated),
         Err(VocabularyRefusal::UnknownName) => Err(FoundingRefusal::UnknownName),

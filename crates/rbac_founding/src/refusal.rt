@@ -14,20 +14,21 @@ pub enum FoundingRefusal {
     /// It is no TOML text.
     #[error("the file is no TOML text")]
     NotToml,
-    /// Its `version` is not there, or is not the whole number 1.
-    #[error("`version` is not there, or is not the whole number 1")]
+    /// Its `version` is not there, or is not the whole number 1 or 2.
+    #[error("`version` is not there, or is not the whole number 1 or 2")]
     BadVersion,
-    /// It has a key that is not known.
+    /// It has a key that its version does not know.
     #[error("there is a key that is not known")]
     UnknownKey,
-    /// A key that it has to have is not there.
-    #[error("`members`, `operations`, `objects` or `permissions` is not there")]
+    /// A key that its version has to have is not there.
+    #[error("`members`, `operations`, `objects`, `permissions` or, in version 2, `hierarchy` is not there")]
     MissingKey,
-    /// A value is not of its kind: a whole number, an array of texts, or an array of pairs of texts.
-    #[error("a value is not of its kind: a whole number, an array of texts, or an array of pairs of texts")]
+    /// A value is not of its kind: a whole number, a text, an array of texts, or an array of pairs of texts.
+    #[error("a value is not of its kind: a whole number, a text, an array of texts, or an array of pairs of texts")]
     WrongKind,
-    /// A number is outside its range, or a list is longer than a vocabulary's may be.
-    #[error("a number is outside its range, or a list has too many entries")]
+    /// A number is outside its range, a list is longer than a vocabulary's may be, or `hierarchy` is neither `general` nor
+    /// `limited`.
+    #[error("a number is outside its range, a list has too many entries, or `hierarchy` is neither `general` nor `limited`")]
     OutOfRange,
     /// A text is no name.
     #[error("a text is no name")]

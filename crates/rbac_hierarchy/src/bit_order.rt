@@ -6,6 +6,7 @@ ghost use Rattle.rbac_terms.specs.Name.{name_cmp, pair_cmp};
 mod numbers;
 mod renewal;
 
+use crate::descendant::has_descendant;
 use crate::order::RoleOrder;
 use crate::removal::{OtherPair, OtherPairs};
 use bit_rows::Relation;
@@ -97,6 +98,10 @@ impl RoleOrder for BitOrder {
             first: ascendant,
             second: descendant,
         })
+    }
+
+    fn has_descendant(&self, role: &Name) -> bool {
+        has_descendant(&self.declared, role)
     }
 
     fn add_role(&mut self, alloc: Global, role: &Name) -> Result<(), AllocError> {

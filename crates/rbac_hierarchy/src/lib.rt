@@ -3,6 +3,7 @@
 
 mod bit_order;
 mod change;
+mod descendant;
 pub mod laws;
 mod list_order;
 mod order;

@@ -8,6 +8,7 @@ ghost use Rattle.rbac_terms.specs.Relations.{without_pairs_of};
 ghost use Rattle.rbac_hierarchy.specs.Order.{no_order};
 ghost use Rattle.rbac_hierarchy.specs.Rows.{RangesOver};
 
+use crate::descendant::has_descendant;
 use crate::order::RoleOrder;
 use crate::removal::OtherPairs;
 use crate::rows::{lone_row, renewed_rows, roles_where};
@@ -88,6 +89,10 @@ impl RoleOrder for ListOrder {
             first: ascendant,
             second: descendant,
         })
+    }
+
+    fn has_descendant(&self, role: &Name) -> bool {
+        has_descendant(&self.declared, role)
     }
 
     fn add_role(&mut self, alloc: Global, role: &Name) -> Result<(), AllocError> {

@@ -3,7 +3,7 @@ ghost use Rattle.std.specs.Prelude.{◌≡◌, ◌↔◌, ◌||◌, IsTrue, IfOk
 ghost use Rattle.std.specs.List.{list_any};
 ghost use Rattle.std.specs.List.Sorted.{IsStrictlySortedBy};
 ghost use Rattle.sorted_keys.specs.Keys.{has, with_key, without};
-ghost use Rattle.rbac_terms.specs.Inheritance.{Inherits, inherits, juniors, seniors};
+ghost use Rattle.rbac_terms.specs.Inheritance.{Inherits, inherits, has_descendant, juniors, seniors};
 ghost use Rattle.rbac_terms.specs.Name.{Name as NameValue, name_cmp, pair_cmp};
 ghost use Rattle.rbac_terms.specs.Relations.{without_pairs_of};
 ghost use Rattle.rbac_hierarchy.specs.Order.{Order, no_order};
@@ -30,6 +30,10 @@ pub trait RoleOrder: Sized {
     /// Whether the pair is declared.
     fn declared(&self, ascendant: &Name, descendant: &Name) -> bool
         ensures { result ≡ has pair_cmp (ascendant.now, descendant.now) (content self.now).declared };
+
+    /// Whether the role is the ascendant of a declared pair. Takes no memory.
+    fn has_descendant(&self, role: &Name) -> bool
+        ensures { result ≡ has_descendant role.now (content self.now).declared };
 
     /// Adds a role. Where it is there, nothing changes. What the other roles inherit is not computed anew.
     fn add_role(&mut self, alloc: Global, role: &Name) -> Result<(), AllocError>

@@ -274,6 +274,7 @@ sound_founding v h = record {
     permissions = h.few_permissions;
   };
   no_cycle = λ ascendant descendant m. absurd (false≢true m);
+  kind = λ limited ascendant descendant other m. absurd (false≢true m);
   separation = record { static_sets = no_role_sets; dynamic_sets = no_role_sets; static = refl; dynamic = refl };
   sessions = tt;
 }

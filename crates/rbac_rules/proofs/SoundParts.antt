@@ -113,6 +113,7 @@ with_users s users assigned granted sessions are h = record {
   references = record { assigned = are.assigned_exist; granted = are.granted_exist; declared = h.references.declared };
   limits = within h.limits users s.roles assigned granted s.declared sessions are.few_users h.limits.roles are.few_sessions;
   no_cycle = h.no_cycle;
+  kind = h.kind;
   separation = record { static_sets = h.separation.static_sets; dynamic_sets = h.separation.dynamic_sets; static = are.static; dynamic = are.dynamic };
   sessions = are.each_session;
 }

@@ -1,8 +1,8 @@
 -- Each command that adds or takes out roles or declared pairs keeps a policy sound.
-use Rattle.std.proofs.Common.{List, [], ◌∷◌, length, Bool, true, false, not, ◌||◌, ◌≡◌, ◌<◌, IsTrue, None, refl, sym, ap, ◌∙◌, subst, ⊎_elim, arith}
+use Rattle.std.proofs.Common.{List, [], ◌∷◌, length, Bool, true, false, not, ◌||◌, ◌≡◌, ◌<◌, IsTrue, None, refl, sym, ap, ◌∙◌, subst, ◌⊎◌, ⊎_elim, arith}
 use Rattle.std.specs.List.{list_any, AllByRecursion as Each}
 use Rattle.std.specs.List.Sorted.{IsStrictlySortedBy}
-use Rattle.std.proofs.lemmas.Bool.{or_cases, or_left, or_parts, and_parts, false≢true, leb-false, not-false}
+use Rattle.std.proofs.lemmas.Bool.{or_cases, or_left, or_parts, and_parts, and_from, false≢true, leb-false, not-false}
 use Rattle.std.proofs.lemmas.List.Kept.{IsStrictlySortedBy-filter}
 use Rattle.std.specs.Ordering.{eq_by_cmp}
 use Rattle.sorted_keys.specs.Keys.{has, with_key, without}
@@ -15,16 +15,16 @@ use Rattle.rbac_terms.specs.State.{State, Session}
 use Rattle.rbac_terms.specs.Relations.{begins_with, ends_with, without_role, without_pairs_of}
 use Rattle.rbac_terms.specs.Inheritance.{IsChain, Inherits}
 use Rattle.rbac_terms.specs.Authorization.{InheritsIn, IsAuthorized, is_authorized, is_entitled, purge}
-use Rattle.rbac_terms.specs.Rows.{preconditions, first_denial}
+use Rattle.rbac_terms.specs.Rows.{preconditions, first_denial, is_limited_at}
 use Rattle.rbac_terms.specs.Constraints.{is_violated, breaks_dynamic}
 use Rattle.rbac_terms.specs.declared.separation.Separation.TheVariants.{Static}
 use Rattle.rbac_terms.specs.Change.{change, end_sessions}
-use Rattle.rbac_terms.specs.Sound.{HasNoCycle, IsSessionSound, IsSound}
+use Rattle.rbac_terms.specs.Sound.{HasNoCycle, KeepsKind, IsSessionSound, IsSound}
 use Rattle.rbac_terms.specs.declared.command.Command.TheVariants.{AddRole, DeleteRole, AddInheritance, DeleteInheritance, AddAscendant, AddDescendant}
 use Rattle.sorted_keys.proofs.Ties.{one_key, ties_itself}
 use Rattle.rbac_terms.proofs.NameLemmas.{names_total, names_exact, pairs_total, pairs_exact, grants_total, grants_exact}
 use Rattle.sorted_keys.proofs.Lists.{Each-weaker}
-use Rattle.rbac_rules.proofs.InheritanceLemmas.{chain_end, joined, inherits_iff, inherits_still, inherits_without, inherits_over}
+use Rattle.rbac_rules.proofs.InheritanceLemmas.{chain_end, joined, inherits_iff, inherits_still, inherits_without, inherits_over, descendant_iff}
 use Rattle.rbac_rules.proofs.AuthorizationLemmas.{is_authorized_iff}
 use Rattle.rbac_rules.proofs.SoundSeparation.{static_less, sets_wider, sets_without, dynamic_kept}
 use Rattle.sorted_keys.proofs.Kept.{length-with_key-new, fewer, still, was_kept, is_kept, each_kept}
@@ -72,6 +72,7 @@ sound_with_role role s new few h =
       limits = within h.limits s.users t.roles s.assigned s.granted s.declared s.sessions
           h.limits.users (let more = length-with_key-new name_cmp role s.roles new in omega arith) h.limits.sessions;
       no_cycle = λ a d m back. h.no_cycle a d m (inherits_without role s.roles s.declared h.references.declared d a (h.references.declared a d m).1 back);
+      kind = h.kind;
       separation = record {
         static_sets = sets_wider s.roles t.roles s.static_sets stays h.separation.static_sets;
         dynamic_sets = sets_wider s.roles t.roles s.dynamic_sets stays h.separation.dynamic_sets;
@@ -88,12 +89,49 @@ sound_add_role role s none h =
 
 -- ---- One more pair
 
--- a policy stays sound with other declared pairs: between roles, without a cycle, no user authorized that breaks a static set, and each session sound
+-- fewer pairs keep to the kind
+kind_of_fewer : (s : State) (declared : List (Name × Name)) → ((p : Name × Name) → has pair_cmp p declared ≡ true → has pair_cmp p s.declared ≡ true) → KeepsKind s → KeepsKind (record s { declared = declared })
+kind_of_fewer s declared were keeps limited a d e first second = keeps limited a d e (were (a, d) first) (were (a, e) second)
+
+-- and so does one more, of a role that may have one more
+kind_with_pair : (a d : Name) (s : State) → is_limited_at s a ≡ false → KeepsKind s → KeepsKind (record s { declared = with_key pair_cmp (a, d) s.declared })
+kind_with_pair a d s free keeps limited x y z first second = ⊎_elim
+    (λ e. ⊎_elim
+    (λ f. ap (λ p. p.1) (new y e) ∙ sym (ap (λ p. p.1) (new z f)))
+    (λ old. absurd (no_other z (subst (λ r. has pair_cmp (r, z) s.declared ≡ true) (ap (λ p. p.0) (new y e)) old)))
+    (either z second))
+    (λ old. ⊎_elim
+    (λ f. absurd (no_other y (subst (λ r. has pair_cmp (r, y) s.declared ≡ true) (ap (λ p. p.0) (new z f)) old)))
+    (keeps limited x y z old)
+    (either z second))
+    (either y first)
+  where
+    new : (w : Name) → eq_by_cmp pair_cmp (x, w) (a, d) ≡ true → ◌≡◌ {A = Name × Name} (x, w) (a, d)
+    new w e = one_key pairs_exact (x, w) (a, d) e
+
+    either : (w : Name) → has pair_cmp (x, w) (with_key pair_cmp (a, d) s.declared) ≡ true → (eq_by_cmp pair_cmp (x, w) (a, d) ≡ true) ⊎ (has pair_cmp (x, w) s.declared ≡ true)
+    either w m = or_cases _ _ (sym (has-with_key pairs_total (a, d) s.declared (x, w)) ∙ m)
+
+    no_other : (w : Name) → has pair_cmp (a, w) s.declared ≡ true → ⊥
+    no_other w m = false≢true (sym free ∙ and_from _ _ limited ((descendant_iff a s.declared).1 (w, m)))
+
+-- a role that is new has no declared descendant
+new_is_free : (a : Name) (s : State) → has name_cmp a s.roles ≡ false → IsSound s → is_limited_at s a ≡ false
+new_is_free a s new h = go (is_limited_at s a) refl
+  where
+    go : (b : Bool) → is_limited_at s a ≡ b → is_limited_at s a ≡ false
+    go false e = e
+    go true e =
+        let d = (descendant_iff a s.declared).0 (and_parts _ _ e).1 in
+        absurd (false≢true (sym new ∙ (h.references.declared a d.0 d.1).0))
+
+-- a policy stays sound with other declared pairs: between roles, without a cycle, of the hierarchy's kind, no user authorized that
+-- breaks a static set, and each session sound
 with_declared : (s : State) (declared : List (Name × Name)) → IsStrictlySortedBy pair_cmp declared
     → ((a d : Name) → IsTrue (has pair_cmp (a, d) declared) → IsTrue (has name_cmp a s.roles) × IsTrue (has name_cmp d s.roles))
-    → HasNoCycle (record s { declared = declared }) → is_violated Static (record s { declared = declared }) ≡ false → Each (λ e. IsSessionSound (record s { declared = declared }) e.1) s.sessions
+    → HasNoCycle (record s { declared = declared }) → KeepsKind (record s { declared = declared }) → is_violated Static (record s { declared = declared }) ≡ false → Each (λ e. IsSessionSound (record s { declared = declared }) e.1) s.sessions
     → IsSound s → IsSound (record s { declared = declared })
-with_declared s declared sorted exist acyclic separated all h = record {
+with_declared s declared sorted exist acyclic keeps separated all h = record {
   vocabulary = h.vocabulary;
   in_order = record {
     users = h.in_order.users;
@@ -106,14 +144,15 @@ with_declared s declared sorted exist acyclic separated all h = record {
   references = record { assigned = h.references.assigned; granted = h.references.granted; declared = exist };
   limits = within h.limits s.users s.roles s.assigned s.granted declared s.sessions h.limits.users h.limits.roles h.limits.sessions;
   no_cycle = acyclic;
+  kind = keeps;
   separation = record { static_sets = h.separation.static_sets; dynamic_sets = h.separation.dynamic_sets; static = separated; dynamic = h.separation.dynamic };
   sessions = all;
 }
 
-sound_with_pair : (a d : Name) (s : State) → has name_cmp a s.roles ≡ true → has name_cmp d s.roles ≡ true → ¬ (InheritsIn s d a)
+sound_with_pair : (a d : Name) (s : State) → has name_cmp a s.roles ≡ true → has name_cmp d s.roles ≡ true → ¬ (InheritsIn s d a) → is_limited_at s a ≡ false
     → is_violated Static (record s { declared = with_key pair_cmp (a, d) s.declared }) ≡ false → IsSound s
     → IsSound (record s { declared = with_key pair_cmp (a, d) s.declared })
-sound_with_pair a d s is_a is_d acyclic separated h =
+sound_with_pair a d s is_a is_d acyclic free separated h =
     let t : State = record s { declared = with_key pair_cmp (a, d) s.declared } in
     let stays : (p : Name × Name) → has pair_cmp p s.declared ≡ true → has pair_cmp p t.declared ≡ true = still pairs_total (a, d) s.declared in
     let either : (x y : Name) → has pair_cmp (x, y) t.declared ≡ true → (eq_by_cmp pair_cmp (x, y) (a, d) || has pair_cmp (x, y) s.declared) ≡ true = λ x y m. sym (has-with_key pairs_total (a, d) s.declared (x, y)) ∙ m in
@@ -129,6 +168,7 @@ sound_with_pair a d s is_a is_d acyclic separated h =
     new_pair (subst (λ p. Inherits s.roles t.declared p.1 p.0) same back))
     (λ old. old_pair x y old back)
     (or_cases _ _ (either x y m)))
+    (kind_with_pair a d s free h.kind)
     separated
     (sessions_stay s t (λ user m. m) (authorized_still s s.roles t.declared (λ x m. m) stays) s.sessions h.sessions)
     h
@@ -153,7 +193,7 @@ pub sound_add_inheritance : (a d : Name) (s : State) → first_denial (AddInheri
 sound_add_inheritance a d s none h =
     let holds = none_fails (preconditions (AddInheritance a d) s) none in
     let are = and_parts _ _ (not-false _ holds.0) in
-    sound_with_pair a d s are.0 are.1 (λ back. false≢true (sym holds.1.1.0 ∙ (inherits_iff s.roles s.declared d a).1 back)) holds.1.1.1.0 h
+    sound_with_pair a d s are.0 are.1 (λ back. false≢true (sym holds.1.1.0 ∙ (inherits_iff s.roles s.declared d a).1 back)) holds.1.1.1.0 holds.1.1.1.1.0 h
 
 -- a new role that no pair names is inherited by no other
 not_inherited : (role other : Name) (s : State) → has name_cmp role s.roles ≡ false → has name_cmp other s.roles ≡ true → IsSound s → ¬ (Inherits (with_key name_cmp role s.roles) s.declared other role)
@@ -194,7 +234,7 @@ sound_add_ascendant a d s none h =
     let holds = none_fails (preconditions (AddAscendant a d) s) none in
     let is_d = not-false _ holds.1.0 in
     let more = with_key pair_cmp (a, d) s.declared in
-    sound_with_pair a d (record s { roles = with_key name_cmp a s.roles }) (is_there a s.roles) (still names_total a s.roles d is_d) (not_inherited a d s holds.0 is_d h)
+    sound_with_pair a d (record s { roles = with_key name_cmp a s.roles }) (is_there a s.roles) (still names_total a s.roles d is_d) (not_inherited a d s holds.0 is_d h) (new_is_free a s holds.0 h)
     (static_stays s (record s { roles = with_key name_cmp a s.roles; declared = more }) h (λ u m. m) (λ u r is x. authorized_before_ascendant a d s holds.0 h u r x))
     (sound_with_role a s holds.0 (omega (arith, leb-false 1024 (length s.roles) holds.1.1.0)) h)
 
@@ -203,9 +243,9 @@ sound_add_descendant a d s none h =
     let holds = none_fails (preconditions (AddDescendant a d) s) none in
     let is_a = not-false _ holds.1.0 in
     let more = with_key pair_cmp (a, d) s.declared in
-    sound_with_pair a d (record s { roles = with_key name_cmp d s.roles }) (still names_total d s.roles a is_a) (is_there d s.roles) (inherits_nothing d a s holds.0 is_a h)
+    sound_with_pair a d (record s { roles = with_key name_cmp d s.roles }) (still names_total d s.roles a is_a) (is_there d s.roles) (inherits_nothing d a s holds.0 is_a h) holds.1.1.0
     (static_stays s (record s { roles = with_key name_cmp d s.roles; declared = more }) h (λ u m. m) (λ u r is x. authorized_before_descendant a d s holds.0 h u r is x))
-    (sound_with_role d s holds.0 (omega (arith, leb-false 1024 (length s.roles) holds.1.1.0)) h)
+    (sound_with_role d s holds.0 (omega (arith, leb-false 1024 (length s.roles) holds.1.1.1.0)) h)
 
 -- ---- Fewer roles and pairs
 
@@ -217,6 +257,7 @@ sound_delete_inheritance a d s h =
     (IsStrictlySortedBy-filter _ _ _ h.in_order.declared)
     (λ x y m. h.references.declared x y (was (x, y) m))
     (λ x y m back. h.no_cycle x y (was (x, y) m) (inherits_still s.roles s.roles t.declared s.declared (λ z k. k) was y x back))
+    (kind_of_fewer s t.declared was h.kind)
     (static_stays s t h (λ u m. m) (λ u r is x. (x.0, x.1, inherits_still s.roles s.roles t.declared s.declared (λ z k. k) was x.0 r x.2)))
     (purged t (Each-weaker (λ e. IsSessionSound s e.1) (λ (e : Name × Session). IsOwned s e.1) s.sessions (λ e sound. (sound.owned, sound.active)) h.sessions))
     (with_sessions s (purge t).sessions h
@@ -266,6 +307,7 @@ sound_delete_role role s none h =
       limits = within h.limits s.users (without name_cmp role s.roles) (without_role role s.assigned) (without_role role s.granted) (without_pairs_of role s.declared) (purge t).sessions
           h.limits.users (fewer _ s.roles most_roles h.limits.roles) (fewer _ t.sessions most_sessions (fewer _ s.sessions most_sessions h.limits.sessions));
       no_cycle = λ x y m back. h.no_cycle x y (was_pair (x, y) m).1 (inherits_still t.roles s.roles t.declared s.declared was_role (λ p k. (was_pair p k).1) y x back);
+      kind = kind_of_fewer s t.declared (λ p k. (was_pair p k).1) h.kind;
       separation = record {
         static_sets = sets_without role s.roles s.static_sets free.0 h.separation.static_sets;
         dynamic_sets = sets_without role s.roles s.dynamic_sets free.1 h.separation.dynamic_sets;

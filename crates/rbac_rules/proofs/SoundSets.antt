@@ -59,6 +59,7 @@ with_all_sets s static dynamic separated h =
       references = record { assigned = h.references.assigned; granted = h.references.granted; declared = h.references.declared };
       limits = record { users = h.limits.users; roles = h.limits.roles; sessions = h.limits.sessions; operations = h.limits.operations; objects = h.limits.objects; permissions = h.limits.permissions };
       no_cycle = h.no_cycle;
+      kind = h.kind;
       separation = separated;
       sessions = sessions_stay s t (λ user m. m) (λ user role a. a) s.sessions h.sessions;
     }

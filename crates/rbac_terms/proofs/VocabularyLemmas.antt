@@ -5,6 +5,7 @@ use Rattle.std.proofs.lemmas.Bool.{le-ltb}
 use Rattle.sorted_keys.specs.Keys.{set_of, repeats}
 use Rattle.sorted_keys.proofs.Gathered.{has-set_of, sorted_set_of, length-set_of, list_all-set_of}
 use Rattle.rbac_terms.specs.declared.vocabulary.VocabularyRefusal.TheVariants.{UnknownName}
+use Rattle.rbac_terms.specs.declared.hierarchy_kind.HierarchyKind.{HierarchyKind}
 use Rattle.rbac_terms.specs.Build.{vocabulary_refusal}
 use Rattle.rbac_terms.specs.Vocabulary.{IsVocabulary, is_listed}
 use Rattle.rbac_terms.specs.Limits.{most_operations, most_objects, most_permissions}
@@ -37,8 +38,8 @@ module _ (operations objects : List Name) (permissions : List Permission) where
     refusal_where_listed b e = refusal_of_listed ∙ ap (λ a. cond (not a) (Some UnknownName) None) (sym listed_alike ∙ e)
 
     -- the sets make a vocabulary
-    pub vocabulary_of_sets : list_all (is_listed (set_of name_cmp operations) (set_of name_cmp objects)) (set_of pair_cmp permissions) ≡ true → IsVocabulary (record { operations = set_of name_cmp operations; objects = set_of name_cmp objects; permissions = set_of pair_cmp permissions })
-    vocabulary_of_sets listed = record {
+    pub vocabulary_of_sets : list_all (is_listed (set_of name_cmp operations) (set_of name_cmp objects)) (set_of pair_cmp permissions) ≡ true → (kind : HierarchyKind) → IsVocabulary (record { operations = set_of name_cmp operations; objects = set_of name_cmp objects; permissions = set_of pair_cmp permissions; hierarchy = kind })
+    vocabulary_of_sets listed kind = record {
       operations_in_order = sorted_set_of names_total operations;
       objects_in_order = sorted_set_of names_total objects;
       permissions_in_order = sorted_set_of pairs_total permissions;

@@ -1,7 +1,7 @@
 -- The denials: their numbers and words.
 use Rattle.std.specs.Prelude.{ℕ, List, codes}
 use Rattle.rbac_terms.specs.declared.answer.Denial.{Denial}
-use Rattle.rbac_terms.specs.declared.answer.Denial.TheVariants.{UserExists, NoUser, RoleExists, NoRole, Assigned, NotAssigned, NoPermission, NotGranted, SessionExists, NoSession, NotOwner, NotAuthorized, RoleActive, RoleNotActive, Inherits, NoInheritance, Cycle, SsdViolated, DsdViolated, SetExists, NoSet, BadCardinality, InSet, NotInSet, RoleConstrained, Limit, NoOperation, NoObject}
+use Rattle.rbac_terms.specs.declared.answer.Denial.TheVariants.{UserExists, NoUser, RoleExists, NoRole, Assigned, NotAssigned, NoPermission, NotGranted, SessionExists, NoSession, NotOwner, NotAuthorized, RoleActive, RoleNotActive, Inherits, NoInheritance, Cycle, SsdViolated, DsdViolated, SetExists, NoSet, BadCardinality, InSet, NotInSet, RoleConstrained, Limit, NoOperation, NoObject, Limited}
 
 -- the number of a denial in the table
 abbrev pub denial_number : Denial → ℕ
@@ -33,6 +33,7 @@ denial_number RoleConstrained = 25
 denial_number Limit = 26
 denial_number NoOperation = 27
 denial_number NoObject = 28
+denial_number Limited = 29
 
 -- the word of a denial, as bytes
 abbrev pub denial_word : Denial → List ℕ
@@ -64,3 +65,4 @@ denial_word RoleConstrained = codes "RoleConstrained"
 denial_word Limit = codes "Limit"
 denial_word NoOperation = codes "NoOperation"
 denial_word NoObject = codes "NoObject"
+denial_word Limited = codes "Limited"

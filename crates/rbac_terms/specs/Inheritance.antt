@@ -1,7 +1,7 @@
 -- Inheritance between roles (ANSI INCITS 359-2004, 5.2 Hierarchical RBAC). The standard's role hierarchy is a partial
 -- order; here it is a set of declared pairs (ascendant, descendant), and the order is whatever they give.
 use Rattle.std.specs.Prelude.{List, [], ◌∷◌, Bool, ◌||◌, ◌&&◌, ◌≡◌, IsTrue}
-use Rattle.std.specs.List.{filter}
+use Rattle.std.specs.List.{filter, list_any}
 use Rattle.std.specs.Ordering.{eq_by_cmp}
 use Rattle.sorted_keys.specs.Keys.{has}
 use Rattle.rbac_terms.specs.Name.{Name, name_cmp, pair_cmp}
@@ -30,3 +30,7 @@ juniors roles declared r = filter (λ q. inherits roles declared r q) roles
 
 abbrev pub seniors : List Name → List (Name × Name) → Name → List Name
 seniors roles declared q = filter (λ r. inherits roles declared r q) roles
+
+-- whether a role is the ascendant of a declared pair
+abbrev pub has_descendant : Name → List (Name × Name) → Bool
+has_descendant role declared = list_any (λ pair. eq_by_cmp name_cmp role pair.0) declared

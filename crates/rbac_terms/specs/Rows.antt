@@ -7,6 +7,8 @@ use Rattle.sorted_keys.specs.Keys.{has}
 use Rattle.rbac_terms.specs.Name.{Name, name_cmp, pair_cmp, grant_cmp}
 use Rattle.rbac_terms.specs.Limits.{most_users, most_roles, most_sessions, most_sets}
 use Rattle.rbac_terms.specs.Separation.{is_constrained}
+use Rattle.rbac_terms.specs.Vocabulary.{is_limited}
+use Rattle.rbac_terms.specs.Inheritance.{has_descendant}
 use Rattle.rbac_terms.specs.State.{State}
 use Rattle.rbac_terms.specs.Authorization.{inherits_in, is_authorized}
 use Rattle.rbac_terms.specs.Constraints.{sets_of, is_violated, violation, is_badly_sized}
@@ -18,7 +20,7 @@ use Rattle.rbac_terms.specs.declared.command.Command.TheVariants.{AddUser, Delet
 use Rattle.rbac_terms.specs.declared.review.Review.{Review}
 use Rattle.rbac_terms.specs.declared.review.Review.TheVariants.{AssignedUsers, AssignedRoles, AuthorizedUsers, AuthorizedRoles, RolePermissions, UserPermissions, SessionRoles, SessionPermissions, RoleOperationsOnObject, UserOperationsOnObject, RoleSets, RoleSetRoles, RoleSetCardinality}
 use Rattle.rbac_terms.specs.declared.answer.Denial.{Denial}
-use Rattle.rbac_terms.specs.declared.answer.Denial.TheVariants.{UserExists, NoUser, RoleExists, NoRole, Assigned, NotAssigned, NoPermission, NotGranted, SessionExists, NoSession, NotOwner, NotAuthorized, RoleActive, RoleNotActive, Inherits, NoInheritance, Cycle, SsdViolated, DsdViolated, SetExists, NoSet, BadCardinality, InSet, NotInSet, RoleConstrained, Limit, NoOperation, NoObject}
+use Rattle.rbac_terms.specs.declared.answer.Denial.TheVariants.{UserExists, NoUser, RoleExists, NoRole, Assigned, NotAssigned, NoPermission, NotGranted, SessionExists, NoSession, NotOwner, NotAuthorized, RoleActive, RoleNotActive, Inherits, NoInheritance, Cycle, SsdViolated, DsdViolated, SetExists, NoSet, BadCardinality, InSet, NotInSet, RoleConstrained, Limit, NoOperation, NoObject, Limited}
 
 -- a precondition: the denial that names it, and whether it fails
 pub record Precondition : Type 0 where
@@ -62,6 +64,11 @@ is_member kind s set role = found_and (λ x. has name_cmp role x.roles) (find na
 -- whether both are roles
 abbrev pub are_roles : State → Name → Name → Bool
 are_roles s first second = has name_cmp first s.roles && has name_cmp second s.roles
+
+-- whether the role may have no declared descendant more: the hierarchy is limited, and it has one (ANSI INCITS 359-2004, 5.2:
+-- Limited Role Hierarchies)
+abbrev pub is_limited_at : State → Name → Bool
+is_limited_at s role = is_limited s.vocabulary.hierarchy && has_descendant role s.declared
 
 -- the preconditions of a review, from left to right (ANSI INCITS 359-2004, 6.1.3, 6.1.4 and the review functions of 6.2 to 6.4)
 abbrev pub review_preconditions : Review → State → List Precondition
@@ -148,6 +155,7 @@ preconditions (AddInheritance ascendant descendant) s =
     (NoRole when not (are_roles s ascendant descendant))
     ∷ (Inherits when has pair_cmp (ascendant, descendant) s.declared)
     ∷ (Cycle when inherits_in s descendant ascendant)
+    ∷ (Limited when is_limited_at s ascendant)
     ∷ (SsdViolated when is_violated Static (change (AddInheritance ascendant descendant) s))
     ∷ []
 preconditions (DeleteInheritance ascendant descendant) s =
@@ -162,6 +170,7 @@ preconditions (AddAscendant ascendant descendant) s =
 preconditions (AddDescendant ascendant descendant) s =
     (RoleExists when has name_cmp descendant s.roles)
     ∷ (NoRole when not (has name_cmp ascendant s.roles))
+    ∷ (Limited when is_limited_at s ascendant)
     ∷ (Limit when nat_le most_roles (length s.roles))
     ∷ []
 preconditions (CreateSet kind set roles n) s =

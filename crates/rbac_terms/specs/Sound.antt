@@ -1,11 +1,11 @@
 -- What holds of each policy, whatever commands it was given.
-use Rattle.std.specs.Prelude.{◌≡◌, ◌≤◌, ⊤, false, List, length, IsTrue}
+use Rattle.std.specs.Prelude.{◌≡◌, ◌≤◌, ⊤, true, false, List, length, IsTrue}
 use Rattle.std.specs.List.{AllByRecursion as Each}
 use Rattle.std.specs.List.Sorted.{IsStrictlySortedBy}
 use Rattle.sorted_keys.specs.Keys.{has, by_key}
 use Rattle.rbac_terms.specs.Name.{Name, Permission, name_cmp, pair_cmp, grant_cmp}
 use Rattle.rbac_terms.specs.Limits.{most_users, most_roles, most_sessions, most_sets, most_operations, most_objects, most_permissions}
-use Rattle.rbac_terms.specs.Vocabulary.{IsVocabulary}
+use Rattle.rbac_terms.specs.Vocabulary.{IsVocabulary, is_limited}
 use Rattle.rbac_terms.specs.Separation.{RoleSet, is_well_sized}
 use Rattle.rbac_terms.specs.State.{State, Session}
 use Rattle.rbac_terms.specs.Authorization.{InheritsIn, IsAuthorized}
@@ -42,6 +42,11 @@ pub record IsWithinLimits (s : State) : Type 0 where
 abbrev pub HasNoCycle : State → Type 0
 HasNoCycle s = (ascendant descendant : Name) → IsTrue (has pair_cmp (ascendant, descendant) s.declared) → ¬ (InheritsIn s descendant ascendant)
 
+-- the declared pairs keep to the kind of the hierarchy: where it is limited, no role is the ascendant of two (ANSI INCITS
+-- 359-2004, 5.2: Limited Role Hierarchies)
+abbrev pub KeepsKind : State → Type 0
+KeepsKind s = is_limited s.vocabulary.hierarchy ≡ true → (ascendant descendant other : Name) → IsTrue (has pair_cmp (ascendant, descendant) s.declared) → IsTrue (has pair_cmp (ascendant, other) s.declared) → descendant ≡ other
+
 -- a session's owner exists, its active roles are a set, and the owner is authorized for each of them
 pub record IsSessionSound (s : State) (session : Session) : Type 0 where
   pub owned : IsTrue (has name_cmp session.owner s.users)
@@ -73,6 +78,7 @@ pub record IsSound (s : State) : Type 0 where
   pub references : HasReferences s
   pub limits : IsWithinLimits s
   pub no_cycle : HasNoCycle s
+  pub kind : KeepsKind s
   pub separation : IsSeparated s
   pub sessions : Each (λ e. IsSessionSound s e.1) s.sessions
 

@@ -27,7 +27,7 @@ pub record State : Type 0 where
   pub dynamic_sets : List (Name × RoleSet)
   -- SESSIONS, each by its name
   pub sessions : List (Name × Session)
-  -- OPS, OBS and PRMS, which no command changes
+  -- OPS, OBS, PRMS and the kind of the hierarchy, which no command changes
   pub vocabulary : Vocabulary
 
 -- the vocabulary and nothing else

@@ -38,6 +38,7 @@ pub enum Denial {
     Limit,
     NoOperation,
     NoObject,
+    Limited,
 }
 
 /// The answer to a command: that it is done, whether access is granted, what a review lists, or why it is denied.
@@ -116,6 +117,7 @@ impl Denial {
             Denial::Limit => 26,
             Denial::NoOperation => 27,
             Denial::NoObject => 28,
+            Denial::Limited => 29,
         }
     }
 
@@ -152,6 +154,7 @@ impl Denial {
             Denial::Limit => "Limit",
             Denial::NoOperation => "NoOperation",
             Denial::NoObject => "NoObject",
+            Denial::Limited => "Limited",
         }
     }
 }

@@ -4,6 +4,7 @@
 
 pub mod answer;
 pub mod command;
+pub mod hierarchy_kind;
 pub mod limits;
 pub mod name;
 pub mod name_set;
@@ -14,6 +15,7 @@ pub mod vocabulary;
 
 pub use answer::{Answer, Denial};
 pub use command::Command;
+pub use hierarchy_kind::HierarchyKind;
 pub use name::{Name, NameRefusal};
 pub use name_set::NameSet;
 pub use permission_set::PermissionSet;

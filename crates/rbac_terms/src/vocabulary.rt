@@ -1,11 +1,13 @@
-//! The vocabulary of a policy: its operations, its objects and its permissions.
+//! The vocabulary of a policy: its operations, its objects and its permissions, and the kind of its role hierarchy.
 ghost use Rattle.std.specs.Prelude.{◌≡◌, ◌↔◌, IsTrue, None, Some, IfOk, IfErr, OnOk, OnErr, false, true, filter};
 ghost use Rattle.std.specs.List.{list_all};
 ghost use Rattle.sorted_keys.specs.Keys.{has, set_of, repeats};
 ghost use Rattle.rbac_terms.specs.Build.{vocabulary_refusal};
 ghost use Rattle.rbac_terms.specs.Vocabulary.{IsVocabulary, is_listed};
 ghost use Rattle.rbac_terms.specs.Name.{name_cmp, pair_cmp};
+ghost use Rattle.rbac_terms.specs.declared.hierarchy_kind.HierarchyKind.TheVariants.{General};
 
+use crate::hierarchy_kind::HierarchyKind;
 use crate::limits::{MOST_OBJECTS, MOST_OPERATIONS, MOST_PERMISSIONS};
 use crate::name::Name;
 use crate::name_set::NameSet;
@@ -15,12 +17,14 @@ use std::alloc::{AllocError, Global};
 use std::marker::Model;
 use thiserror::Error;
 
-/// At most 256 operations, 4,096 objects, and 16,384 pairs of these, the permissions. No command changes them.
+/// At most 256 operations, 4,096 objects, and 16,384 pairs of these, the permissions; and the kind of the role hierarchy. No
+/// command changes them.
 #[derive(Drop)]
 pub struct Vocabulary {
     operations: SortedSet<Name>,
     objects: SortedSet<Name>,
     permissions: SortedSet<(Name, Name)>,
+    hierarchy: HierarchyKind,
 }
 
 impl Model for Vocabulary {
@@ -28,9 +32,9 @@ impl Model for Vocabulary {
 
     ghost Value = { VocabularyValue };
 
-    ghost view = { λ v. record { operations = v.operations.content; objects = v.objects.content; permissions = v.permissions.content } };
+    ghost view = { λ v. record { operations = v.operations.content; objects = v.objects.content; permissions = v.permissions.content; hierarchy = v.hierarchy } };
 
-    ghost invariant = { λ v. IsVocabulary (record { operations = v.operations.content; objects = v.objects.content; permissions = v.permissions.content }) };
+    ghost invariant = { λ v. IsVocabulary (record { operations = v.operations.content; objects = v.objects.content; permissions = v.permissions.content; hierarchy = v.hierarchy }) };
 }
 
 /// Why lists make no vocabulary, in the order of the checks.
@@ -72,7 +76,7 @@ fn are_listed(
 }
 
 impl Vocabulary {
-    /// A vocabulary of these lists. It takes no memory.
+    /// A vocabulary of these lists, with a general hierarchy. It takes no memory.
     ///
     /// # Errors
     /// The first that applies: `TooMany`, `Repeated`, `UnknownName`.
@@ -84,6 +88,7 @@ impl Vocabulary {
         ensures operations { IfOk result (λ v. v.operations ≡ set_of name_cmp operations.items) }
         ensures objects { IfOk result (λ v. v.objects ≡ set_of name_cmp objects.items) }
         ensures permissions { IfOk result (λ v. v.permissions ≡ set_of pair_cmp permissions.items) }
+        ensures hierarchy { IfOk result (λ v. v.hierarchy ≡ General) }
         ensures fits { OnOk result (vocabulary_refusal operations.items objects.items permissions.items ≡ None) }
         ensures first_refusal { IfErr result (λ refusal. vocabulary_refusal operations.items objects.items permissions.items ≡ Some refusal) }
     {
@@ -103,7 +108,27 @@ impl Vocabulary {
             operations,
             objects,
             permissions,
+            hierarchy: HierarchyKind::General,
         })
+    }
+
+    /// The same operations, objects and permissions, with this kind of role hierarchy. It takes no memory.
+    pub fn with_hierarchy(self, kind: HierarchyKind) -> Vocabulary
+        ensures { result ≡ record self { hierarchy = kind } }
+    {
+        Vocabulary {
+            operations: self.operations,
+            objects: self.objects,
+            permissions: self.permissions,
+            hierarchy: kind,
+        }
+    }
+
+    /// The kind of the role hierarchy.
+    pub fn hierarchy(&self) -> HierarchyKind
+        ensures { result ≡ self.now.hierarchy }
+    {
+        self.hierarchy
     }
 
     /// Whether it is one of the operations.
@@ -176,15 +201,17 @@ impl Vocabulary {
             operations: self.operations.copy()?,
             objects: self.objects.copy()?,
             permissions: self.permissions.copy()?,
+            hierarchy: self.hierarchy,
         })
     }
 
-    /// Whether both speak of the same operations, objects and permissions.
+    /// Whether both speak of the same operations, objects and permissions, and have the same kind of hierarchy.
     pub fn same(&self, other: &Vocabulary) -> bool
         ensures { IsTrue result ↔ (self.now ≡ other.now) }
     {
         self.operations.same(&other.operations)
             && self.objects.same(&other.objects)
             && self.permissions.same(&other.permissions)
+            && self.hierarchy == other.hierarchy
     }
 }

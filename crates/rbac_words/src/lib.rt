@@ -13,8 +13,8 @@ pub use event::{Event, Outcome, Refusal};
 pub use group::{Group, GroupRefusal};
 pub use message::{Message, Submission};
 pub use rbac_terms::{
-    Answer, Command, Denial, Name, NameRefusal, NameSet, PermissionSet, Review, Separation,
-    Vocabulary, VocabularyRefusal,
+    Answer, Command, Denial, HierarchyKind, Name, NameRefusal, NameSet, PermissionSet, Review,
+    Separation, Vocabulary, VocabularyRefusal,
 };
 pub use record::Record;
 pub use stamp::Stamp;

@@ -5,7 +5,8 @@ ghost use Rattle.std.specs.Ordering.{eq_by_cmp};
 ghost use Rattle.rbac_terms.specs.Name.{name_cmp};
 
 use rbac_terms::{
-    Command, Denial, Name, NameRefusal, NameSet, PermissionSet, Vocabulary, VocabularyRefusal,
+    Command, Denial, HierarchyKind, Name, NameRefusal, NameSet, PermissionSet, Vocabulary,
+    VocabularyRefusal,
 };
 use sorted_keys::{KeyTest, Same};
 use std::alloc::Global;
@@ -185,6 +186,7 @@ fn denials_have_numbers_and_words(rt: HostRuntime) {
         (Denial::Limit, 26, "Limit"),
         (Denial::NoOperation, 27, "NoOperation"),
         (Denial::NoObject, 28, "NoObject"),
+        (Denial::Limited, 29, "Limited"),
     ] {
         expect_denial(&rt, denial, number, word);
     }
@@ -339,6 +341,28 @@ fn a_vocabulary_and_its_copy(rt: HostRuntime) {
     expect_small(&rt, rt.alloc(), &copy);
     drop(copy);
     drop(vocabulary);
+}
+
+#[test]
+fn a_hierarchy_is_general_until_it_is_limited(rt: HostRuntime) {
+    let vocabulary = small_vocabulary(&rt, rt.alloc(), &TWO_PERMISSIONS);
+    assert_eq!(rt; vocabulary.hierarchy(), HierarchyKind::General);
+    let limited = vocabulary.with_hierarchy(HierarchyKind::Limited);
+    assert_eq!(rt; limited.hierarchy(), HierarchyKind::Limited);
+    expect_small(&rt, rt.alloc(), &limited);
+    let copy = limited.copy().expect(&rt, "memory");
+    assert_eq!(rt; copy.hierarchy(), HierarchyKind::Limited);
+    assert!(rt; copy.same(&limited));
+    let general = copy.with_hierarchy(HierarchyKind::General);
+    assert!(rt; !general.same(&limited));
+    drop(general);
+    drop(limited);
+}
+
+#[test]
+fn a_limited_hierarchy_is_limited(rt: HostRuntime) {
+    assert!(rt; HierarchyKind::Limited.is_limited());
+    assert!(rt; !HierarchyKind::General.is_limited());
 }
 
 // Whether a copy of the name is the same.

@@ -1,7 +1,7 @@
 //! What `rbac_founding` reads founding files as, and of refused ones by files that the next check would refuse too.
 
 use rbac_founding::{Founding, FoundingRefusal, read_founding, sample_founding};
-use rbac_words::{Name, Vocabulary, VocabularyRefusal};
+use rbac_words::{HierarchyKind, Name, Vocabulary, VocabularyRefusal};
 use std::alloc::{AllocError, Global};
 use std::process::Abort;
 
@@ -93,18 +93,18 @@ fn a_file_has_1048576_bytes_at_most(rt: HostRuntime) -> Result<(), AllocError> {
 #[test]
 fn what_is_no_toml(rt: HostRuntime) -> Result<(), AllocError> {
     for file in [
-        b"version = 2\nnothing".as_slice(),
-        b"version = 2\nversion = 1",
-        b"version = 2\n[version]",
+        b"version = 3\nnothing".as_slice(),
+        b"version = 3\nversion = 1",
+        b"version = 3\n[version]",
         b"version = 99999999999999999999",
-        b"version = 2\n# \xff",
+        b"version = 3\n# \xff",
     ] {
         assert_eq!(rt;
             refusal_of(rt.alloc(), file),
             Some(FoundingRefusal::NotToml)
         );
     }
-    let mut nested = Vec::from_slice(rt.alloc(), b"version = 2\nother = ")?;
+    let mut nested = Vec::from_slice(rt.alloc(), b"version = 3\nother = ")?;
     nested.resize(1_000, b'[')?;
     nested.resize(2_000, b']')?;
     assert_eq!(rt;
@@ -132,7 +132,7 @@ fn the_first_refusal_of_keys_and_numbers(rt: HostRuntime) {
     let wrong = FoundingRefusal::WrongKind;
     let outside = FoundingRefusal::OutOfRange;
     for (lines, refusal) in [
-        ("version = 2\nother = 1", FoundingRefusal::BadVersion),
+        ("version = 3\nother = 1", FoundingRefusal::BadVersion),
         ("version = 1.0\nother = 1", FoundingRefusal::BadVersion),
         ("version = 1\nother = 1", FoundingRefusal::UnknownKey),
         ("version = 1\nclock = \"1\"", FoundingRefusal::MissingKey),
@@ -182,6 +182,95 @@ fn the_first_refusal_of_lists(rt: HostRuntime) {
     ] {
         let numbers = "version = 1\nmembers = 1";
         expect_refused(&rt, rt.alloc(), numbers, lists, refusal);
+    }
+}
+
+// The kind of hierarchy that a file founds.
+fn hierarchy_of(alloc: Global, file: &[u8]) -> Option<HierarchyKind> {
+    match read_founding(alloc, file) {
+        Ok(founding) => Some(founding.vocabulary.hierarchy()),
+        Err(_) => None,
+    }
+}
+
+#[test]
+fn a_file_names_its_hierarchy_in_version_two(rt: HostRuntime) -> Result<(), AllocError> {
+    let alloc = rt.alloc();
+    let general = Some(HierarchyKind::General);
+    assert_eq!(rt; hierarchy_of(alloc, SAMPLE.as_bytes()), general);
+    for (word, kind) in [
+        ("general", general),
+        ("limited", Some(HierarchyKind::Limited)),
+    ] {
+        let file = format!(in alloc;
+            "version = 2\nhierarchy = '{word}'\nmembers = 1\noperations = []\nobjects = []\npermissions = []"
+        )?;
+        assert_eq!(rt; hierarchy_of(alloc, file.as_bytes()), kind);
+    }
+    Ok(())
+}
+
+// A file of these lines, and of operations that stand twice, is refused so.
+fn expect_repeating_refused(rt: &impl Abort, alloc: Global, lines: &str, refusal: FoundingRefusal) {
+    let lists = "operations = [\"a\", \"a\"]\nobjects = []\npermissions = []";
+    expect_refused(rt, alloc, lines, lists, refusal);
+}
+
+// Each file is refused by the next check too, if there is one that sees the hierarchy.
+#[test]
+fn the_first_refusal_of_a_hierarchy(rt: HostRuntime) {
+    for (lines, refusal) in [
+        (
+            "version = 3\nhierarchy = \"limited\"\nmembers = 1\nother = 1",
+            FoundingRefusal::BadVersion,
+        ),
+        (
+            "version = 0\nhierarchy = \"limited\"\nmembers = 1",
+            FoundingRefusal::BadVersion,
+        ),
+        (
+            "version = 1\nhierarchy = \"limited\"",
+            FoundingRefusal::UnknownKey,
+        ),
+        (
+            "version = 1\nhierarchy = 1\nmembers = 1",
+            FoundingRefusal::UnknownKey,
+        ),
+        (
+            "version = 2\nother = \"limited\"\nmembers = 1",
+            FoundingRefusal::UnknownKey,
+        ),
+        ("version = 2\nmembers = \"1\"", FoundingRefusal::MissingKey),
+        (
+            "version = 2\nhierarchy = \"other\"\nclock = 1.0",
+            FoundingRefusal::MissingKey,
+        ),
+        (
+            "version = 2\nhierarchy = 1\nmembers = 9",
+            FoundingRefusal::WrongKind,
+        ),
+        (
+            "version = 2\nhierarchy = [\"limited\"]\nmembers = 1",
+            FoundingRefusal::WrongKind,
+        ),
+        (
+            "version = 2\nhierarchy = \"other\"\nmembers = 1",
+            FoundingRefusal::OutOfRange,
+        ),
+        (
+            "version = 2\nhierarchy = \"Limited\"\nmembers = 1",
+            FoundingRefusal::OutOfRange,
+        ),
+        (
+            "version = 2\nhierarchy = \"limited\"\nmembers = 0",
+            FoundingRefusal::OutOfRange,
+        ),
+        (
+            "version = 2\nhierarchy = \"limited\"\nmembers = 1",
+            FoundingRefusal::Repeated,
+        ),
+    ] {
+        expect_repeating_refused(&rt, rt.alloc(), lines, refusal);
     }
 }
 

@@ -135,6 +135,33 @@ fn a_pair_is_declared_as_it_stands<O: RoleOrder + Drop>(rt: &impl Abort, alloc: 
     drop(hierarchy);
 }
 
+// Compares which roles are the ascendant of a declared pair.
+fn assert_ascendants<O: RoleOrder>(
+    rt: &impl Abort,
+    alloc: Global,
+    hierarchy: &O,
+    rows: &[(&str, bool)],
+) {
+    for (role, wanted) in rows {
+        let found = hierarchy.has_descendant(&name(rt, alloc, role));
+        assert_eq!(rt; found, *wanted, "{role}");
+    }
+}
+
+fn an_ascendant_has_a_descendant<O: RoleOrder + Drop>(rt: &impl Abort, alloc: Global) {
+    let mut hierarchy: O = hierarchy_of(rt, alloc, &TWO_PATHS);
+    let rows = [("a", true), ("b", true), ("c", false), ("z", false)];
+    assert_ascendants(rt, alloc, &hierarchy, &rows);
+    // One of two pairs of a goes, and the one of b.
+    retract(rt, alloc, &mut hierarchy, "a", "c");
+    retract(rt, alloc, &mut hierarchy, "b", "c");
+    let rows = [("a", true), ("b", false), ("c", false)];
+    assert_ascendants(rt, alloc, &hierarchy, &rows);
+    remove_role(rt, alloc, &mut hierarchy, "b");
+    assert_ascendants(rt, alloc, &hierarchy, &[("a", false), ("b", false)]);
+    drop(hierarchy);
+}
+
 fn a_second_path_still_gives_what_one_gave<O: RoleOrder + Drop>(rt: &impl Abort, alloc: Global) {
     let mut hierarchy: O = hierarchy_of(rt, alloc, &TWO_PATHS);
     for (ascendant, descendant, c_of_a, c_of_b, b_of_a) in [
@@ -387,6 +414,7 @@ fn rules_of<O: RoleOrder + Drop>(rt: &impl Abort, alloc: Global) {
     among_no_roles_nothing_is_inherited::<O>(rt, alloc);
     a_role_inherits_itself_and_what_pairs_lead_to::<O>(rt, alloc);
     a_pair_is_declared_as_it_stands::<O>(rt, alloc);
+    an_ascendant_has_a_descendant::<O>(rt, alloc);
     a_second_path_still_gives_what_one_gave::<O>(rt, alloc);
     juniors_and_seniors_are_listed::<O>(rt, alloc);
     juniors_are_added_to_names::<O>(rt, alloc);

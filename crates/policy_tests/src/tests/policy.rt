@@ -2,22 +2,25 @@
 
 use super::named::{name, name_set, names};
 use rbac_decide::Policy;
-use rbac_terms::{Answer, Command, Denial, Review, Separation, Vocabulary};
+use rbac_terms::{Answer, Command, Denial, HierarchyKind, Review, Separation, Vocabulary};
 use std::alloc::Global;
 use std::process::Abort;
 
-// The policy that may read ledgers, and nothing else.
-fn founded(rt: &impl Abort, alloc: Global) -> Policy {
+// The words of a policy that may read ledgers, and nothing else.
+fn words(rt: &impl Abort, alloc: Global) -> Vocabulary {
     let mut permissions = Vec::new(alloc);
     let read = (name(rt, alloc, "read"), name(rt, alloc, "ledger"));
     permissions.push(read).expect(rt, "memory");
-    let vocabulary = Vocabulary::build(
+    Vocabulary::build(
         names(rt, alloc, &["pay", "read"]),
         names(rt, alloc, &["ledger"]),
         permissions,
     )
-    .expect(rt, "a vocabulary");
-    Policy::found(alloc, vocabulary)
+    .expect(rt, "a vocabulary")
+}
+
+fn founded(rt: &impl Abort, alloc: Global) -> Policy {
+    Policy::found(alloc, words(rt, alloc))
 }
 
 // Applies a command, and compares its answer.
@@ -317,5 +320,85 @@ fn what_a_pair_gives_is_counted_for_its_users(rt: HostRuntime) {
     let denied = Answer::Denied(Denial::SsdViolated);
     expect_answer(&rt, alloc, &mut policy, command, denied);
     assert_eq!(rt; count(&rt, alloc, &policy), 2);
+    drop(policy);
+}
+
+// Declares the pair of two roles, and compares the answer.
+fn expect_pair(
+    rt: &impl Abort,
+    alloc: Global,
+    policy: &mut Policy,
+    pair: (&str, &str),
+    wanted: Answer,
+) {
+    let (ascendant, descendant) = (name(rt, alloc, pair.0), name(rt, alloc, pair.1));
+    let command = Command::AddInheritance {
+        ascendant,
+        descendant,
+    };
+    expect_answer(rt, alloc, policy, command, wanted);
+}
+
+// Roles a, b and c, and the pair of a and b.
+fn three_roles(rt: &impl Abort, alloc: Global, kind: HierarchyKind) -> Policy {
+    let mut policy = Policy::found(alloc, words(rt, alloc).with_hierarchy(kind));
+    for role in ["a", "b", "c"] {
+        add_role(rt, alloc, &mut policy, role);
+    }
+    expect_pair(rt, alloc, &mut policy, ("a", "b"), Answer::Done);
+    policy
+}
+
+#[test]
+fn a_limited_hierarchy_has_one_descendant_a_role(rt: HostRuntime) {
+    let mut policy = three_roles(&rt, rt.alloc(), HierarchyKind::Limited);
+    for (pair, wanted) in [
+        (("a", "c"), Answer::Denied(Denial::Limited)),
+        (("a", "b"), Answer::Denied(Denial::Inherits)),
+        (("b", "a"), Answer::Denied(Denial::Cycle)),
+        (("c", "b"), Answer::Done),
+        (("a", "z"), Answer::Denied(Denial::NoRole)),
+    ] {
+        expect_pair(&rt, rt.alloc(), &mut policy, pair, wanted);
+    }
+    policy.invariants();
+    drop(policy);
+}
+
+#[test]
+fn a_general_hierarchy_has_any_number(rt: HostRuntime) {
+    let mut policy = three_roles(&rt, rt.alloc(), HierarchyKind::General);
+    expect_pair(&rt, rt.alloc(), &mut policy, ("a", "c"), Answer::Done);
+    drop(policy);
+}
+
+#[test]
+fn a_new_descendant_is_limited_and_a_new_ascendant_is_not(rt: HostRuntime) {
+    let alloc = rt.alloc();
+    let mut policy = three_roles(&rt, alloc, HierarchyKind::Limited);
+    let command = Command::AddDescendant {
+        ascendant: name(&rt, alloc, "a"),
+        descendant: name(&rt, alloc, "d"),
+    };
+    let limited = Answer::Denied(Denial::Limited);
+    expect_answer(&rt, alloc, &mut policy, command, limited);
+    let command = Command::AddAscendant {
+        ascendant: name(&rt, alloc, "e"),
+        descendant: name(&rt, alloc, "a"),
+    };
+    expect_done(&rt, alloc, &mut policy, command);
+    drop(policy);
+}
+
+#[test]
+fn a_pair_that_went_makes_room_for_another(rt: HostRuntime) {
+    let alloc = rt.alloc();
+    let mut policy = three_roles(&rt, alloc, HierarchyKind::Limited);
+    let command = Command::DeleteInheritance {
+        ascendant: name(&rt, alloc, "a"),
+        descendant: name(&rt, alloc, "b"),
+    };
+    expect_done(&rt, alloc, &mut policy, command);
+    expect_pair(&rt, alloc, &mut policy, ("a", "c"), Answer::Done);
     drop(policy);
 }

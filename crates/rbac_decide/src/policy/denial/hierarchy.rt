@@ -1,6 +1,6 @@
 //! The first failing precondition of each command about the role hierarchy.
 ghost use Rattle.std.specs.Prelude.{◌≡◌};
-ghost use Rattle.rbac_terms.specs.Rows.{first_denial, are_roles};
+ghost use Rattle.rbac_terms.specs.Rows.{first_denial, are_roles, is_limited_at};
 ghost use Rattle.rbac_terms.specs.declared.command.Command.TheVariants.{AddInheritance, DeleteInheritance, AddAscendant, AddDescendant};
 ghost use Rattle.rbac_decide.specs.Denying.{verdict, TellsDenial};
 
@@ -20,6 +20,13 @@ impl Policy {
         self.has_role(first) && self.has_role(second)
     }
 
+    // Whether the hierarchy is limited, and the role has its one declared descendant.
+    fn is_limited_at(&self, role: &Name) -> bool
+        ensures { result ≡ is_limited_at self.now role.now }
+    {
+        self.vocabulary.hierarchy().is_limited() && self.tables.hierarchy.has_descendant(role)
+    }
+
     pub(crate) fn may_add_inheritance(
         &self,
         alloc: Global,
@@ -34,6 +41,7 @@ impl Policy {
             Denial::Inherits,
         )?;
         deny_if(self.inherits(descendant, ascendant), Denial::Cycle)?;
+        deny_if(self.is_limited_at(ascendant), Denial::Limited)?;
         deny_if(
             self.inheritance_violates(alloc, ascendant, descendant)?,
             Denial::SsdViolated,
@@ -78,6 +86,7 @@ impl Policy {
     {
         deny_if(self.has_role(descendant), Denial::RoleExists)?;
         deny_if(!self.has_role(ascendant), Denial::NoRole)?;
+        deny_if(self.is_limited_at(ascendant), Denial::Limited)?;
         deny_if(self.role_count() >= MOST_ROLES, Denial::Limit)?;
         Ok(())
     }

@@ -1,4 +1,5 @@
 use Rattle.std.proofs.Common.{◌∙◌, true, false, sym, arith}
+use Rattle.rbac_terms.specs.declared.hierarchy_kind.HierarchyKind.TheVariants.{General}
 use Rattle.rbac_terms.proofs.VocabularyLemmas.{IsCounted, refusal_where_listed, vocabulary_of_sets}
 use Rattle.rbac_terms.proofs.vocabulary.Vocabulary.build.Goals as goal
 
@@ -28,7 +29,7 @@ counted c = record {
 pub invariant_of-result : goal.invariant_of-result
 invariant_of-result c =
     rw (c.in_ok-operations.ensures.content, c.in_ok-objects.ensures.content, c.in_ok-permissions.ensures.content)
-    (vocabulary_of_sets _ _ _ (counted c) (rw (← c.in_ok-operations.ensures.content, ← c.in_ok-objects.ensures.content, ← c.in_ok-permissions.ensures.content) (sym c.are_listed.ensures ∙ c.if-not-are_listed.false)))
+    (vocabulary_of_sets _ _ _ (counted c) (rw (← c.in_ok-operations.ensures.content, ← c.in_ok-objects.ensures.content, ← c.in_ok-permissions.ensures.content) (sym c.are_listed.ensures ∙ c.if-not-are_listed.false)) General)
 
 pub returns-clause-fits : goal.returns-clause-fits
 returns-clause-fits c = refusal_where_listed _ _ _ (counted c) true (rw (← c.in_ok-operations.ensures.content, ← c.in_ok-objects.ensures.content, ← c.in_ok-permissions.ensures.content) (sym c.are_listed.ensures ∙ c.if-not-are_listed.false))
