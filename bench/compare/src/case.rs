@@ -1,5 +1,7 @@
 //! One run of a program: its words, its founding and its schedule.
 
+use crate::text::contains;
+
 /// Stands for the schedule's own path among the words.
 pub const SCHEDULE_PATH: &str = "{}";
 
@@ -45,6 +47,20 @@ impl Case {
         }
         self.name = name;
         self
+    }
+
+    /// Whether its founding file is one of version 2 that says so in the plain way.
+    pub fn is_version_2(&self) -> bool {
+        self.founding_lines().any(|line| line == b"version = 2")
+    }
+
+    /// Whether its founding file, if it is taken, makes the hierarchy a limited one. Its first letter may be an escape.
+    pub fn is_limited(&self) -> bool {
+        self.founding_lines().any(|line| line.starts_with(b"hierarchy = ") && contains(line, b"imited"))
+    }
+
+    fn founding_lines(&self) -> impl Iterator<Item = &[u8]> {
+        self.founding.as_deref().map(lines_of).unwrap_or_default().into_iter()
     }
 
     pub fn lines(&self) -> Vec<&[u8]> {

@@ -3,7 +3,7 @@
 use crate::case::{Case, Played, lines_of};
 use crate::generate::{Choices, Members};
 use crate::group_run::{self, GroupRun};
-use crate::rows::{ENDS, GROUP_OUTCOMES, OUTCOMES, REFUSALS, row_of};
+use crate::rows::{ENDS, GROUP_OUTCOMES, Group, LIMITED_ROWS, OUTCOMES, REFUSALS, VERSION_2_ENDS, row_of};
 use crate::text::text_between;
 use std::collections::{BTreeMap, HashMap};
 
@@ -22,7 +22,12 @@ const UNREAD: &str = "(varied lines)";
 
 impl Coverage {
     pub fn count(&mut self, case: &Case, played: &Played) {
-        self.count_other(end_of(played));
+        let end = end_of(played);
+        if case.is_version_2() {
+            self.count_other(format!("version 2, {end}"));
+        }
+        self.count_other(end);
+        let is_limited = case.is_limited();
         // The command of each stamp.
         let mut submitted: HashMap<String, String> = HashMap::new();
         for (line, text) in case.lines().iter().zip(lines_of(&played.output)) {
@@ -41,7 +46,7 @@ impl Coverage {
                 self.count_other(word.to_owned());
             } else {
                 self.count_other("submitted".to_owned());
-                submitted.insert(stamp_of(&text).to_owned(), command_of(line));
+                submitted.insert(stamp_of(&text).to_owned(), command_of(line, is_limited));
             }
         }
         if case.is_group {
@@ -76,7 +81,7 @@ impl Coverage {
     /// What can occur at one member and did not.
     pub fn missing_of_one(&self, choices: &Choices) -> Vec<String> {
         let mut missing = self.missing_answers(choices);
-        let others = OUTCOMES.iter().chain(&REFUSALS).chain(&ENDS);
+        let others = OUTCOMES.iter().chain(&REFUSALS).chain(&ENDS).chain(&VERSION_2_ENDS);
         missing.extend(others.filter(|word| !self.others.contains_key(**word)).map(|word| word.to_string()));
         missing
     }
@@ -89,8 +94,8 @@ impl Coverage {
 
     /// The answers of commands that can occur and did not.
     fn missing_answers(&self, choices: &Choices) -> Vec<String> {
-        let rows = choices.rows();
-        let answers = rows.iter().flat_map(|row| row.answers.iter().map(|answer| (row.name, *answer)));
+        let rows = choices.rows().into_iter().chain(&LIMITED_ROWS);
+        let answers = rows.flat_map(|row| row.answers.iter().map(|answer| (row.name, *answer)));
         let absent = answers.filter(|(command, answer)| self.answers_of(command, answer) == 0);
         absent.map(|(command, answer)| format!("{command} {answer}")).collect()
     }
@@ -101,7 +106,7 @@ impl Coverage {
             row_of(command).map_or(command == UNREAD, |row| row.answers.contains(&answer))
         };
         let answers = self.answers.keys().filter(|(command, answer)| !is_known(command, answer));
-        let known = OUTCOMES.iter().chain(&GROUP_OUTCOMES).chain(&REFUSALS).chain(&ENDS);
+        let known = OUTCOMES.iter().chain(&GROUP_OUTCOMES).chain(&REFUSALS).chain(&ENDS).chain(&VERSION_2_ENDS);
         let others = self.others.keys().filter(|word| !known.clone().any(|known| known == word));
         answers.map(|(command, answer)| format!("{command} {answer}")).chain(others.cloned()).collect()
     }
@@ -142,12 +147,17 @@ fn word_of(answer: &str) -> &str {
         .unwrap_or("?")
 }
 
-fn command_of(line: &[u8]) -> String {
+/// The name of a line's command. Those of the hierarchy are counted by themselves where it is limited.
+fn command_of(line: &[u8], is_limited: bool) -> String {
     let line = String::from_utf8_lossy(line);
     let name = text_between(&line, "\"name\":\"", "\"").unwrap_or_default();
     // Where the key stands twice, or with escapes, another one may be meant.
-    let is_sure = line.matches("\"name\"").count() == 1 && !line.contains('\\') && row_of(name).is_some();
-    if is_sure { name.to_owned() } else { UNREAD.to_owned() }
+    let is_sure = line.matches("\"name\"").count() == 1 && !line.contains('\\');
+    match row_of(name).filter(|_| is_sure) {
+        Some(row) if is_limited && row.group == Group::Hierarchy => format!("{name}, limited"),
+        Some(_) => name.to_owned(),
+        None => UNREAD.to_owned(),
+    }
 }
 
 /// The status, and of a message its words but for the path of a file.

@@ -108,6 +108,14 @@ pub const ROWS: [Row; 43] = [
     row(Review, "DsdRoleSetCardinality", &["set"], &["count", "NoSet"]),
 ];
 
+/// The commands of the hierarchy where it is limited: each answer has to occur there too.
+pub const LIMITED_ROWS: [Row; 4] = [
+    row(Hierarchy, "AddInheritance, limited", PAIR, &["Done", "NoRole", "Inherits", "Cycle", "Limited", "SsdViolated"]),
+    row(Hierarchy, "DeleteInheritance, limited", PAIR, &["Done", "NoRole", "NoInheritance"]),
+    row(Hierarchy, "AddAscendant, limited", PAIR, &["Done", "RoleExists", "NoRole", "Limit"]),
+    row(Hierarchy, "AddDescendant, limited", PAIR, &["Done", "RoleExists", "NoRole", "Limited", "Limit"]),
+];
+
 /// What a line can get besides the answer of a command.
 pub const OUTCOMES: [&str; 3] = ["submitted", "delivered", "delivered nothing"];
 
@@ -149,6 +157,21 @@ pub const ENDS: [&str; 14] = [
     "status 2",
 ];
 
+/// How a run can end on a founding file of version 2, besides.
+pub const VERSION_2_ENDS: [&str; 10] = [
+    "version 2, status 0",
+    "version 2, status 1 founding: TooLong",
+    "version 2, status 1 founding: NotToml",
+    "version 2, status 1 founding: UnknownKey",
+    "version 2, status 1 founding: MissingKey",
+    "version 2, status 1 founding: WrongKind",
+    "version 2, status 1 founding: OutOfRange",
+    "version 2, status 1 founding: BadName",
+    "version 2, status 1 founding: Repeated",
+    "version 2, status 1 founding: UnknownName",
+];
+
+/// The row of a command, or of a command of a limited hierarchy.
 pub fn row_of(name: &str) -> Option<&'static Row> {
-    ROWS.iter().find(|row| row.name == name)
+    ROWS.iter().chain(&LIMITED_ROWS).find(|row| row.name == name)
 }

@@ -10,6 +10,8 @@ const LAST_START: u64 = 1 << 52;
 
 /// What an answer is, and why a command was not taken.
 const ANSWERS: [&str; 6] = ["Done", "Granted", "Refused", "names", "permissions", "count"];
+/// The denial of a founding file of version 2, which the conversations reach too.
+const DENIALS: [&str; 1] = ["Limited"];
 const DESK_REFUSALS: [&str; 3] = ["UnknownMember", "ClockFull", "SentFull"];
 
 /// The schedules that are played from standard input, as client lines: submits lose what is not a client's, other events go. A line
@@ -88,7 +90,7 @@ impl Told {
     pub fn missing(&self) -> Vec<&str> {
         let schedules_alone = ["Repeat", "Gap", "BadSerial", "NotSent", "FromSelf", "UnknownWord"];
         let refusals = REFUSALS.iter().filter(|word| !schedules_alone.contains(word));
-        let wanted = ANSWERS.iter().chain(&DESK_REFUSALS).chain(refusals);
+        let wanted = ANSWERS.iter().chain(&DENIALS).chain(&DESK_REFUSALS).chain(refusals);
         wanted.filter(|word| !self.words.contains_key(**word)).copied().collect()
     }
 

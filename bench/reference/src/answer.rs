@@ -45,6 +45,7 @@ pub enum Denial {
     Limit,
     NoOperation,
     NoObject,
+    Limited,
 }
 
 impl Denial {

@@ -2,6 +2,7 @@
 
 use crate::limits;
 use crate::name::Name;
+use crate::policy::HierarchyKind;
 use crate::toml::{self, Entries, Value};
 use crate::vocabulary::Vocabulary;
 use std::collections::HashSet;
@@ -12,6 +13,7 @@ pub struct Founding {
     pub clock: u64,
     pub sent_limit: u32,
     pub vocabulary: Vocabulary,
+    pub hierarchy: HierarchyKind,
 }
 
 /// In the order in which the checks are made, each over the whole file.
@@ -33,6 +35,11 @@ use FoundingRefusal::*;
 
 const NEEDED: [&str; 5] = ["version", "members", "operations", "objects", "permissions"];
 const OPTIONAL: [&str; 2] = ["clock", "sent_limit"];
+/// The key that a file of version 2 has besides, and needs. To one of version 1 it is unknown.
+const HIERARCHY: &str = "hierarchy";
+
+const GENERAL: &str = "general";
+const LIMITED: &str = "limited";
 
 /// The founding that is played where no file is named.
 pub const SAMPLE: &str = r#"version = 1
@@ -45,11 +52,20 @@ permissions = [["approve", "invoice"], ["pay", "invoice"], ["read", "ledger"]]
 pub fn read_founding(bytes: &[u8]) -> Result<Founding, FoundingRefusal> {
     require(bytes.len() <= limits::FOUNDING_BYTES, TooLong)?;
     let entries = toml::read(bytes).map_err(|_| NotToml)?;
-    require(entry(&entries, "version") == Some(&Value::Whole(1)), BadVersion)?;
-    let is_known = |key: &str| NEEDED.contains(&key) || OPTIONAL.contains(&key);
+    let needed = needed_keys(entry(&entries, "version")).ok_or(BadVersion)?;
+    let is_known = |key: &str| needed.contains(&key) || OPTIONAL.contains(&key);
     require(entries.iter().all(|(key, _)| is_known(key)), UnknownKey)?;
-    require(NEEDED.iter().all(|key| entry(&entries, key).is_some()), MissingKey)?;
+    require(needed.iter().all(|key| entry(&entries, key).is_some()), MissingKey)?;
     Texts::of(&entries)?.founding()
+}
+
+/// The keys that a file of this version needs, or none where there is no such version.
+fn needed_keys(version: Option<&Value>) -> Option<Vec<&'static str>> {
+    match version? {
+        Value::Whole(1) => Some(NEEDED.to_vec()),
+        Value::Whole(2) => Some([&NEEDED[..], &[HIERARCHY]].concat()),
+        _ => None,
+    }
 }
 
 fn require(holds: bool, refusal: FoundingRefusal) -> Result<(), FoundingRefusal> {
@@ -65,6 +81,7 @@ struct Texts<'a> {
     members: i64,
     clock: i64,
     sent_limit: i64,
+    hierarchy: &'a str,
     operations: Vec<&'a str>,
     objects: Vec<&'a str>,
     permissions: Vec<(&'a str, &'a str)>,
@@ -78,6 +95,8 @@ impl<'a> Texts<'a> {
             members: number("members", 0)?,
             clock: number("clock", 0)?,
             sent_limit: number("sent_limit", limits::SENT.into())?,
+            // A file of version 1 has no such key, and its hierarchy is general.
+            hierarchy: entry(entries, HIERARCHY).map_or(Ok(GENERAL), text)?,
             operations: items("operations")?.iter().map(text).collect::<Result<_, _>>()?,
             objects: items("objects")?.iter().map(text).collect::<Result<_, _>>()?,
             permissions: items("permissions")?.iter().map(pair).collect::<Result<_, _>>()?,
@@ -91,10 +110,11 @@ impl<'a> Texts<'a> {
         require(clock <= limits::CLOCK, OutOfRange)?;
         let sent_limit = u32::try_from(self.sent_limit).map_err(|_| OutOfRange)?;
         require((1..=limits::SENT).contains(&sent_limit), OutOfRange)?;
+        let hierarchy = hierarchy_kind(self.hierarchy).ok_or(OutOfRange)?;
         require(self.operations.len() <= limits::OPERATIONS, OutOfRange)?;
         require(self.objects.len() <= limits::OBJECTS, OutOfRange)?;
         require(self.permissions.len() <= limits::PERMISSIONS, OutOfRange)?;
-        Ok(Founding { members, clock, sent_limit, vocabulary: self.vocabulary()? })
+        Ok(Founding { members, clock, sent_limit, vocabulary: self.vocabulary()?, hierarchy })
     }
 
     fn vocabulary(&self) -> Result<Vocabulary, FoundingRefusal> {
@@ -113,6 +133,14 @@ impl<'a> Texts<'a> {
             |(operation, object): &(Name, Name)| operation_set.contains(operation) && object_set.contains(object);
         require(pairs.iter().all(is_listed), UnknownName)?;
         Ok(Vocabulary::new(operations, objects, pairs))
+    }
+}
+
+fn hierarchy_kind(text: &str) -> Option<HierarchyKind> {
+    match text {
+        GENERAL => Some(HierarchyKind::General),
+        LIMITED => Some(HierarchyKind::Limited),
+        _ => None,
     }
 }
 

@@ -17,8 +17,18 @@ use crate::vocabulary::Vocabulary;
 use std::collections::BTreeMap;
 use std::rc::Rc;
 
+/// What the founding says of the declared pairs.
+#[derive(Clone, Copy, Debug, PartialEq, Eq)]
+pub enum HierarchyKind {
+    /// A role may be the ascendant of any number of pairs.
+    General,
+    /// A role may be the ascendant of one pair.
+    Limited,
+}
+
 pub struct Policy {
     vocabulary: Rc<Vocabulary>,
+    kind: HierarchyKind,
     users: Table<User>,
     roles: Table<Role>,
     sessions: Table<Session>,
@@ -53,9 +63,10 @@ struct SeparationSet {
 type Changed = Result<(), Denial>;
 
 impl Policy {
-    pub fn new(vocabulary: Rc<Vocabulary>) -> Policy {
+    pub fn new(vocabulary: Rc<Vocabulary>, kind: HierarchyKind) -> Policy {
         Policy {
             vocabulary,
+            kind,
             users: Table::new(),
             roles: Table::new(),
             sessions: Table::new(),

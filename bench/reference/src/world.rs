@@ -6,6 +6,7 @@ use crate::answer::Answer;
 use crate::command::Command;
 use crate::event::Event;
 use crate::founding::Founding;
+use crate::policy::Policy;
 use member::{Limits, Member};
 use std::rc::Rc;
 
@@ -66,7 +67,8 @@ impl World {
     pub fn new(founding: Founding) -> World {
         let vocabulary = Rc::new(founding.vocabulary);
         let limits = Limits { members: founding.members, sent: founding.sent_limit };
-        let member = |number| Member::new(number, founding.clock, limits, Rc::clone(&vocabulary));
+        let policy = || Policy::new(Rc::clone(&vocabulary), founding.hierarchy);
+        let member = |number| Member::new(number, founding.clock, limits, policy());
         World { members: (1..=founding.members).map(member).collect() }
     }
 

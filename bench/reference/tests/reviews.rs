@@ -1,54 +1,10 @@
 //! Commands and the answers that the rules give them, written by hand.
 
-use std::io::Write;
-use std::process::{Command, Stdio};
-
-/// Submits and delivers each command to one member of the sample founding, and gives the answers.
-fn answers(commands: &[&str]) -> Vec<String> {
-    let mut process = Command::new(env!("CARGO_BIN_EXE_reference"))
-        .args(["play", "-", "-"])
-        .stdin(Stdio::piped())
-        .stdout(Stdio::piped())
-        .spawn()
-        .expect("the program starts");
-    let mut input = process.stdin.take().expect("a piped input");
-    for (serial, command) in commands.iter().enumerate() {
-        let submit = format!(r#"{{"do":"submit","at":1,"caller":0,"serial":{serial},"command":{command}}}"#);
-        let deliver = r#"{"do":"deliver","at":1}"#;
-        writeln!(input, "{submit}\n{deliver}").expect("the input is taken");
-    }
-    drop(input);
-    let output = process.wait_with_output().expect("the program ends");
-    let text = String::from_utf8(output.stdout).expect("a text");
-    let answer = |line: &str| line.strip_prefix(r#"{"answer":"#)?.split(r#","caller""#).next().map(str::to_owned);
-    text.lines().filter_map(answer).collect()
-}
+mod answering;
+mod playing;
 
 fn check(rows: &[(&str, &str)]) {
-    let commands: Vec<String> = rows.iter().map(|(command, _)| command_object(command)).collect();
-    let answers = answers(&commands.iter().map(String::as_str).collect::<Vec<_>>());
-    let wanted: Vec<&str> = rows.iter().map(|(_, answer)| *answer).collect();
-    for (place, (command, _)) in rows.iter().enumerate() {
-        assert_eq!(answers.get(place).map(String::as_str), Some(wanted[place]), "{place}: {command}");
-    }
-    assert_eq!(answers.len(), wanted.len());
-}
-
-/// `AssignUser user=ann role=clerk` as an object. A value in brackets is an array of names, a value of digits a number.
-fn command_object(text: &str) -> String {
-    let (name, fields) = text.split_once(' ').unwrap_or((text, ""));
-    let mut object = format!(r#"{{"name":"{name}""#);
-    for field in fields.split_whitespace() {
-        let (key, value) = field.split_once('=').expect("a value");
-        let value = match value.strip_prefix('[') {
-            Some("]") => "[]".to_owned(),
-            Some(items) => format!(r#"["{}"]"#, items.trim_end_matches(']').replace(',', r#"",""#)),
-            None if value.parse::<u32>().is_ok() => value.to_owned(),
-            None => format!(r#""{value}""#),
-        };
-        object += &format!(r#","{key}":{value}"#);
-    }
-    object + "}"
+    answering::check("", rows);
 }
 
 const DONE: &str = r#""Done""#;

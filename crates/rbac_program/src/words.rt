@@ -30,8 +30,8 @@ const SAMPLE_AND_INPUT: Play<'static> = Play {
 const ABOUT: &str =
     "Takes commands of role-based access control, one JSON object a line, and answers each line";
 
-// The founding format that is read, the date of this version, and the kit that it is proved with.
-const VERSION: &str = "1 (2026-11-26, rattle-kit-13f logic dac8208d650f15bf)";
+// The last founding format that is read, the date of this version, and the kit that it is proved with.
+const VERSION: &str = "2 (2026-11-26, rattle-kit-13f logic dac8208d650f15bf)";
 
 const AFTER_HELP: &str = "\
 Without words: the same as 'play - -'.
@@ -67,7 +67,8 @@ The commands with their fields, of which roles is an array of names, n a number,
   SsdRoleSetRoles DsdRoleSetRoles SsdRoleSetCardinality DsdRoleSetCardinality  set
 
 A founding file is TOML with the keys
-  version = 1                needed
+  version                    1 or 2, needed
+  hierarchy                  \"general\" or \"limited\", needed in version 2; version 1 has no such key, and is general
   members                    a whole number from 1 to 8, needed
   operations, objects        arrays of names, needed
   permissions                an array of [operation, object], needed

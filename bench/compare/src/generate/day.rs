@@ -40,6 +40,14 @@ const GROWING: [&str; 9] = [
     "CreateDsdSet",
 ];
 
+/// A founding's version and, from version 2 on, its kind of hierarchy.
+const VERSIONS: [&str; 4] = [
+    "version = 1",
+    "version = 2\nhierarchy = \"general\"",
+    "version = 2\nhierarchy = \"limited\"",
+    "version = 2\nhierarchy = \"limited\"",
+];
+
 /// How many lines come between two surveys.
 const SURVEYED: usize = 60;
 
@@ -110,14 +118,15 @@ impl<'a> Day<'a> {
         Day { random, rows, users, roles, sessions, sets, operations, objects }
     }
 
-    /// A founding with the operations and objects of the day, about half of their pairs as permissions, and these lines on
+    /// A founding of either version with the operations and objects of the day, about half of their pairs as permissions, and these lines on
     /// its group.
     pub fn founding(&mut self, group: &str) -> String {
         let Day { random, operations, objects, .. } = self;
         let pairs = operations.iter().flat_map(|operation| objects.iter().map(move |object| [*operation, *object]));
         let permissions: Vec<[&str; 2]> = pairs.filter(|_| random.chance(60)).collect();
+        let version = random.pick(&VERSIONS);
         format!(
-            "version = 1\n{group}\noperations = {operations:?}\nobjects = {objects:?}\npermissions = {permissions:?}\n"
+            "{version}\n{group}\noperations = {operations:?}\nobjects = {objects:?}\npermissions = {permissions:?}\n"
         )
     }
 

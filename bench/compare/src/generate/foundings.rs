@@ -8,6 +8,10 @@ const SCHEDULE: &[u8] = b"{\"do\":\"submit\",\"at\":1,\"caller\":0,\"serial\":0,
 {\"do\":\"deliver\",\"at\":1}
 {\"do\":\"submit\",\"at\":1,\"caller\":0,\"serial\":1,\"command\":{\"name\":\"GrantPermission\",\"operation\":\"o\",\"object\":\"x\",\"role\":\"r\"}}
 {\"do\":\"deliver\",\"at\":1}
+{\"do\":\"submit\",\"at\":1,\"caller\":0,\"serial\":2,\"command\":{\"name\":\"AddDescendant\",\"ascendant\":\"r\",\"descendant\":\"s\"}}
+{\"do\":\"deliver\",\"at\":1}
+{\"do\":\"submit\",\"at\":1,\"caller\":0,\"serial\":3,\"command\":{\"name\":\"AddDescendant\",\"ascendant\":\"r\",\"descendant\":\"t\"}}
+{\"do\":\"deliver\",\"at\":1}
 ";
 
 /// A key with values that are taken, and values that are refused.
@@ -20,8 +24,8 @@ struct Key {
 const KEYS: [Key; 7] = [
     Key {
         name: "version",
-        good: &["1", "0x1", "+1", "0b0_1", "0o1"],
-        bad: &["2", "0", "-1", "1.0", "'1'", "[1]", "true", "01", "1_"],
+        good: &["1", "0x1", "+1", "0b0_1", "0o1", "2", "0x2", "+2", "0b1_0", "0o2"],
+        bad: &["3", "0", "-1", "1.0", "2.0", "'1'", "'2'", "[1]", "true", "01", "02", "1_"],
     },
     Key {
         name: "members",
@@ -84,14 +88,91 @@ const KEYS: [Key; 7] = [
     },
 ];
 
+/// The key that a file of version 2 needs besides. To one of version 1 it is unknown.
+const HIERARCHY: Key = Key {
+    name: "hierarchy",
+    good: &[
+        "\"general\"",
+        "\"limited\"",
+        "'general'",
+        "'limited'",
+        "\"\"\"general\"\"\"",
+        "\"gener\\u0061l\"",
+        "\"\\u006cimited\"",
+    ],
+    bad: &[
+        "''",
+        "'Limited'",
+        "\"limited \"",
+        "'none'",
+        "'a b'",
+        "1",
+        "true",
+        "['limited']",
+        "[]",
+        "2.0",
+        "limited",
+        "'limited",
+    ],
+};
+
+/// A founding file's version, as the file without mistakes has it.
+#[derive(Clone, Copy)]
+enum Version {
+    First,
+    Second,
+}
+
+const VERSIONS: [Version; 2] = [Version::First, Version::Second];
+
+impl Version {
+    fn number(self) -> &'static str {
+        match self {
+            Version::First => "1",
+            Version::Second => "2",
+        }
+    }
+
+    fn keys(self) -> impl Iterator<Item = &'static Key> {
+        let more = match self {
+            Version::First => None,
+            Version::Second => Some(&HIERARCHY),
+        };
+        KEYS.iter().chain(more)
+    }
+
+    /// The first good value of a key.
+    fn usual(self, key: &Key) -> &'static str {
+        if key.name == "version" { self.number() } else { key.good[0] }
+    }
+
+    /// A file with each key once, a key's value being this one where it is named.
+    fn with_value(self, changed: &str, value: &str) -> String {
+        self.with_values(&[(changed, value)])
+    }
+
+    fn with_values(self, changed: &[(&str, &str)]) -> String {
+        let line = |key: &Key| {
+            let value = changed.iter().find(|(name, _)| *name == key.name).map_or(self.usual(key), |(_, value)| value);
+            format!("{} = {value}\n", key.name)
+        };
+        self.keys().map(line).collect()
+    }
+
+    fn good(self) -> String {
+        self.with_values(&[])
+    }
+}
+
 pub fn cases(random: &mut Random, extent: Extent) -> Vec<Case> {
-    let mut foundings: Vec<String> = each_value().chain(at_the_limits()).collect();
-    foundings.extend(each_two_faults());
+    let mut foundings: Vec<String> = VERSIONS.into_iter().flat_map(each_value).collect();
+    foundings.extend(VERSIONS.into_iter().flat_map(at_the_limits));
+    foundings.extend(VERSIONS.into_iter().flat_map(each_two_faults));
     foundings.extend((0..150).map(|_| mixed(random)));
     if extent == Extent::Short {
         random.shuffle(&mut foundings);
         foundings.truncate(12);
-        foundings.extend(each_refusal());
+        foundings.extend(VERSIONS.into_iter().flat_map(each_refusal));
     }
     let named = |(number, text): (usize, String)| {
         Case::new(format!("founding-{number:04}"), Some(text.into_bytes()), SCHEDULE.to_vec())
@@ -99,32 +180,26 @@ pub fn cases(random: &mut Random, extent: Extent) -> Vec<Case> {
     foundings.into_iter().enumerate().map(named).collect()
 }
 
-/// A file with each key once, a key's value being this one where it is named.
-fn with_value(changed: &str, value: &str) -> String {
-    with_values(&[(changed, value)])
-}
-
-fn with_values(changed: &[(&str, &str)]) -> String {
-    let line = |key: &Key| {
-        let value = changed.iter().find(|(name, _)| *name == key.name).map_or(key.good[0], |(_, value)| value);
-        format!("{} = {value}\n", key.name)
-    };
-    KEYS.iter().map(line).collect()
-}
-
 /// Each two bad values of two keys, of which the check that comes first is named.
-fn each_two_faults() -> Vec<String> {
-    let bad: Vec<(&str, &str)> = KEYS.iter().flat_map(|key| key.bad.iter().map(|value| (key.name, *value))).collect();
+fn each_two_faults(version: Version) -> Vec<String> {
+    let bad = version.keys().flat_map(|key| key.bad.iter().map(|value| (key.name, *value)));
+    let bad: Vec<(&str, &str)> = bad.collect();
     let pairs =
         bad.iter().enumerate().flat_map(|(place, first)| bad[place + 1..].iter().map(move |second| [*first, *second]));
-    pairs.filter(|[first, second]| first.0 != second.0).map(|pair| with_values(&pair)).collect()
+    pairs.filter(|[first, second]| first.0 != second.0).map(|pair| version.with_values(&pair)).collect()
 }
 
-/// One file for each refusal, and two that are taken.
-fn each_refusal() -> impl Iterator<Item = String> {
-    let good = with_value("", "");
+/// One file for each refusal, and some that are taken.
+fn each_refusal(version: Version) -> impl Iterator<Item = String> {
+    let good = version.good();
     let changed = [
+        ("version", "3"),
+        // A needed key is absent, or a key is unknown.
         ("version", "2"),
+        ("version", "1"),
+        ("hierarchy", "['limited']"),
+        ("hierarchy", "'none'"),
+        ("hierarchy", "\"limited\""),
         ("members", "'1'"),
         ("members", "9"),
         ("clock", "01"),
@@ -133,10 +208,11 @@ fn each_refusal() -> impl Iterator<Item = String> {
         ("permissions", "[['o','moon']]"),
         ("operations", "[\"\\x6f\"]"),
     ];
-    let changed = changed.map(|(key, value)| with_value(key, value));
+    let changed = changed.map(|(key, value)| version.with_value(key, value));
     let others = [
         format!("{good}#{}", " ".repeat(1_048_576)),
         format!("{good}colour = 1\n"),
+        format!("{good}hierarchy = \"general\"\n"),
         good.replace("members = 1\n", ""),
         good,
     ];
@@ -144,17 +220,18 @@ fn each_refusal() -> impl Iterator<Item = String> {
 }
 
 /// Each value by itself, and each key left out.
-fn each_value() -> impl Iterator<Item = String> {
-    let values = KEYS.iter().flat_map(|key| key.good.iter().chain(key.bad).map(|value| with_value(key.name, value)));
-    let without = KEYS.iter().map(|left_out| {
-        let kept = KEYS.iter().filter(|key| key.name != left_out.name);
-        kept.map(|key| format!("{} = {}\n", key.name, key.good[0])).collect()
-    });
-    let good = with_value("", "");
+fn each_value(version: Version) -> impl Iterator<Item = String> {
+    let value_of =
+        move |key: &'static Key| key.good.iter().chain(key.bad).map(move |value| version.with_value(key.name, value));
+    let without = move |left_out: &Key| {
+        let kept = version.keys().filter(|key| key.name != left_out.name);
+        kept.map(|key| format!("{} = {}\n", key.name, version.usual(key))).collect()
+    };
+    let good = version.good();
     let texts = [
         String::new(),
         "# nothing".to_owned(),
-        "version = 1".to_owned(),
+        format!("version = {}", version.number()),
         good.replace('\n', "\r\n"),
         format!("\n\n  # first\n{good}"),
         good.replace("version", "\"version\"").replace("members", "'members'"),
@@ -163,18 +240,20 @@ fn each_value() -> impl Iterator<Item = String> {
         format!("{good}colour = 1\n"),
         format!("{good}\"\" = 1\n"),
         format!("{good}version = 1\n"),
+        format!("{good}hierarchy = 'limited'\n"),
         format!("{good}'version' = 1\n"),
         format!("{good}x"),
         good.trim_end().to_owned(),
         format!("\u{feff}{good}"),
         format!("{}# end", good),
     ];
-    values.chain(without).chain(texts)
+    version.keys().flat_map(value_of).chain(version.keys().map(without)).chain(texts)
 }
 
 /// Files of about the longest size, and arrays of about the most entries.
-fn at_the_limits() -> impl Iterator<Item = String> {
-    let good = with_value("", "");
+fn at_the_limits(version: Version) -> impl Iterator<Item = String> {
+    let good = version.good();
+    let with_value = |key, value: &String| version.with_value(key, value);
     let long =
         [1_048_575, 1_048_576, 1_048_577].map(|length| format!("{good}#{}", " ".repeat(length - good.len() - 1)));
     let list = |items: &mut dyn Iterator<Item = String>| format!("[{}]", items.collect::<Vec<_>>().join(","));
@@ -190,15 +269,21 @@ fn at_the_limits() -> impl Iterator<Item = String> {
 /// Keys in any order, most with good values, some left out, and sometimes one that is unknown.
 fn mixed(random: &mut Random) -> String {
     let mut lines = Vec::new();
-    for key in &KEYS {
+    let version = random.pick(&VERSIONS);
+    for key in version.keys() {
         match random.below(20) {
             0 => {}
             1..4 => lines.push(format!("{} = {}", key.name, random.pick(key.bad))),
+            _ if key.name == "version" => lines.push(format!("version = {}", version.number())),
             _ => lines.push(format!("{} = {}", key.name, random.pick(key.good))),
         }
     }
     if random.chance(8) {
-        lines.push(random.pick(&["colour = 1", "Version = 1", "hierarchy = 'general'", "\"a b\" = []"]).to_string());
+        lines.push(
+            random
+                .pick(&["colour = 1", "Version = 1", "hierarchy = 'general'", "Hierarchy = 'general'", "\"a b\" = []"])
+                .to_string(),
+        );
     }
     random.shuffle(&mut lines);
     let end = random.pick(&["\n", "\n\n", " # why\n", "\r\n"]);

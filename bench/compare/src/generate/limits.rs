@@ -14,6 +14,7 @@ pub fn cases(random: &mut Random) -> Vec<Case> {
     let named = |name: &str, founding, schedule| Case::new(format!("limit-{name}"), founding, schedule);
     let mut cases = vec![
         named("roles", None, all_roles()),
+        named("roles-limited", Some(limited_founding()), all_roles()),
         named("static-sets", None, sets("Ssd")),
         named("dynamic-sets", None, sets("Dsd")),
         named("users", None, users()),
@@ -34,6 +35,10 @@ pub fn cases(random: &mut Random) -> Vec<Case> {
     let both = format!("version = 1\nmembers = 1\nclock = 9007199254740981\nsent_limit = 10\n{VOCABULARY}");
     cases.push(named("clock-and-sent", Some(both.into_bytes()), submits(random)));
     cases
+}
+
+fn limited_founding() -> Vec<u8> {
+    format!("version = 2\nhierarchy = \"limited\"\nmembers = 1\n{VOCABULARY}").into_bytes()
 }
 
 fn field(key: &'static str, name: &str) -> (&'static str, Tree) {

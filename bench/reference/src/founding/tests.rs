@@ -24,7 +24,8 @@ fn each_refusal() {
     assert_eq!(refusal("none", &"#".repeat(1_048_577)), Some(TooLong));
     assert_eq!(refusal("none", "clock"), Some(NotToml));
     assert_eq!(refusal("none", "version = 1"), Some(NotToml));
-    for line in ["", "version = 2", "version = 1.0", "version = \"1\""] {
+    for line in ["", "version = 0", "version = 3", "version = -1", "version = 1.0", "version = 2.0", "version = \"2\""]
+    {
         assert_eq!(refusal("version", line), Some(BadVersion), "{line}");
     }
     assert_eq!(refusal("none", "colour = 1"), Some(UnknownKey));
@@ -54,6 +55,49 @@ fn each_refusal() {
     assert_eq!(refusal("objects", "objects = [\"invoice\", \"ledger\", \"ledger\"]"), Some(Repeated));
     assert_eq!(refusal("permissions", "permissions = [[\"fly\", \"ledger\"], [\"fly\", \"ledger\"]]"), Some(Repeated));
     assert_eq!(refusal("permissions", "permissions = [[\"read\", \"moon\"]]"), Some(UnknownName));
+}
+
+/// What becomes of the sample in version 2 with this line.
+fn refusal_of_version_2(line: &str) -> Option<FoundingRefusal> {
+    refusal("version", &format!("version = 2\n{line}"))
+}
+
+#[test]
+fn version_2_needs_a_kind_of_hierarchy() {
+    let kind = |line: &str| {
+        let text = SAMPLE.replace("version = 1", line);
+        read_founding(text.as_bytes()).map(|founding| founding.hierarchy)
+    };
+    assert_eq!(kind("version = 1"), Ok(HierarchyKind::General));
+    assert_eq!(kind("version = 2\nhierarchy = \"general\""), Ok(HierarchyKind::General));
+    assert_eq!(kind("hierarchy = 'limited'\nversion = 0x2"), Ok(HierarchyKind::Limited));
+    assert_eq!(refusal("none", "hierarchy = \"general\""), Some(UnknownKey));
+    assert_eq!(refusal("none", "hierarchy = 1"), Some(UnknownKey));
+    assert_eq!(refusal("version", "hierarchy = \"general\""), Some(BadVersion));
+    assert_eq!(refusal("version", "version = 3\nhierarchy = \"general\""), Some(BadVersion));
+    assert_eq!(refusal_of_version_2(""), Some(MissingKey));
+    for value in ["1", "[]", "[\"limited\"]", "true", "1.0"] {
+        assert_eq!(refusal_of_version_2(&format!("hierarchy = {value}")), Some(WrongKind), "{value}");
+    }
+    for value in ["\"\"", "\"Limited\"", "\"limited \"", "\"a b\"", "\"none\""] {
+        assert_eq!(refusal_of_version_2(&format!("hierarchy = {value}")), Some(OutOfRange), "{value}");
+    }
+}
+
+/// Each check is made over the whole file, so what is wrong with this key is named among what is wrong with the others.
+#[test]
+fn the_kind_is_looked_at_in_the_order_of_the_checks() {
+    let with = |members: &str, line: &str| {
+        let text = SAMPLE.replace("version = 1", &format!("version = 2\n{line}")).replace("members = 1\n", members);
+        read_founding(text.as_bytes()).err()
+    };
+    assert_eq!(with("members = 1\ncolour = 1\n", ""), Some(UnknownKey));
+    assert_eq!(with("members = \"1\"\n", ""), Some(MissingKey));
+    assert_eq!(with("", "hierarchy = 1"), Some(MissingKey));
+    assert_eq!(with("members = \"1\"\n", "hierarchy = \"none\""), Some(WrongKind));
+    assert_eq!(with("members = 9\n", "hierarchy = 1"), Some(WrongKind));
+    let bad_name = SAMPLE.replace("version = 1", "version = 2\nhierarchy = \"none\"").replace("ledger", "a b");
+    assert_eq!(read_founding(bad_name.as_bytes()).err(), Some(OutOfRange));
 }
 
 #[test]

@@ -1,6 +1,6 @@
 //! The declared pairs of ascendant and descendant, and what is found by search over them.
 
-use super::{Changed, Policy, Role, require};
+use super::{Changed, HierarchyKind, Policy, Role, require};
 use crate::answer::Denial;
 use crate::name::Name;
 use crate::number_set::NumberSet;
@@ -11,6 +11,7 @@ impl Policy {
         let descendant = self.role(descendant)?;
         require(!self.roles.get(ascendant).descendants.contains(descendant), Denial::Inherits)?;
         require(!self.juniors_of(descendant).contains(ascendant), Denial::Cycle)?;
+        self.require_no_descendant(ascendant)?;
         self.declare(ascendant, descendant);
         if self.users.iter().any(|(user, _)| self.breaks_static_sets(user)) {
             self.retract(ascendant, descendant);
@@ -39,9 +40,16 @@ impl Policy {
     pub(super) fn add_descendant(&mut self, ascendant: &Name, descendant: &Name) -> Changed {
         require(self.roles.number(descendant).is_none(), Denial::RoleExists)?;
         let ascendant = self.role(ascendant)?;
+        self.require_no_descendant(ascendant)?;
         let descendant = self.new_role(descendant)?;
         self.declare(ascendant, descendant);
         Ok(())
+    }
+
+    /// Under a limited hierarchy a role is the ascendant of one pair at most. A new role is that of none.
+    fn require_no_descendant(&self, ascendant: usize) -> Changed {
+        let is_free = self.kind == HierarchyKind::General || self.roles.get(ascendant).descendants.is_empty();
+        require(is_free, Denial::Limited)
     }
 
     fn declare(&mut self, ascendant: usize, descendant: usize) {

@@ -3,7 +3,6 @@
 use super::{Call, EventRefusal, Message, Record, Stamp};
 use crate::limits;
 use crate::policy::Policy;
-use crate::vocabulary::Vocabulary;
 use std::collections::{BTreeMap, HashMap};
 use std::rc::Rc;
 
@@ -37,7 +36,7 @@ pub struct Limits {
 }
 
 impl Member {
-    pub fn new(number: u32, clock: u64, limits: Limits, vocabulary: Rc<Vocabulary>) -> Member {
+    pub fn new(number: u32, clock: u64, limits: Limits, policy: Policy) -> Member {
         Member {
             number,
             clock,
@@ -46,7 +45,7 @@ impl Member {
             links: vec![Link::default(); limits.members as usize],
             next_serials: HashMap::new(),
             held: BTreeMap::new(),
-            policy: Policy::new(vocabulary),
+            policy,
         }
     }
 
