@@ -4,12 +4,14 @@ ghost use Rattle.rbac_words.specs.Stamp.{IsBefore};
 
 use std::cmp::Ordering;
 
-/// When a message was sent: the sender's clock and the sender's number. The smaller clock comes first, and equal clocks
-/// are ordered by the smaller member number (Lamport 1978, "Ordering the Events Totally").
+/// When a command was submitted or a message sent: the sender's clock, the sender's number, and the command's place in its
+/// message, counted from 0. The smaller clock comes first, and equal clocks are ordered by the smaller member number (Lamport
+/// 1978, "Ordering the Events Totally"); the commands of one message are in the order of their places.
 #[derive(Clone, Copy, Debug, PartialEq, Eq, Drop)]
 pub struct Stamp {
     pub clock: u64,
     pub member: u32,
+    pub place: u32,
 }
 
 impl Ord for Stamp {
@@ -29,6 +31,7 @@ impl Ord for Stamp {
         self.clock
             .cmp(&other.clock)
             .then(self.member.cmp(&other.member))
+            .then(self.place.cmp(&other.place))
     }
 }
 
