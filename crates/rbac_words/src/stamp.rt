@@ -1,5 +1,5 @@
 //! Stamps, and their total order.
-ghost use Rattle.std.specs.Prelude.{IsTrue, ◌↔◌};
+ghost use Rattle.std.specs.Prelude.{IsTrue, ◌≡◌, ◌↔◌};
 ghost use Rattle.rbac_words.specs.Stamp.{IsBefore};
 
 use std::cmp::Ordering;
@@ -52,6 +52,17 @@ impl PartialOrd for Stamp {
 }
 
 impl Stamp {
+    /// The stamp of a message: that of its first command.
+    pub fn at(clock: u64, member: u32) -> Stamp
+        ensures { result ≡ record { clock = clock; member = member; place = 0 } }
+    {
+        Stamp {
+            clock,
+            member,
+            place: 0,
+        }
+    }
+
     /// Whether it comes before the other one.
     pub fn is_before(self, other: Stamp) -> bool
         ensures { IsTrue result ↔ IsBefore self other }
