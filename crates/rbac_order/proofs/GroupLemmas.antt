@@ -174,8 +174,8 @@ module _ (group : Group) (vocabulary : Vocabulary) (ms : List Member) (are : Are
 
       orderly : (j : ℕ) → j < length ms → IsOrderly (carried i) (node_of (at j))
       orderly j hj = let l = lawful_heard j hj in record {
-        own = Each-submissions (λ s. s.member ≡ (at j).number) (heard_of (node_of (at i)) (node_of (at j))) l.own;
-        rising = Rising-submissions (heard_of (node_of (at i)) (node_of (at j))) l.rising;
+        own = Each-submissions (λ s. s.member ≡ (at j).number) (λ s e. e) (heard_of (node_of (at i)) (node_of (at j))) l.own;
+        rising = Rising-submissions (at j).number (heard_of (node_of (at i)) (node_of (at j))) l.own l.first l.rising;
       }
 
       same : (j : ℕ) → j < length ms → of (at j).number (known (at i)) ≡ carried i (node_of (at j))

@@ -6,7 +6,7 @@ use Rattle.std.proofs.lemmas.List.Elements.{filter-append}
 use Rattle.rbac_words.specs.Group.{Group}
 use Rattle.rbac_terms.specs.State.{founding_state}
 use Rattle.rbac_words.specs.Stamp.{IsBefore, is_before, IsAfter, last_stamp, up_to, sort_by_stamp}
-use Rattle.rbac_words.specs.Message.{stamp_of, submitted_at, submissions, commands_of, IsLawful}
+use Rattle.rbac_words.specs.Message.{stamp_of, submitted_at, next_place, submissions, commands_of, IsLawful}
 use Rattle.rbac_words.specs.Front.{IsLegalFront, is_of}
 use Rattle.rbac_words.specs.World.{World, Node, nobody}
 use Rattle.rbac_words.specs.Right.{all_commands, IsRight}
@@ -16,7 +16,7 @@ use Rattle.rbac_words.specs.declared.message.Message.{Message}
 use Rattle.rbac_words.specs.declared.message.Submission.{Submission}
 use Rattle.rbac_words.specs.declared.stamp.Stamp.{Stamp}
 use Rattle.sorted_keys.proofs.Lists.{Each-append, Each-right, Each-weaker, Each-both, Each-filter, filter-all, filter-none, filter-filter}
-use Rattle.rbac_order.proofs.StampLemmas.{true_before, after_last, last_none, up_to-all, last_below_each, Rising-left, Rising-filter, Rising-across, Each-swap}
+use Rattle.rbac_order.proofs.StampLemmas.{before_next, true_before, after_last, last_none, up_to-all, last_below_each, Rising-left, Rising-filter, Rising-across, Each-swap}
 use Rattle.rbac_order.proofs.MessageLemmas.{submissions-append, Each-submissions, Rising-submissions}
 use Rattle.rbac_order.proofs.SenderLemmas.{of, Rising, of-none, of-all, same_from_each, AreRisingOfEach, of-sort, Rising-sort}
 use Rattle.rbac_order.proofs.MemberLemmas.{covered_history}
@@ -47,12 +47,14 @@ first_other a k group taken unread kept number other has lawful = record {
   above = Each-append (λ y. Each (λ x. IsBefore x.stamp y.stamp) (commands_of a.history)) (of k a.held) (submissions unread)
       (Each-filter (λ y. Each (λ x. IsBefore x.stamp y.stamp) (commands_of a.history)) (is_of k) a.held
       (Each-swap submitted_at (commands_of a.history) a.held (Rising-across submitted_at (commands_of a.history) a.held kept.rising)))
-      (Each-submissions (λ t. Each (λ x. IsBefore x.stamp t) (commands_of a.history)) unread
-      (Each-weaker (λ z. IsAfter (latest_of a k) (stamp_of z) × ((stamp_of z).member ≡ k)) (λ z. Each (λ x. IsBefore x.stamp (stamp_of z)) (commands_of a.history)) unread
-      (λ z h. Each-weaker (λ x. IsCovered (latest_of a k) k x.stamp) (λ x. IsBefore x.stamp (stamp_of z)) (commands_of a.history) (λ x c. c (stamp_of z) h.1 h.0) (covered_history a k kept number other))
+      (Each-submissions (λ t. Each (λ x. IsBefore x.stamp t) (commands_of a.history)) (λ t. Each-weaker (λ x. IsBefore x.stamp t) (λ x. IsBefore x.stamp (next_place t)) (commands_of a.history) (λ x. before_next x.stamp t)) unread
+      (Each-weaker (λ z. (IsAfter (latest_of a k) (stamp_of z) × ((stamp_of z).member ≡ k)) × ((stamp_of z).place ≡ 0)) (λ z. Each (λ x. IsBefore x.stamp (stamp_of z)) (commands_of a.history)) unread
+      (λ z h. Each-weaker (λ x. IsCovered (latest_of a k) k x.stamp) (λ x. IsBefore x.stamp (stamp_of z)) (commands_of a.history) (λ x c. c (stamp_of z) h.0.1 h.1 h.0.0) (covered_history a k kept number other))
+      (Each-both (λ z. IsAfter (latest_of a k) (stamp_of z) × ((stamp_of z).member ≡ k)) (λ z. (stamp_of z).place ≡ 0) unread
       (Each-both (λ z. IsAfter (latest_of a k) (stamp_of z)) (λ z. (stamp_of z).member ≡ k) unread
       (subst (λ o. Each (λ z. IsAfter o (stamp_of z)) unread) (sym has.latest) (after_last stamp_of taken unread lawful.rising))
-      (Each-right (λ z. (stamp_of z).member ≡ k) taken unread lawful.own))));
+      (Each-right (λ z. (stamp_of z).member ≡ k) taken unread lawful.own))
+      (Each-right (λ z. (stamp_of z).place ≡ 0) taken unread lawful.first))));
 }
 
 -- exactly those up to the history's last stamp
@@ -193,7 +195,7 @@ abbrev pub sent_of : Node → List Submission
 sent_of v = submissions v.sent
 
 pub lawful_orderly : (group : Group) (v : Node) → IsLawful v.number group v.sent → IsOrderly sent_of v
-lawful_orderly group v l = record { own = Each-submissions (λ s. s.member ≡ v.number) v.sent l.own; rising = Rising-submissions v.sent l.rising }
+lawful_orderly group v l = record { own = Each-submissions (λ s. s.member ≡ v.number) (λ s e. e) v.sent l.own; rising = Rising-submissions v.number v.sent l.own l.first l.rising }
 
 module _ (w : World) (l : IsLawfulWorld w) where
   pub world_numbered : AreNumbered 0 w.nodes

@@ -1,6 +1,6 @@
 -- What a member keeps: as it is founded, by a submit, by a delivery and by a receipt.
 use Rattle.std.proofs.Common.{ℕ, zero, suc, Bool, true, false, cond, not, max, ◌≡◌, ◌≤◌, ◌<◌, ◌+◌, ◌-◌, ◌==◌, ◌||◌, ◌&&◌, inl, List, [], ◌∷◌, ◌++◌, length, map, drop, get_or, set, replicate, refl, sym, ap, subst, ◌∙◌, arith, true≢false, append_assoc, append-nil, length-append, length-set, get_or-set_same, get_or-set_other, nat_le, nat_lt, Option, Some, None}
-use Rattle.std.specs.List.{AllByRecursion as Each, filter, list_all}
+use Rattle.std.specs.List.{AllByRecursion as Each, filter, list_all, list_any}
 use Rattle.std.proofs.lemmas.Bool.{or_left, or_right, ne_eqb}
 use Rattle.std.proofs.lemmas.Bool.Decides.{nat_tests}
 use Rattle.std.proofs.lemmas.List.{length-replicate}
@@ -13,23 +13,23 @@ use Rattle.rbac_terms.specs.State.{State, founding_state}
 use Rattle.rbac_terms.specs.Effect.{effect, reply}
 use Rattle.rbac_terms.specs.Replay.{state_after, replies}
 use Rattle.rbac_words.specs.Stamp.{IsBefore, is_before, IsAfter, has_passed, insert_all, last_stamp}
-use Rattle.rbac_words.specs.Message.{stamp_of, submitted_at, submissions_of, submissions, submission_of, commands_of, has_later, is_by, next_serial, CountsFrom, IsLawful}
+use Rattle.rbac_words.specs.Message.{stamp_of, submitted_at, next_place, submissions_of, is_bad_batch, has_bad_batch, has_commands, submissions, submission_of, commands_of, has_later, is_by, next_serial, CountsFrom, IsLawful}
 use Rattle.rbac_words.specs.Front.{command_of, is_of, IsLegalFront}
 use Rattle.rbac_words.specs.World.{stamp, read_of, submit_refusal, least, must_acknowledge, acks, room_refusal, is_sent_full}
-use Rattle.rbac_words.specs.Keeping.Member.{Member, node_of, founded, latest_of, known, submission, submitted, received, numbers, is_passed_by_all, if_passed, due_at, delivery, delivered, deliver_due, IsNumber, IsCovered, IsClockAbove, IsMember, IsNext}
+use Rattle.rbac_words.specs.Keeping.Member.{Member, node_of, founded, latest_of, known, batch, submitted, received, numbers, is_passed_by_all, if_passed, due_at, delivery, delivered, deliver_due, IsNumber, IsCovered, IsClockAbove, IsMember, IsNext}
 use Rattle.rbac_words.specs.declared.event.Refusal.{Refusal}
-use Rattle.rbac_words.specs.declared.event.Refusal.TheVariants.{ClockFull, SentFull, BadSerial}
+use Rattle.rbac_words.specs.declared.event.Refusal.TheVariants.{BadBatch, ClockFull, SentFull, BadSerial}
 use Rattle.rbac_terms.specs.declared.command.Command.{Command}
 use Rattle.rbac_words.specs.declared.message.Message.{Message}
-use Rattle.rbac_words.specs.declared.message.Message.TheVariants.{Call, Ack}
+use Rattle.rbac_words.specs.declared.message.Message.TheVariants.{Batch, Ack}
 use Rattle.rbac_words.specs.declared.message.Submission.{Submission}
 use Rattle.rbac_words.specs.declared.record.Record.{Record}
 use Rattle.rbac_words.specs.declared.stamp.Stamp.{Stamp}
 use Rattle.sorted_keys.proofs.Lists.{Each-append, Each-left, Each-weaker, Each-both, Each-filter, map-push}
-use Rattle.rbac_order.proofs.StampLemmas.{before_trans, before_true, true_before, Rising-push, Rising-left, insert_all_above, Each-insert_all, last_has, after_last}
-use Rattle.rbac_order.proofs.MessageLemmas.{submissions-append, CountsFrom-left, serials_go_on, own_stamps, own_rising}
+use Rattle.rbac_order.proofs.StampLemmas.{IsBeside, before_next, message_above, sent_above, before_trans, before_true, true_before, Rising-append, Rising-push, Rising-left, insert_all_above, Each-insert_all, last_has, after_last}
+use Rattle.rbac_order.proofs.MessageLemmas.{submissions-append, CountsFrom-left, serials_go_on, StaysByPlace, Each-commands, beside_message, own_rising}
 use Rattle.rbac_order.proofs.ReplayLemmas.{state_after-push, replies-push}
-use Rattle.rbac_order.proofs.SenderLemmas.{of, Rising, decide, is_of-yes, is_of-no, of_member, put_all, IsPut, of-insert_all_other}
+use Rattle.rbac_order.proofs.SenderLemmas.{of, Rising, decide, is_of-no, of_member, of-none, of-all, put_all, IsPut, of-insert_all_other}
 
 -- ---- Founding
 
@@ -48,7 +48,7 @@ keeps_founded group number vocabulary g low high = record {
   high = high;
   reads = length-replicate group.members 0;
   latests = length-replicate group.members none;
-  lawful = record { own = tt; rising = tt; clocks_in_range = tt; within_limit = omega (arith, g.some_sent); serials = λ caller. tt };
+  lawful = record { own = tt; first = tt; rising = tt; clocks_in_range = tt; within_limit = omega (arith, g.some_sent); batches = tt; serials = λ caller. tt };
   front = record { rising = tt; answered = refl; serials = λ member caller. tt };
   policy = refl;
   own = refl;
@@ -74,90 +74,112 @@ clock_weaker (Some s) m n l b = omega arith
 later-append : (ms ns : List Message) (s : Stamp) → has_later ms s ≡ true → has_later (ms ++ ns) s ≡ true
 later-append ms ns s e = list_any-append (λ m. is_before s (stamp_of m)) ms ns ∙ or_left _ _ e
 
+-- what another member sent after a message it sent after each of its commands
+later_beside : (k : ℕ) (s t : Stamp) (ms : List Message) → IsBeside s t → (s.member ≡ k → ⊥) → Each (λ m. (stamp_of m).member ≡ k) ms → has_later ms s ≡ true → has_later ms t ≡ true
+later_beside k s t [] b other own e = e
+later_beside k s t (m ∷ ms) b other own e = go (later_beside k s t ms b other own.1) (is_before s (stamp_of m)) refl e
+  where
+    go : (has_later ms s ≡ true → has_later ms t ≡ true) → (c : Bool) → is_before s (stamp_of m) ≡ c → (c || has_later ms s) ≡ true → has_later (m ∷ ms) t ≡ true
+    go rest true f g = or_left _ _ (true_before t (stamp_of m) (sent_above s t (stamp_of m) b (λ h. other (sym h ∙ own.0)) (before_true s (stamp_of m) f)))
+    go rest false f g = or_right (is_before t (stamp_of m)) _ (rest g)
+
 -- a message that is sent after the others keeps the sent list lawful
-sent_lawfully : (v : Member) (m : Message) → (stamp_of m).member ≡ v.number → v.clock < (stamp_of m).clock → (stamp_of m).clock ≤ last_clock → length v.sent < v.group.sent_limit
+sent_lawfully : (v : Member) (m : Message) → (stamp_of m).member ≡ v.number → (stamp_of m).place ≡ 0 → has_bad_batch m ≡ false → v.clock < (stamp_of m).clock → (stamp_of m).clock ≤ last_clock → length v.sent < v.group.sent_limit
     → ((caller : ℕ) → CountsFrom 0 (filter (is_by caller) (submissions (v.sent ++ m ∷ [])))) → IsMember v → IsLawful v.number v.group (v.sent ++ m ∷ [])
-sent_lawfully v m own above range room serials k = record {
+sent_lawfully v m own first batch above range room serials k = record {
   own = Each-append (λ n. (stamp_of n).member ≡ v.number) v.sent (m ∷ []) k.lawful.own (own, tt);
+  first = Each-append (λ n. (stamp_of n).place ≡ 0) v.sent (m ∷ []) k.lawful.first (first, tt);
   rising = Rising-push stamp_of v.sent m k.lawful.rising (Each-weaker (λ n. (stamp_of n).clock ≤ v.clock) (λ n. IsBefore (stamp_of n) (stamp_of m)) v.sent (λ n h. inl (omega arith)) k.clock_of_sent);
   clocks_in_range = Each-append (λ n. (stamp_of n).clock ≤ last_clock) v.sent (m ∷ []) k.lawful.clocks_in_range (range, tt);
   within_limit = omega (arith, length-append v.sent (m ∷ []));
+  batches = Each-append (λ n. has_bad_batch n ≡ false) v.sent (m ∷ []) k.lawful.batches (batch, tt);
   serials = serials;
 }
 
-module _ (v : Member) (caller serial : ℕ) (command : Command) where
-  abbrev x : Submission
-  x = submission v caller serial command
+module _ (v : Member) (caller serial : ℕ) (commands : List Command) where
+  abbrev message_now : Message
+  message_now = batch v caller serial commands
 
-  abbrev call : Message
-  call = Call (stamp (v.clock + 1) v.number) caller serial command
+  abbrev commands_now : List Submission
+  commands_now = submissions_of message_now
 
-  pub known_submitted : known (submitted v caller serial command) ≡ known v ++ x ∷ []
-  known_submitted = sym (append_assoc (commands_of v.history) v.held (x ∷ []))
+  pub known_submitted : known (submitted v caller serial commands) ≡ known v ++ commands_now
+  known_submitted = sym (append_assoc (commands_of v.history) v.held commands_now)
 
-  sent_submitted : submissions (submitted v caller serial command).sent ≡ submissions v.sent ++ x ∷ []
-  sent_submitted = submissions-append v.sent (call ∷ [])
+  sent_submitted : submissions (submitted v caller serial commands).sent ≡ submissions v.sent ++ commands_now
+  sent_submitted = submissions-append v.sent (message_now ∷ []) ∙ ap (λ l. submissions v.sent ++ l) (append-nil commands_now)
 
-  own_submitted : IsMember v → of v.number (known v ++ x ∷ []) ≡ submissions v.sent ++ x ∷ []
-  own_submitted k = filter-append (is_of v.number) (known v) (x ∷ []) ∙ ap (λ l. l ++ of v.number (x ∷ [])) k.own ∙ ap (λ b. submissions v.sent ++ cond b (x ∷ []) []) (is_of-yes v.number x refl)
+  own_now : Each (λ x. x.stamp.member ≡ v.number) commands_now
+  own_now = Each-commands (λ t. t.member ≡ v.number) (λ t e. e) message_now refl
 
-  -- a command of the member's own is no other one's
-  of-own_other : (j : ℕ) → (j ≡ v.number → ⊥) → of j (known v ++ x ∷ []) ≡ of j (known v)
-  of-own_other j d = filter-append (is_of j) (known v) (x ∷ []) ∙ ap (λ b. of j (known v) ++ cond b (x ∷ []) []) (is_of-no j x (λ e. d (sym e))) ∙ append-nil (of j (known v))
+  -- the commands of another member stay as they are
+  pub of-submitted_other : (j : ℕ) → (j ≡ v.number → ⊥) → of j (known (submitted v caller serial commands)) ≡ of j (known v)
+  of-submitted_other j d =
+      ap (of j) known_submitted ∙ filter-append (is_of j) (known v) commands_now
+      ∙ ap (λ l. of j (known v) ++ l) (of-none j commands_now (Each-weaker (λ (x : Submission). x.stamp.member ≡ v.number) (λ x. x.stamp.member ≡ j → ⊥) commands_now (λ x e f. d (sym f ∙ e)) own_now))
+      ∙ append-nil (of j (known v))
 
-  -- a submit leaves what is known of each other member
-  pub of-submitted_other : (j : ℕ) → (j ≡ v.number → ⊥) → of j (known (submitted v caller serial command)) ≡ of j (known v)
-  of-submitted_other j d = ap (of j) known_submitted ∙ of-own_other j d
+  own_submitted : IsMember v → of v.number (known v ++ commands_now) ≡ submissions v.sent ++ commands_now
+  own_submitted k = filter-append (is_of v.number) (known v) commands_now ∙ ap (λ l. l ++ of v.number commands_now) k.own ∙ ap (λ l. submissions v.sent ++ l) (of-all v.number commands_now own_now)
 
-  serials_submitted : IsMember v → serial ≡ next_serial caller (submissions v.sent) → (member caller' : ℕ) → CountsFrom 0 (filter (is_by caller') (of member (known v ++ x ∷ [])))
+  serials_submitted : IsMember v → serial ≡ next_serial caller (submissions v.sent) → (member caller' : ℕ) → CountsFrom 0 (filter (is_by caller') (of member (known (submitted v caller serial commands))))
   serials_submitted k next member caller' =
-      decide (CountsFrom 0 (filter (is_by caller') (of member (known v ++ x ∷ [])))) member v.number
-      (λ e. subst (λ j. CountsFrom 0 (filter (is_by caller') (of j (known v ++ x ∷ [])))) (sym e)
-      (subst (λ l. CountsFrom 0 (filter (is_by caller') l)) (sym (own_submitted k)) (serials_go_on (submissions v.sent) x k.lawful.serials next caller')))
-      (λ d. subst (λ l. CountsFrom 0 (filter (is_by caller') l)) (sym (of-own_other member d)) (k.serials member caller'))
+      decide (CountsFrom 0 (filter (is_by caller') (of member (known (submitted v caller serial commands))))) member v.number
+      (λ e. subst (λ j. CountsFrom 0 (filter (is_by caller') (of j (known (submitted v caller serial commands))))) (sym e)
+      (subst (λ l. CountsFrom 0 (filter (is_by caller') l)) (sym (ap (of v.number) known_submitted ∙ own_submitted k)) (serials_go_on (submissions v.sent) (stamp_of message_now) caller serial commands k.lawful.serials next caller')))
+      (λ d. subst (λ l. CountsFrom 0 (filter (is_by caller') l)) (sym (of-submitted_other member d)) (k.serials member caller'))
 
-  -- what holds of each known command and of the new one
-  each_submitted : (P : Submission → Type 0) → Each P (known v) → P x → Each P (known (submitted v caller serial command))
-  each_submitted P a b = subst (Each P) (sym known_submitted) (Each-append P (known v) (x ∷ []) a (b, tt))
+  -- what holds of each known command and of the new ones
+  each_submitted : (P : Submission → Type 0) → Each P (known v) → Each P commands_now → Each P (known (submitted v caller serial commands))
+  each_submitted P a b = subst (Each P) (sym known_submitted) (Each-append P (known v) commands_now a b)
 
-  pub keeps_submitted : v.clock < last_clock → length v.sent < v.group.sent_limit → serial ≡ next_serial caller (submissions v.sent) → IsMember v → IsMember (submitted v caller serial command)
-  keeps_submitted clock room next k = record {
+  -- what is asked of the commands of others is not asked of the new ones
+  not_own : (Q : Submission → Type 0) → Each (λ x. (x.stamp.member ≡ v.number → ⊥) → Q x) commands_now
+  not_own Q = Each-weaker (λ (x : Submission). x.stamp.member ≡ v.number) (λ x. (x.stamp.member ≡ v.number → ⊥) → Q x) commands_now (λ x e n. absurd (n e)) own_now
+
+  clock_now : Each (λ x. x.stamp.clock ≡ v.clock + 1) commands_now
+  clock_now = Each-commands (λ t. t.clock ≡ v.clock + 1) (λ t e. e) message_now refl
+
+  pub keeps_submitted : is_bad_batch serial (length commands) ≡ false → v.clock < last_clock → length v.sent < v.group.sent_limit → serial ≡ next_serial caller (submissions v.sent) → IsMember v → IsMember (submitted v caller serial commands)
+  keeps_submitted good clock room next k = record {
     group = k.group;
     low = k.low;
     high = k.high;
     reads = k.reads;
     latests = k.latests;
-    lawful = sent_lawfully v call refl (omega arith) (omega arith) room (subst (λ l. (c : ℕ) → CountsFrom 0 (filter (is_by c) l)) (sym sent_submitted) (serials_go_on (submissions v.sent) x k.lawful.serials next)) k;
+    lawful = sent_lawfully v message_now refl refl good (omega arith) (omega arith) room (subst (λ l. (c : ℕ) → CountsFrom 0 (filter (is_by c) l)) (sym sent_submitted) (serials_go_on (submissions v.sent) (stamp_of message_now) caller serial commands k.lawful.serials next)) k;
     front = k.front;
     policy = k.policy;
     own = ap (of v.number) known_submitted ∙ own_submitted k ∙ sym sent_submitted;
-    others = each_submitted (λ y. IsNumber v.group y.stamp.member) k.others (record { low = k.low; high = k.high });
-    rising = subst Rising (sym known_submitted) (Rising-push submitted_at (known v) x k.rising (Each-weaker (λ (y : Submission). y.stamp.clock ≤ v.clock) (λ y. IsBefore (submitted_at y) s) (known v) (λ y h. inl (omega arith)) k.clock_of_known));
-    serials = subst (λ l. (member caller' : ℕ) → CountsFrom 0 (filter (is_by caller') (of member l))) (sym known_submitted) (serials_submitted k next);
+    others = each_submitted (λ y. IsNumber v.group y.stamp.member) k.others (Each-commands (λ t. IsNumber v.group t.member) (λ t n. n) message_now (record { low = k.low; high = k.high }));
+    rising = subst Rising (sym known_submitted)
+        (Rising-append submitted_at (known v) commands_now k.rising (own_rising message_now)
+        (Each-weaker (λ (y : Submission). y.stamp.clock ≤ v.clock) (λ y. Each (λ x. IsBefore (submitted_at y) (submitted_at x)) commands_now) (known v)
+        (λ y h. Each-weaker (λ (x : Submission). x.stamp.clock ≡ v.clock + 1) (λ x. IsBefore (submitted_at y) (submitted_at x)) commands_now (λ x e. inl (omega arith)) clock_now) k.clock_of_known));
+    serials = serials_submitted k next;
     passed = k.passed;
-    covered = each_submitted (λ y. (y.stamp.member ≡ v.number → ⊥) → IsCovered (latest_of v y.stamp.member) y.stamp.member y.stamp) k.covered (λ n. absurd (n refl));
-    clock_of_sent = Each-append (λ m. (stamp_of m).clock ≤ v.clock + 1) v.sent (call ∷ []) (Each-weaker (λ m. (stamp_of m).clock ≤ v.clock) (λ m. (stamp_of m).clock ≤ v.clock + 1) v.sent (λ m h. omega arith) k.clock_of_sent) (omega arith, tt);
-    clock_of_known = each_submitted (λ y. y.stamp.clock ≤ v.clock + 1) (Each-weaker (λ (y : Submission). y.stamp.clock ≤ v.clock) (λ y. y.stamp.clock ≤ v.clock + 1) (known v) (λ y h. omega arith) k.clock_of_known) (omega arith);
+    covered = each_submitted (λ y. (y.stamp.member ≡ v.number → ⊥) → IsCovered (latest_of v y.stamp.member) y.stamp.member y.stamp) k.covered (not_own (λ y. IsCovered (latest_of v y.stamp.member) y.stamp.member y.stamp));
+    clock_of_sent = Each-append (λ n. (stamp_of n).clock ≤ v.clock + 1) v.sent (message_now ∷ []) (Each-weaker (λ n. (stamp_of n).clock ≤ v.clock) (λ n. (stamp_of n).clock ≤ v.clock + 1) v.sent (λ n h. omega arith) k.clock_of_sent) (omega arith, tt);
+    clock_of_known = each_submitted (λ y. y.stamp.clock ≤ v.clock + 1) (Each-weaker (λ (y : Submission). y.stamp.clock ≤ v.clock) (λ y. y.stamp.clock ≤ v.clock + 1) (known v) (λ y h. omega arith) k.clock_of_known)
+        (Each-weaker (λ (y : Submission). y.stamp.clock ≡ v.clock + 1) (λ y. y.stamp.clock ≤ v.clock + 1) commands_now (λ y e. omega arith) clock_now);
     clock_of_others = each_submitted (λ y. (y.stamp.member ≡ v.number → ⊥) → y.stamp.clock < v.clock + 1)
-        (Each-weaker (λ (y : Submission). y.stamp.clock ≤ v.clock) (λ y. (y.stamp.member ≡ v.number → ⊥) → y.stamp.clock < v.clock + 1) (known v) (λ y h n. omega arith) k.clock_of_known) (λ n. absurd (n refl));
+        (Each-weaker (λ (y : Submission). y.stamp.clock ≤ v.clock) (λ y. (y.stamp.member ≡ v.number → ⊥) → y.stamp.clock < v.clock + 1) (known v) (λ y h n. omega arith) k.clock_of_known) (not_own (λ y. y.stamp.clock < v.clock + 1));
     clock_of_latest = λ j is. clock_weaker (latest_of v j) v.clock (v.clock + 1) (omega arith) (k.clock_of_latest j is);
     clock_in_range = omega arith;
-    acknowledged = each_submitted (λ y. (y.stamp.member ≡ v.number → ⊥) → has_later (v.sent ++ call ∷ []) y.stamp ≡ true)
-        (Each-weaker (λ (y : Submission). (y.stamp.member ≡ v.number → ⊥) → has_later v.sent y.stamp ≡ true) (λ y. (y.stamp.member ≡ v.number → ⊥) → has_later (v.sent ++ call ∷ []) y.stamp ≡ true) (known v)
-        (λ y h n. later-append v.sent (call ∷ []) y.stamp (h n)) k.acknowledged) (λ n. absurd (n refl));
+    acknowledged = each_submitted (λ y. (y.stamp.member ≡ v.number → ⊥) → has_later (v.sent ++ message_now ∷ []) y.stamp ≡ true)
+        (Each-weaker (λ (y : Submission). (y.stamp.member ≡ v.number → ⊥) → has_later v.sent y.stamp ≡ true) (λ y. (y.stamp.member ≡ v.number → ⊥) → has_later (v.sent ++ message_now ∷ []) y.stamp ≡ true) (known v)
+        (λ y h n. later-append v.sent (message_now ∷ []) y.stamp (h n)) k.acknowledged) (not_own (λ y. has_later (v.sent ++ message_now ∷ []) y.stamp ≡ true));
   }
-    where
-      s : Stamp
-      s = stamp (v.clock + 1) v.number
 
 -- what a submit that is not refused has passed
-pub record HasPassed (v : Member) (caller serial : ℕ) : Type 0 where
+pub record HasPassed (v : Member) (caller serial count : ℕ) : Type 0 where
+  pub batch : is_bad_batch serial count ≡ false
   pub clock : v.clock < last_clock
   pub room : length v.sent < v.group.sent_limit
   pub next : serial ≡ next_serial caller (submissions v.sent)
 
-pub passed_submit : (v : Member) (caller serial : ℕ) → submit_refusal v.group (node_of v) caller serial ≡ None → HasPassed v caller serial
-passed_submit v caller serial e = clocks (nat_le last_clock v.clock) refl e
+pub passed_submit : (v : Member) (caller serial count : ℕ) → submit_refusal v.group (node_of v) caller serial count ≡ None → HasPassed v caller serial count
+passed_submit v caller serial count e = batches (is_bad_batch serial count) refl e
   where
     serials : (b : Bool) → (serial == next_serial caller (submissions v.sent)) ≡ b → cond {A = Option Refusal} b None (Some (BadSerial (next_serial caller (submissions v.sent)))) ≡ None → serial ≡ next_serial caller (submissions v.sent)
     serials true f g = grind (arith, nat_tests)
@@ -171,12 +193,18 @@ passed_submit v caller serial e = clocks (nat_le last_clock v.clock) refl e
 
     clocks : (b : Bool) → nat_le last_clock v.clock ≡ b
         → cond {A = Option Refusal} b (Some ClockFull) (cond (nat_le v.group.sent_limit (length v.sent)) (Some SentFull) (cond (serial == next_serial caller (submissions v.sent)) None (Some (BadSerial (next_serial caller (submissions v.sent)))))) ≡ None
-        → HasPassed v caller serial
+        → (v.clock < last_clock) × (length v.sent < v.group.sent_limit) × (serial ≡ next_serial caller (submissions v.sent))
     clocks true f g = cc
-    clocks false f g = let rest = rooms (nat_le v.group.sent_limit (length v.sent)) refl g in record { clock = grind (arith, nat_tests); room = rest.0; next = rest.1 }
+    clocks false f g = let rest = rooms (nat_le v.group.sent_limit (length v.sent)) refl g in (grind (arith, nat_tests), rest.0, rest.1)
 
-pub keeps_submit : (v : Member) (caller serial : ℕ) (command : Command) → submit_refusal v.group (node_of v) caller serial ≡ None → IsMember v → IsMember (submitted v caller serial command)
-keeps_submit v caller serial command e k = let p = passed_submit v caller serial e in keeps_submitted v caller serial command p.clock p.room p.next k
+    batches : (b : Bool) → is_bad_batch serial count ≡ b
+        → cond {A = Option Refusal} b (Some BadBatch) (cond (nat_le last_clock v.clock) (Some ClockFull) (cond (nat_le v.group.sent_limit (length v.sent)) (Some SentFull) (cond (serial == next_serial caller (submissions v.sent)) None (Some (BadSerial (next_serial caller (submissions v.sent))))))) ≡ None
+        → HasPassed v caller serial count
+    batches true f g = cc
+    batches false f g = let rest = clocks (nat_le last_clock v.clock) refl g in record { batch = f; clock = rest.0; room = rest.1; next = rest.2 }
+
+pub keeps_submit : (v : Member) (caller serial : ℕ) (commands : List Command) → submit_refusal v.group (node_of v) caller serial (length commands) ≡ None → IsMember v → IsMember (submitted v caller serial commands)
+keeps_submit v caller serial commands e k = let p = passed_submit v caller serial (length commands) e in keeps_submitted v caller serial commands p.batch p.clock p.room p.next k
 
 -- ---- A delivery
 
@@ -321,8 +349,8 @@ covered_history v k kept number other =
     (Each-left (λ x. (x.stamp.member ≡ v.number → ⊥) → IsCovered (latest_of v x.stamp.member) x.stamp.member x.stamp) (commands_of v.history) v.held kept.covered))
   where
     by_latest : (o : Option Stamp) (s : Stamp) → has_passed o s ≡ true → IsCovered o k s
-    by_latest None s p t m a = absurd (true≢false (sym p))
-    by_latest (Some l) s p t m a = before_trans s l t (before_true s l p) a
+    by_latest None s p t m z a = absurd (true≢false (sym p))
+    by_latest (Some l) s p t m z a = before_trans s l t (before_true s l p) a
 
 module _ (v : Member) (k : ℕ) (m : Message) (kept : IsMember v) (next : IsNext v k m) where
   abbrev s : Stamp
@@ -342,13 +370,13 @@ module _ (v : Member) (k : ℕ) (m : Message) (kept : IsMember v) (next : IsNext
 
   -- the history lies below the message
   history_below : Each (λ x. IsBefore x.stamp s) (commands_of v.history)
-  history_below = Each-weaker (λ x. IsCovered (latest_of v k) k x.stamp) (λ x. IsBefore x.stamp s) (commands_of v.history) (λ x c. c s next.sender next.after) (covered_history v k kept next.number next.other)
+  history_below = Each-weaker (λ x. IsCovered (latest_of v k) k x.stamp) (λ x. IsBefore x.stamp s) (commands_of v.history) (λ x c. c s next.sender next.first next.after) (covered_history v k kept next.number next.other)
 
   -- and so do the known commands of its sender
   own_below : Each (λ y. IsBefore y.stamp s) (of k (known v))
   own_below =
       Each-weaker (λ y. ((y.stamp.member ≡ v.number → ⊥) → IsCovered (latest_of v y.stamp.member) y.stamp.member y.stamp) × (y.stamp.member ≡ k)) (λ y. IsBefore y.stamp s) (of k (known v))
-      (λ y p. (p.0 (λ f. next.other (sym p.1 ∙ f))) s (next.sender ∙ sym p.1) (subst (λ j. IsAfter (latest_of v j) s) (sym p.1) next.after))
+      (λ y p. (p.0 (λ f. next.other (sym p.1 ∙ f))) s (next.sender ∙ sym p.1) next.first (subst (λ j. IsAfter (latest_of v j) s) (sym p.1) next.after))
       (Each-both _ (λ (y : Submission). y.stamp.member ≡ k) (of k (known v)) (Each-filter _ (is_of k) (known v) kept.covered) (members (known v)))
     where
       members : (ys : List Submission) → Each (λ (y : Submission). y.stamp.member ≡ k) (of k ys)
@@ -359,20 +387,25 @@ module _ (v : Member) (k : ℕ) (m : Message) (kept : IsMember v) (next : IsNext
           go true e on = (of_member k y e, on)
           go false e on = on
 
-  -- what holds of the message's stamp holds of its commands'
-  each_new : (P : Stamp → Type 0) → P s → Each (λ x. P x.stamp) xs
-  each_new P p = Each-weaker (λ (x : Submission). x.stamp ≡ s) (λ x. P x.stamp) xs (λ x e. subst P (sym e) p) (own_stamps m)
+  -- what holds of the message's stamp, whatever the place, holds of its commands'
+  each_new : (P : Stamp → Type 0) → StaysByPlace P → P s → Each (λ x. P x.stamp) xs
+  each_new P stays p = Each-commands P stays m p
+
+  -- what lies below the message lies below its commands
+  each_above : (ys : List Submission) → Each (λ y. IsBefore y.stamp s) ys → Each (λ x. Each (λ y. IsBefore y.stamp x.stamp) ys) xs
+  each_above ys = each_new (λ t. Each (λ y. IsBefore y.stamp t) ys) (λ t. Each-weaker (λ y. IsBefore y.stamp t) (λ y. IsBefore y.stamp (next_place t)) ys (λ y. before_next y.stamp t))
+
+  sender_of_new : Each (λ x. x.stamp.member ≡ k) xs
+  sender_of_new = each_new (λ t. t.member ≡ k) (λ t e. e) next.sender
 
   pub put : IsPut k xs (known v)
-  put =
-      put_all k xs (known v) (each_new (λ t. t.member ≡ k) next.sender) (own_rising m) kept.rising
-      (each_new (λ t. Each (λ y. IsBefore y.stamp t) (of k (known v))) own_below)
+  put = put_all k xs (known v) sender_of_new (own_rising m) kept.rising (each_above (of k (known v)) own_below)
 
   pub known_received : insert_all submitted_at xs (known v) ≡ known (received v k m)
-  known_received = insert_all_above submitted_at xs (commands_of v.history) v.held (each_new (λ t. Each (λ x. IsBefore x.stamp t) (commands_of v.history)) history_below)
+  known_received = insert_all_above submitted_at xs (commands_of v.history) v.held (each_above (commands_of v.history) history_below)
 
   pub of-received_other : (j : ℕ) → (j ≡ k → ⊥) → of j (known (received v k m)) ≡ of j (known v)
-  of-received_other j d = ap (of j) (sym known_received) ∙ of-insert_all_other j xs (known v) (Each-weaker (λ (x : Submission). x.stamp.member ≡ k) (λ x. is_of j x ≡ false) xs (λ x e. is_of-no j x (λ f. d (sym f ∙ e))) (each_new (λ t. t.member ≡ k) next.sender))
+  of-received_other j d = ap (of j) (sym known_received) ∙ of-insert_all_other j xs (known v) (Each-weaker (λ (x : Submission). x.stamp.member ≡ k) (λ x. is_of j x ≡ false) xs (λ x e. is_of-no j x (λ f. d (sym f ∙ e))) sender_of_new)
 
   pub of-received : of k (known (received v k m)) ≡ of k (known v) ++ xs
   of-received = ap (of k) (sym known_received) ∙ put.commands
@@ -410,15 +443,19 @@ module _ (v : Member) (k : ℕ) (m : Message) (kept : IsMember v) (next : IsNext
   covered_received =
       each_received (λ x. (x.stamp.member ≡ v.number → ⊥) → IsCovered (get_or latest (x.stamp.member - 1) none) x.stamp.member x.stamp)
       (each_known _ (λ x. (x.stamp.member ≡ v.number → ⊥) → IsCovered (get_or latest (x.stamp.member - 1) none) x.stamp.member x.stamp) old kept.covered)
-      (each_new (λ t. (t.member ≡ v.number → ⊥) → IsCovered (get_or latest (t.member - 1) none) t.member t)
-      (λ n. subst (λ o. IsCovered o s.member s) (sym (ap (λ i. get_or latest (i - 1) none) next.sender ∙ now_latest)) (λ t mt b. b)))
+      (Each-weaker (λ x. IsBeside s x.stamp) (λ x. (x.stamp.member ≡ v.number → ⊥) → IsCovered (get_or latest (x.stamp.member - 1) none) x.stamp.member x.stamp) xs new (beside_message m))
     where
+      new : (x : Submission) → IsBeside s x.stamp → (x.stamp.member ≡ v.number → ⊥) → IsCovered (get_or latest (x.stamp.member - 1) none) x.stamp.member x.stamp
+      new x b n =
+          subst (λ o. IsCovered o x.stamp.member x.stamp) (sym (ap (λ i. get_or latest (i - 1) none) (b.member ∙ next.sender) ∙ now_latest))
+          (λ t mt pt h. message_above s x.stamp t b (mt ∙ b.member) pt h)
+
       old : (x : Submission) → IsNumber v.group x.stamp.member → ((x.stamp.member ≡ v.number → ⊥) → IsCovered (latest_of v x.stamp.member) x.stamp.member x.stamp)
           → (x.stamp.member ≡ v.number → ⊥) → IsCovered (get_or latest (x.stamp.member - 1) none) x.stamp.member x.stamp
       old x number p n =
           decide (IsCovered (get_or latest (x.stamp.member - 1) none) x.stamp.member x.stamp) x.stamp.member k
           (λ e. subst (λ o. IsCovered o x.stamp.member x.stamp) (sym (ap (λ i. get_or latest (i - 1) none) e ∙ now_latest))
-          (λ t mt b. before_trans x.stamp s t (p n s (next.sender ∙ sym e) (subst (λ i. IsAfter (latest_of v i) s) (sym e) next.after)) b))
+          (λ t mt pt b. before_trans x.stamp s t (p n s (next.sender ∙ sym e) next.first (subst (λ i. IsAfter (latest_of v i) s) (sym e) next.after)) b))
           (λ d. subst (λ o. IsCovered o x.stamp.member x.stamp) (sym (still_latest x.stamp.member number d)) (p n))
 
   passed_received : (j : ℕ) → IsNumber v.group j → (j ≡ v.number → ⊥) → Each (λ x. (x.stamp.member ≡ j → ⊥) → has_passed (get_or latest (j - 1) none) x.stamp ≡ true) (commands_of v.history)
@@ -445,18 +482,18 @@ module _ (v : Member) (k : ℕ) (m : Message) (kept : IsMember v) (next : IsNext
     front = kept.front;
     policy = kept.policy;
     own = of-received_other v.number (λ e. next.other (sym e)) ∙ kept.own ∙ sym suits.commands;
-    others = each_received (λ x. IsNumber v.group x.stamp.member) kept.others (each_new (λ t. IsNumber v.group t.member) (subst (IsNumber v.group) (sym next.sender) next.number));
+    others = each_received (λ x. IsNumber v.group x.stamp.member) kept.others (each_new (λ t. IsNumber v.group t.member) (λ t n. n) (subst (IsNumber v.group) (sym next.sender) next.number));
     rising = subst Rising known_received put.rising;
     serials = serials_received;
     passed = passed_received;
     covered = covered_received;
     clock_of_sent = suits.clock_of_sent;
     clock_of_known = each_received (λ x. x.stamp.clock ≤ clock) (Each-weaker (λ (x : Submission). x.stamp.clock ≤ v.clock) (λ x. x.stamp.clock ≤ clock) (known v) (λ x h. let a : v.clock ≤ clock = suits.above in omega arith) kept.clock_of_known)
-        (each_new (λ t. t.clock ≤ clock) (let a : s.clock < clock = suits.above_message in omega arith));
+        (each_new (λ t. t.clock ≤ clock) (λ t h. h) (let a : s.clock < clock = suits.above_message in omega arith));
     clock_of_others = each_received (λ x. (x.stamp.member ≡ v.number → ⊥) → x.stamp.clock < clock)
         (Each-weaker (λ (x : Submission). (x.stamp.member ≡ v.number → ⊥) → x.stamp.clock < v.clock) (λ x. (x.stamp.member ≡ v.number → ⊥) → x.stamp.clock < clock) (known v)
         (λ x h n. let a : v.clock ≤ clock = suits.above in let b : x.stamp.clock < v.clock = h n in omega arith) kept.clock_of_others)
-        (each_new (λ t. (t.member ≡ v.number → ⊥) → t.clock < clock) (λ n. suits.above_message));
+        (each_new (λ t. (t.member ≡ v.number → ⊥) → t.clock < clock) (λ t h. h) (λ n. suits.above_message));
     clock_of_latest = clock_of_latest;
     clock_in_range = suits.in_range;
     acknowledged = each_received (λ x. (x.stamp.member ≡ v.number → ⊥) → has_later sent x.stamp ≡ true)
@@ -480,7 +517,7 @@ module _ (v : Member) (k : ℕ) (m : Message) (kept : IsMember v) (next : IsNext
 
   suits_acknowledged : moved + 1 ≤ last_clock → length v.sent < v.group.sent_limit → Suits (moved + 1) (v.sent ++ ack ∷ [])
   suits_acknowledged range room = record {
-    lawful = sent_lawfully v ack refl (omega arith) range room (subst (λ l. (c : ℕ) → CountsFrom 0 (filter (is_by c) l)) (sym same) kept.lawful.serials) kept;
+    lawful = sent_lawfully v ack refl refl refl (omega arith) range room (subst (λ l. (c : ℕ) → CountsFrom 0 (filter (is_by c) l)) (sym same) kept.lawful.serials) kept;
     commands = same;
     clock_of_sent = Each-append (λ z. (stamp_of z).clock ≤ moved + 1) v.sent (ack ∷ []) (Each-weaker (λ z. (stamp_of z).clock ≤ v.clock) (λ z. (stamp_of z).clock ≤ moved + 1) v.sent (λ z h. omega arith) kept.clock_of_sent) (omega arith, tt);
     above = omega arith;
@@ -488,7 +525,8 @@ module _ (v : Member) (k : ℕ) (m : Message) (kept : IsMember v) (next : IsNext
     in_range = range;
     more = ack ∷ [];
     goes_on = refl;
-    acknowledged = each_new (λ t. has_later (v.sent ++ ack ∷ []) t ≡ true) (list_any-append (λ z. is_before s (stamp_of z)) v.sent (ack ∷ []) ∙ or_right _ _ (or_left _ _ (true_before s (stamp_of ack) (inl (omega arith)))));
+    acknowledged = Each-weaker (λ (x : Submission). x.stamp.clock < moved + 1) (λ x. has_later (v.sent ++ ack ∷ []) x.stamp ≡ true) xs
+        (λ x h. list_any-append (λ z. is_before x.stamp (stamp_of z)) v.sent (ack ∷ []) ∙ or_right _ _ (or_left _ _ (true_before x.stamp (stamp_of ack) (inl h)))) (each_new (λ t. t.clock < moved + 1) (λ t h. h) (omega arith));
   }
     where
       same : submissions (v.sent ++ ack ∷ []) ≡ submissions v.sent
@@ -509,15 +547,15 @@ module _ (v : Member) (k : ℕ) (m : Message) (kept : IsMember v) (next : IsNext
 
   -- the rule of acknowledgements: what is not acknowledged has nothing that lacks a message with a greater stamp
   rule_is_enough : must_acknowledge (node_of v) m ≡ false → Each (λ (x : Submission). has_later v.sent x.stamp ≡ true) xs
-  rule_is_enough = go m
+  rule_is_enough e = go xs e (beside_message m)
     where
       sent_after : (b : Bool) → not b ≡ false → b ≡ true
       sent_after true e = refl
       sent_after false e = absurd (true≢false e)
 
-      go : (z : Message) → must_acknowledge (node_of v) z ≡ false → Each (λ (x : Submission). has_later v.sent x.stamp ≡ true) (submissions_of z)
-      go (Call stamp caller serial command) e = (sent_after (has_later v.sent stamp) e, tt)
-      go (Ack stamp) e = tt
+      go : (zs : List Submission) → (list_any (λ (x : Submission). true) zs && not (has_later v.sent s)) ≡ false → Each (λ (x : Submission). IsBeside s x.stamp) zs → Each (λ (x : Submission). has_later v.sent x.stamp ≡ true) zs
+      go [] e a = tt
+      go (z ∷ zs) e a = Each-weaker (λ (x : Submission). IsBeside s x.stamp) (λ x. has_later v.sent x.stamp ≡ true) (z ∷ zs) (λ x b. later_beside v.number s x.stamp v.sent b (λ h. next.other (sym next.sender ∙ h)) kept.lawful.own (sent_after (has_later v.sent s) e)) a
 
   -- the refusal, the clock and the sent list, as the rule decides
   abbrev clock_by : Bool → ℕ

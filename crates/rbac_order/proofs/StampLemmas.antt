@@ -1,5 +1,5 @@
 -- The order of stamps is total, and what follows for lists in stamp order.
-use Rattle.std.proofs.Common.{Bool, true, false, not, cond, ◌||◌, ◌≡◌, ◌⊎◌, inl, inr, arith, refl, sym, ap, subst, ◌∙◌, true≢false, List, [], ◌∷◌, ◌++◌, Option, Some, None, append-nil}
+use Rattle.std.proofs.Common.{Bool, true, false, not, cond, ◌||◌, ◌≡◌, ◌<◌, ◌⊎◌, inl, inr, arith, refl, sym, ap, subst, ◌∙◌, true≢false, List, [], ◌∷◌, ◌++◌, Option, Some, None, append-nil}
 use Rattle.std.specs.List.{AllByRecursion as Each, filter, list_any}
 use Rattle.std.specs.List.Sorted.{IsPermutation}
 use Rattle.std.proofs.lemmas.Bool.Decides.{nat_tests}
@@ -8,6 +8,7 @@ use Rattle.std.proofs.lemmas.List.Elements.{filter-append}
 use Rattle.std.proofs.lemmas.List.Sorted.{IsPermutation-refl, IsPermutation-cons, IsPermutation-middle, IsPermutation-trans}
 use Rattle.sorted_keys.proofs.Lists.{Each-append, Each-left, Each-right, Each-weaker, Each-always, Each-filter, filter-all, filter-none}
 use Rattle.rbac_words.specs.declared.stamp.Stamp.{Stamp}
+use Rattle.rbac_words.specs.Message.{next_place}
 use Rattle.rbac_words.specs.Stamp.{IsBefore, is_before, is_same_stamp, IsRising, IsInStampOrder, insert_by_stamp, insert_all, sort_by_stamp, last_stamp, up_to, IsAfter, has_passed}
 
 pub before_trans : (s t u : Stamp) → IsBefore s t → IsBefore t u → IsBefore s u
@@ -27,7 +28,7 @@ true_before s t p = grind (arith, nat_tests)
 
 -- neither below the other: the same stamp
 pub tie : (s t : Stamp) → is_before s t ≡ false → is_before t s ≡ false → s ≡ t
-tie s t p q = let a : s.clock ≡ t.clock = grind (arith, nat_tests) in let b : s.member ≡ t.member = grind (arith, nat_tests) in λ i. record { clock = a i; member = b i }
+tie s t p q = let a : s.clock ≡ t.clock = grind (arith, nat_tests) in let b : s.member ≡ t.member = grind (arith, nat_tests) in let c : s.place ≡ t.place = grind (arith, nat_tests) in λ i. record { clock = a i; member = b i; place = c i }
 
 pub before_total : (s t : Stamp) → (s ≡ t) ⊎ (IsBefore s t ⊎ IsBefore t s)
 before_total s t = go (is_before s t) refl (is_before t s) refl
@@ -43,12 +44,41 @@ same_stamp_itself s = grind (arith, nat_tests)
 pub same_stamp_below : (s t : Stamp) → IsBefore s t → is_same_stamp s t ≡ false
 same_stamp_below s t p = grind (arith, nat_tests)
 
+-- ---- Places in one message
+
+-- a command of the same message
+pub record IsBeside (s t : Stamp) : Type 0 where
+  pub clock : t.clock ≡ s.clock
+  pub member : t.member ≡ s.member
+
+pub before_next : (s t : Stamp) → IsBefore s t → IsBefore s (next_place t)
+before_next s t p = grind arith
+
+pub next_above : (s : Stamp) → IsBefore s (next_place s)
+next_above s = inr (refl, inr (refl, omega arith))
+
+-- a later message is above each command of a message
+pub message_above : (s t u : Stamp) → IsBeside s t → u.member ≡ s.member → u.place ≡ 0 → IsBefore s u → IsBefore t u
+message_above s t u b m p h = let c : t.clock ≡ s.clock = b.clock in let d : t.member ≡ s.member = b.member in grind arith
+
+-- and so is what another member sends after it
+pub sent_above : (s t u : Stamp) → IsBeside s t → (u.member ≡ s.member → ⊥) → IsBefore s u → IsBefore t u
+sent_above s t u b m h = let c : t.clock ≡ s.clock = b.clock in let d : t.member ≡ s.member = b.member in grind arith
+
+-- of one member a later message has a greater clock
+pub message_later : (s u : Stamp) → u.member ≡ s.member → u.place ≡ 0 → IsBefore s u → s.clock < u.clock
+message_later s u m p h = grind arith
+
 -- ---- Rising lists
 
 module _ {X : Type 0} (at : X → Stamp) where
   pub Rising-push : (xs : List X) (y : X) → IsRising at xs → Each (λ x. IsBefore (at x) (at y)) xs → IsRising at (xs ++ y ∷ [])
   Rising-push [] y r a = (tt, tt)
   Rising-push (x ∷ xs) y r a = (Each-append (λ z. IsBefore (at x) (at z)) xs (y ∷ []) r.0 (a.0, tt), Rising-push xs y r.1 a.1)
+
+  pub Rising-append : (xs ys : List X) → IsRising at xs → IsRising at ys → Each (λ x. Each (λ y. IsBefore (at x) (at y)) ys) xs → IsRising at (xs ++ ys)
+  Rising-append [] ys r s a = s
+  Rising-append (x ∷ xs) ys r s a = (Each-append (λ z. IsBefore (at x) (at z)) xs ys r.0 a.0, Rising-append xs ys r.1 s a.1)
 
   pub Rising-left : (xs ys : List X) → IsRising at (xs ++ ys) → IsRising at xs
   Rising-left [] ys r = tt

@@ -9,20 +9,20 @@ use Rattle.rbac_terms.specs.State.{State, founding_state}
 use Rattle.rbac_terms.specs.Effect.{reply}
 use Rattle.rbac_terms.specs.Replay.{state_after}
 use Rattle.rbac_words.specs.Stamp.{IsAfter, last_stamp}
-use Rattle.rbac_words.specs.Message.{stamp_of, submissions_of, submissions, commands_of, is_by, CountsFrom, IsLawful}
+use Rattle.rbac_words.specs.Message.{stamp_of, submissions_of, has_bad_batch, submissions, commands_of, is_by, CountsFrom, IsLawful}
 use Rattle.rbac_words.specs.Front.{is_of, command_of}
 use Rattle.rbac_words.specs.World.{World, Node, node, is_member, read_of, stamp, submit_at, receive_at, deliver_at, record_of, message, submit_refusal, room_refusal, receive_refusal, refusal, with_node, due, after, world_unless, step}
 use Rattle.rbac_words.specs.Right.{founded_nodes, founding_world}
 use Rattle.rbac_words.specs.Play.{world_after}
-use Rattle.rbac_words.specs.Keeping.Member.{Member, node_of, founded, latest_of, known, submission, submitted, received, due_at, delivery, delivered, deliver_due, IsMember, IsNext}
+use Rattle.rbac_words.specs.Keeping.Member.{Member, node_of, founded, latest_of, known, batch, submitted, received, due_at, delivery, delivered, deliver_due, IsMember, IsNext}
 use Rattle.rbac_words.specs.Keeping.Members.{HasTaken, HasRead, HasReadOf, no_member, member_at, AreMembers, world_of, HasMembers}
 use Rattle.rbac_terms.specs.declared.command.Command.{Command}
 use Rattle.rbac_words.specs.declared.event.Event.{Event}
-use Rattle.rbac_words.specs.declared.event.Event.TheVariants.{Submit, Receive, Deliver}
+use Rattle.rbac_words.specs.declared.event.Event.TheVariants.{Submit, SubmitBatch, Receive, Deliver}
 use Rattle.rbac_words.specs.declared.event.Refusal.{Refusal}
 use Rattle.rbac_words.specs.declared.event.Refusal.TheVariants.{UnknownMember, FromSelf, NotSent, Repeat, Gap}
 use Rattle.rbac_words.specs.declared.message.Message.{Message}
-use Rattle.rbac_words.specs.declared.message.Message.TheVariants.{Call, Ack}
+use Rattle.rbac_words.specs.declared.message.Message.TheVariants.{Ack}
 use Rattle.rbac_words.specs.declared.message.Submission.{Submission}
 use Rattle.rbac_words.specs.declared.record.Record.{Record}
 use Rattle.sorted_keys.proofs.Lists.{Each-right}
@@ -132,13 +132,11 @@ module _ (group : Group) (vocabulary : Vocabulary) (ms : List Member) (are : Are
 
   -- ---- The three moves
 
-  pub members_submitted : (i caller serial : ℕ) (command : Command) → i < length ms → submit_refusal group (node_of (at i)) caller serial ≡ None → AreMembers group vocabulary (set ms i (submitted (at i) caller serial command))
-  members_submitted i caller serial command h free =
-      set_member i (submitted v caller serial command) (Call (stamp (v.clock + 1) v.number) caller serial command ∷ []) h refl refl refl
-      (keeps_submit v caller serial command (subst (λ g. submit_refusal g (node_of v) caller serial ≡ None) (sym (are.same_group i h)) free) (are.kept i h)) refl
-      (λ j hj d. stays_read v (submitted v caller serial command) (at j).number (at j).sent refl refl
-      (of-submitted_other v caller serial command (at j).number (apart group vocabulary ms are i j h hj d))
-      (read_by group vocabulary ms are i j h hj d))
+  pub members_submitted : (i caller serial : ℕ) (commands : List Command) → i < length ms → submit_refusal group (node_of (at i)) caller serial (length commands) ≡ None → AreMembers group vocabulary (set ms i (submitted (at i) caller serial commands))
+  members_submitted i caller serial commands h free =
+      set_member i (submitted v caller serial commands) (batch v caller serial commands ∷ []) h refl refl refl
+      (keeps_submit v caller serial commands (subst (λ g. submit_refusal g (node_of v) caller serial (length commands) ≡ None) (sym (are.same_group i h)) free) (are.kept i h)) refl
+      (λ j hj d. stays_read v (submitted v caller serial commands) (at j).number (at j).sent refl refl (of-submitted_other v caller serial commands (at j).number (apart group vocabulary ms are i j h hj d)) (read_by group vocabulary ms are i j h hj d))
     where
       v : Member
       v = at i
@@ -158,8 +156,10 @@ module _ (group : Group) (vocabulary : Vocabulary) (ms : List Member) (are : Are
   next_of i j m rest hi hj d is = record {
     number = is_number group vocabulary ms are i j hi hj;
     other = apart group vocabulary ms are i j hi hj d;
+    first = (subst (Each (λ z. (stamp_of z).place ≡ 0)) is (Each-right (λ z. (stamp_of z).place ≡ 0) r.taken r.unread lawful.first)).0;
     sender = (subst (Each (λ z. (stamp_of z).member ≡ (at j).number)) is (Each-right (λ z. (stamp_of z).member ≡ (at j).number) r.taken r.unread lawful.own)).0;
     after = subst (λ o. IsAfter o (stamp_of m)) (sym r.has_taken.latest) (subst (Each (λ z. IsAfter (last_stamp stamp_of r.taken) (stamp_of z))) is (after_last stamp_of r.taken r.unread lawful.rising)).0;
+    batch = (subst (Each (λ z. has_bad_batch z ≡ false)) is (Each-right (λ z. has_bad_batch z ≡ false) r.taken r.unread lawful.batches)).0;
     serials = λ caller.
         CountsFrom-left 0 (filter (is_by caller) (of (at j).number (known (at i)) ++ submissions_of m)) (filter (is_by caller) (submissions rest))
         (subst (CountsFrom 0) (ap (filter (is_by caller)) (parts caller) ∙ filter-append (is_by caller) (of (at j).number (known (at i)) ++ submissions_of m) (submissions rest)) (lawful.serials caller));
@@ -221,17 +221,17 @@ module _ (group : Group) (vocabulary : Vocabulary) (ms : List Member) (are : Are
   pub in_group : (k : ℕ) → is_member w k ≡ true → (1 ≤ k) × (k - 1 < length ms)
   in_group k e = let a : length w.nodes ≡ length ms = length-map ms node_of in let p : (1 ≤ k) × (k ≤ length w.nodes) = in_range k (length w.nodes) e in let low : 1 ≤ k = p.0 in let high : k ≤ length w.nodes = p.1 in (low, omega arith)
 
-  submit_step : (k caller serial : ℕ) (command : Command) → AreAfter (Submit k caller serial command)
-  submit_step k caller serial command = go (refusal w (Submit k caller serial command)) refl
+  batch_step : (k caller serial : ℕ) (commands : List Command) → AreAfter (SubmitBatch k caller serial commands)
+  batch_step k caller serial commands = go (refusal w (SubmitBatch k caller serial commands)) refl
     where
-      go : (o : Option Refusal) → refusal w (Submit k caller serial command) ≡ o → AreAfter (Submit k caller serial command)
-      go (Some r) e = stays (Submit k caller serial command) r e
+      go : (o : Option Refusal) → refusal w (SubmitBatch k caller serial commands) ≡ o → AreAfter (SubmitBatch k caller serial commands)
+      go (Some r) e = stays (SubmitBatch k caller serial commands) r e
       go None e =
-          let p = unless_none (is_member w k) UnknownMember (submit_refusal group (node w k) caller serial) e in
+          let p = unless_none (is_member w k) UnknownMember (submit_refusal group (node w k) caller serial (length commands)) e in
           let place = in_group k p.0 in
-          moves (Submit k caller serial command) (set ms (k - 1) (submitted (at (k - 1)) caller serial command)) e
-          (members_submitted (k - 1) caller serial command place.1 (subst (λ (v : Node). submit_refusal group v caller serial ≡ None) (node_is k) p.1))
-          (world_set (k - 1) (submitted (at (k - 1)) caller serial command) ∙ ap (λ (v : Node). with_node w k (submit_at v caller serial command)) (sym (node_is k)))
+          moves (SubmitBatch k caller serial commands) (set ms (k - 1) (submitted (at (k - 1)) caller serial commands)) e
+          (members_submitted (k - 1) caller serial commands place.1 (subst (λ (v : Node). submit_refusal group v caller serial (length commands) ≡ None) (node_is k) p.1))
+          (world_set (k - 1) (submitted (at (k - 1)) caller serial commands) ∙ ap (λ (v : Node). with_node w k (submit_at v caller serial commands)) (sym (node_is k)))
 
   -- the record of a delivery is the one that the definitions give
   record_is : (i : ℕ) (x : Submission) → i < length ms → record_of vocabulary (node_of (at i)) x ≡ delivery (at i) x
@@ -315,7 +315,8 @@ module _ (group : Group) (vocabulary : Vocabulary) (ms : List Member) (are : Are
           ∙ ap (λ (v : Node). with_node w k (receive_at v from (message (node w from) n))) (sym (node_is k)))
 
   pub each_step : (e : Event) → AreAfter e
-  each_step (Submit k caller serial command) = submit_step k caller serial command
+  each_step (Submit k caller serial command) = let b = batch_step k caller serial (command ∷ []) in record { members = b.members; are_members = b.are_members; same = b.same }
+  each_step (SubmitBatch k caller serial commands) = batch_step k caller serial commands
   each_step (Receive k from n) = receive_step k from n
   each_step (Deliver k) = deliver_step k
 

@@ -17,7 +17,7 @@ ghost use Rattle.rbac_words.specs.Keeping.Members.{AreMembers, member_at, world_
 /// delivery.
 pub fn each_move_keeps_a_member()
     ensures founded { (group : Group) (number : ℕ) (vocabulary : Vocabulary) → IsGroup group → IsNumber group number → IsMember (founded group number vocabulary) }
-    ensures submitted { (v : Member) (caller serial : ℕ) (command : Command) → IsMember v → submit_refusal v.group (node_of v) caller serial ≡ None → IsMember (submitted v caller serial command) }
+    ensures submitted { (v : Member) (caller serial : ℕ) (commands : List Command) → IsMember v → submit_refusal v.group (node_of v) caller serial (length commands) ≡ None → IsMember (submitted v caller serial commands) }
     ensures received { (v : Member) (k : ℕ) (m : Message) → IsMember v → IsNext v k m → room_refusal v.group (node_of v) m ≡ None → IsMember (received v k m) }
     ensures delivered { (v : Member) → IsMember v → IsMember (deliver_due v (due_at v)) }
 {}
@@ -30,7 +30,7 @@ pub fn what_members_keep_of_the_last_delivery()
 
 /// The members of a group stay members of a group by a submit, a receipt and a delivery of one of them.
 pub fn each_move_keeps_a_group()
-    ensures submitted { (group : Group) (vocabulary : Vocabulary) (members : List Member) (i caller serial : ℕ) (command : Command) → AreMembers group vocabulary members → i < length members → submit_refusal group (node_of (member_at members i)) caller serial ≡ None → AreMembers group vocabulary (slice_set members i (submitted (member_at members i) caller serial command)) }
+    ensures submitted { (group : Group) (vocabulary : Vocabulary) (members : List Member) (i caller serial : ℕ) (commands : List Command) → AreMembers group vocabulary members → i < length members → submit_refusal group (node_of (member_at members i)) caller serial (length commands) ≡ None → AreMembers group vocabulary (slice_set members i (submitted (member_at members i) caller serial commands)) }
     ensures received { (group : Group) (vocabulary : Vocabulary) (members : List Member) (i j n : ℕ) → AreMembers group vocabulary members → i < length members → j < length members → j ≢ i → receive_refusal group (node_of (member_at members i)) (node_of (member_at members j)) n ≡ None → AreMembers group vocabulary (slice_set members i (received (member_at members i) (j + 1) (message (node_of (member_at members j)) n))) }
     ensures delivered { (group : Group) (vocabulary : Vocabulary) (members : List Member) (i : ℕ) → AreMembers group vocabulary members → i < length members → AreMembers group vocabulary (slice_set members i (deliver_due (member_at members i) (due_at (member_at members i)))) }
 {}

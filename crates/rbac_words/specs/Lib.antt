@@ -1,4 +1,5 @@
 pub mod Build
+pub mod Commands
 pub mod Front
 pub mod Group
 pub mod Keeping

@@ -1,24 +1,25 @@
 -- Stamps and their total order (Lamport 1978, "Ordering the Events Totally").
-use Rattle.std.specs.Prelude.{Bool, true, false, ◌≡◌, ◌==◌, ◌<◌, nat_lt, ◌||◌, ◌&&◌, ◌⊎◌, List, [], ◌∷◌, ⊤, not, if◌then◌else◌, Option, Some, None}
+use Rattle.std.specs.Prelude.{Bool, true, false, ◌≡◌, List, [], ◌∷◌, ⊤, not, if◌then◌else◌, Option, Some, None}
 use Rattle.std.specs.List.{AllByRecursion, filter}
 use Rattle.std.specs.declared.cmp.Ordering.{Ordering}
-use Rattle.std.specs.Ordering.{nat_cmp, then_cmp, on}
+use Rattle.std.specs.Ordering.{nat_cmp, then_cmp, on, is_lt, is_eq}
 use Rattle.rbac_words.specs.declared.stamp.Stamp.{Stamp}
 
--- the smaller clock comes first; equal clocks are ordered by the smaller member number
-abbrev pub IsBefore : Stamp → Stamp → Type 0
-IsBefore s t = (s.clock < t.clock) ⊎ ((s.clock ≡ t.clock) × (s.member < t.member))
-
--- the same as a test
-abbrev pub is_before : Stamp → Stamp → Bool
-is_before s t = nat_lt s.clock t.clock || ((s.clock == t.clock) && nat_lt s.member t.member)
-
--- the same as a comparison
+-- the order: the smaller clock comes first; equal clocks are ordered by the smaller member number, and the commands of one
+-- message by their places
 abbrev pub stamp_cmp : Stamp → Stamp → Ordering
-stamp_cmp = then_cmp (on (λ s. s.clock) nat_cmp) (on (λ s. s.member) nat_cmp)
+stamp_cmp = then_cmp (then_cmp (on (λ s. s.clock) nat_cmp) (on (λ s. s.member) nat_cmp)) (on (λ s. s.place) nat_cmp)
 
+-- whether a stamp comes before another one
+abbrev pub is_before : Stamp → Stamp → Bool
+is_before s t = is_lt (stamp_cmp s t)
+
+abbrev pub IsBefore : Stamp → Stamp → Type 0
+IsBefore s t = is_before s t ≡ true
+
+-- whether two stamps are the same
 abbrev pub is_same_stamp : Stamp → Stamp → Bool
-is_same_stamp s t = (s.clock == t.clock) && (s.member == t.member)
+is_same_stamp s t = is_eq (stamp_cmp s t)
 
 -- each stamp is below all later ones
 abbrev pub IsRising : {X : Type 0} → (X → Stamp) → List X → Type 0

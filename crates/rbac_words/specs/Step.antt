@@ -3,7 +3,7 @@ use Rattle.std.specs.Prelude.{Bool, true, ◌≡◌, ◌≢◌, None, is_some, R
 use Rattle.rbac_words.specs.Message.{has_commands}
 use Rattle.rbac_words.specs.World.{World, node, message, due, refusal, step, step_outcome}
 use Rattle.rbac_words.specs.declared.event.Event.{Event}
-use Rattle.rbac_words.specs.declared.event.Event.TheVariants.{Submit, Receive, Deliver}
+use Rattle.rbac_words.specs.declared.event.Event.TheVariants.{Submit, SubmitBatch, Receive, Deliver}
 use Rattle.rbac_words.specs.declared.event.Outcome.{Outcome}
 use Rattle.rbac_words.specs.declared.event.Refusal.{Refusal}
 use Rattle.rbac_words.specs.declared.event.Refusal.TheVariants.{NoMemory}
@@ -11,6 +11,7 @@ use Rattle.rbac_words.specs.declared.event.Refusal.TheVariants.{NoMemory}
 -- whether an event that is not refused makes something longer: a sent list, what is held, or a history
 abbrev pub grows : World → Event → Bool
 grows w (Submit at caller serial command) = true
+grows w (SubmitBatch at caller serial commands) = true
 grows w (Receive at from n) = has_commands (message (node w from) n)
 grows w (Deliver at) = is_some (due w (node w at))
 

@@ -9,20 +9,20 @@ use Rattle.rbac_terms.specs.State.{founding_state}
 use Rattle.rbac_terms.specs.Effect.{reply}
 use Rattle.rbac_terms.specs.Replay.{state_after}
 use Rattle.rbac_words.specs.Stamp.{is_same_stamp, sort_by_stamp}
-use Rattle.rbac_words.specs.Message.{stamp_of, has_later, submitted_at, has_commands, submissions, next_serial, commands_of}
+use Rattle.rbac_words.specs.Message.{stamp_of, has_later, submitted_at, has_commands, is_bad_batch, submissions, next_serial, commands_of}
 use Rattle.rbac_words.specs.Front.{command_of}
 use Rattle.rbac_terms.specs.declared.command.Command.{Command}
 use Rattle.rbac_words.specs.declared.stamp.Stamp.{Stamp}
 use Rattle.rbac_words.specs.declared.message.Message.{Message}
-use Rattle.rbac_words.specs.declared.message.Message.TheVariants.{Call, Ack}
+use Rattle.rbac_words.specs.declared.message.Message.TheVariants.{Batch, Ack}
 use Rattle.rbac_words.specs.declared.message.Submission.{Submission}
 use Rattle.rbac_words.specs.declared.record.Record.{Record}
 use Rattle.rbac_words.specs.declared.event.Event.{Event}
-use Rattle.rbac_words.specs.declared.event.Event.TheVariants.{Submit, Receive, Deliver}
+use Rattle.rbac_words.specs.declared.event.Event.TheVariants.{Submit, SubmitBatch, Receive, Deliver}
 use Rattle.rbac_words.specs.declared.event.Outcome.{Outcome}
 use Rattle.rbac_words.specs.declared.event.Outcome.TheVariants.{Submitted, Received, Delivered}
 use Rattle.rbac_words.specs.declared.event.Refusal.{Refusal}
-use Rattle.rbac_words.specs.declared.event.Refusal.TheVariants.{UnknownMember, FromSelf, NotSent, Repeat, Gap, ClockFull, SentFull, BadSerial}
+use Rattle.rbac_words.specs.declared.event.Refusal.TheVariants.{UnknownMember, BadBatch, FromSelf, NotSent, Repeat, Gap, ClockFull, SentFull, BadSerial}
 
 -- a member as a world shows it: its number, its clock, what it sent, how many messages it read of each member, and what
 -- it delivered
@@ -88,12 +88,13 @@ due w v = if_stable w v (least (filter (λ x. not (is_delivered v.history x)) (h
 
 -- ---- What a step leaves of one member
 
+-- the stamp of a message
 abbrev pub stamp : ℕ → ℕ → Stamp
-stamp clock member = record { clock = clock; member = member }
+stamp clock member = record { clock = clock; member = member; place = 0 }
 
--- the clock rises by one, and the command is sent with that stamp
-abbrev pub submit_at : Node → ℕ → ℕ → Command → Node
-submit_at v caller serial command = record v { clock = v.clock + 1; sent = v.sent ++ Call (stamp (v.clock + 1) v.number) caller serial command ∷ [] }
+-- the clock rises by one, and the commands are sent with that stamp
+abbrev pub submit_at : Node → ℕ → ℕ → List Command → Node
+submit_at v caller serial commands = record v { clock = v.clock + 1; sent = v.sent ++ Batch (stamp (v.clock + 1) v.number) caller serial commands ∷ [] }
 
 -- the rule of acknowledgements: a message is acknowledged where it has commands and nothing was sent with a greater stamp
 abbrev pub must_acknowledge : Node → Message → Bool
@@ -143,12 +144,14 @@ message v n = slice_index_or v.sent (n - 1) (Ack (stamp 0 0))
 abbrev pub is_sent_full : Group → Node → Bool
 is_sent_full group v = nat_le group.sent_limit (length v.sent)
 
-abbrev pub submit_refusal : Group → Node → ℕ → ℕ → Option Refusal
-submit_refusal group v caller serial =
-    if nat_le last_clock v.clock then Some ClockFull
+-- why so many commands are not submitted, the first of them with this serial
+abbrev pub submit_refusal : Group → Node → ℕ → ℕ → ℕ → Option Refusal
+submit_refusal group v caller serial count =
+    if is_bad_batch serial count then Some BadBatch
+    else (if nat_le last_clock v.clock then Some ClockFull
     else (if is_sent_full group v then Some SentFull
     else (if serial == next_serial caller (submissions v.sent) then None
-    else Some (BadSerial (next_serial caller (submissions v.sent)))))
+    else Some (BadSerial (next_serial caller (submissions v.sent))))))
 
 abbrev pub room_refusal : Group → Node → Message → Option Refusal
 room_refusal group v m =
@@ -162,10 +165,14 @@ receive_refusal group v sender n =
     else (if nat_lt (read_of v sender.number + 1) n then Some (Gap (read_of v sender.number + 1))
     else room_refusal group v (message sender n)))
 
--- why an event is refused: the first that applies
+abbrev pub batch_refusal : World → ℕ → ℕ → ℕ → ℕ → Option Refusal
+batch_refusal w at caller serial count =
+    if is_member w at then submit_refusal w.group (node w at) caller serial count else Some UnknownMember
+
+-- why an event is refused: the first that applies; one command is a batch of one
 abbrev pub refusal : World → Event → Option Refusal
-refusal w (Submit at caller serial command) =
-    if is_member w at then submit_refusal w.group (node w at) caller serial else Some UnknownMember
+refusal w (Submit at caller serial command) = batch_refusal w at caller serial 1
+refusal w (SubmitBatch at caller serial commands) = batch_refusal w at caller serial (length commands)
 refusal w (Receive at from n) =
     if is_member w at && is_member w from
     then (if from == at then Some FromSelf else receive_refusal w.group (node w at) (node w from) n)
@@ -177,7 +184,8 @@ with_node w at v = record w { nodes = slice_set w.nodes (at - 1) v }
 
 -- the world after an event that is not refused
 abbrev pub after : World → Event → World
-after w (Submit at caller serial command) = with_node w at (submit_at (node w at) caller serial command)
+after w (Submit at caller serial command) = with_node w at (submit_at (node w at) caller serial (command ∷ []))
+after w (SubmitBatch at caller serial commands) = with_node w at (submit_at (node w at) caller serial commands)
 after w (Receive at from n) = with_node w at (receive_at (node w at) from (message (node w from) n))
 after w (Deliver at) = with_node w at (deliver_at w.vocabulary (node w at) (due w (node w at)))
 
@@ -188,6 +196,7 @@ place_of v (Some x) = Some (length v.history)
 -- what an event that is not refused gives
 abbrev pub outcome : World → Event → Outcome
 outcome w (Submit at caller serial command) = Submitted (stamp ((node w at).clock + 1) at)
+outcome w (SubmitBatch at caller serial commands) = Submitted (stamp ((node w at).clock + 1) at)
 outcome w (Receive at from n) = Received (acknowledgement (node w at) (message (node w from) n))
 outcome w (Deliver at) = Delivered (place_of (node w at) (due w (node w at)))
 

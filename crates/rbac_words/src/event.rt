@@ -1,5 +1,6 @@
 //! What can happen to a group of members, what comes of it, and why an event is refused.
 
+use crate::commands::Commands;
 use crate::stamp::Stamp;
 use rbac_terms::Command;
 use thiserror::Error;
@@ -13,6 +14,13 @@ pub enum Event {
         caller: u32,
         serial: u32,
         command: Command,
+    },
+    /// A caller of member `at` submits its next commands together.
+    SubmitBatch {
+        at: u32,
+        caller: u32,
+        serial: u32,
+        commands: Commands,
     },
     /// Message `number` (counted from 1) of member `from` comes to member `at`.
     Receive {
@@ -29,7 +37,7 @@ pub enum Event {
 /// What an event that is not refused gives.
 #[derive(Clone, Copy, Debug, PartialEq, Eq, Drop)]
 pub enum Outcome {
-    /// The stamp of the command.
+    /// The stamp of the message: that of its first command.
     Submitted(Stamp),
     /// The stamp of the acknowledgement, if the message was acknowledged.
     Received(Option<Stamp>),
@@ -43,6 +51,9 @@ pub enum Refusal {
     /// `at` or `from` is no member.
     #[error("the group has no member of this number")]
     UnknownMember,
+    /// No command, more than 64, or a last serial above 4,294,967,295.
+    #[error("a message has 1 to 64 commands, with serials up to 4294967295")]
+    BadBatch,
     /// A member receives nothing from itself.
     #[error("a member receives nothing from itself")]
     FromSelf,
@@ -55,8 +66,8 @@ pub enum Refusal {
     /// A message before which another one is missing.
     #[error("a message before this one is missing: expected message {expected}")]
     Gap { expected: u64 },
-    /// The stamp is not of the sender, or not above the last one taken from it.
-    #[error("the stamp is not of the sender, or not above the last one taken from it")]
+    /// The stamp is none of a message of the sender, or not above the last one taken from it.
+    #[error("the stamp is none of a message of the sender, or not above the last one taken from it")]
     StampNotRising,
     /// The clock would pass its limit.
     #[error("the member's clock is at its limit")]

@@ -2,6 +2,7 @@
 //! book of the order, that every crate of members cites.
 #![tactic(auto)]
 
+pub mod commands;
 pub mod event;
 pub mod group;
 pub mod limits;
@@ -9,6 +10,7 @@ pub mod message;
 pub mod record;
 pub mod stamp;
 
+pub use commands::Commands;
 pub use event::{Event, Outcome, Refusal};
 pub use group::{Group, GroupRefusal};
 pub use message::{Message, Submission};

@@ -2,6 +2,7 @@
 ghost use Rattle.std.specs.Prelude.{◌≡◌, IfOk};
 ghost use Rattle.rbac_words.specs.Message.{stamp_of};
 
+use crate::commands::Commands;
 use crate::stamp::Stamp;
 use rbac_terms::Command;
 use std::alloc::AllocError;
@@ -16,14 +17,15 @@ pub struct Submission {
     pub command: Command,
 }
 
-/// What a member sends to all others: a command, or an acknowledgement that it received one (Lamport 1978).
+/// What a member sends to all others: commands of one caller, or an acknowledgement that it received some (Lamport 1978). The
+/// commands follow one another in places from the stamp's on, and in serials from this one on.
 #[derive(Clone, Drop)]
 pub enum Message {
-    Call {
+    Batch {
         stamp: Stamp,
         caller: u32,
         serial: u32,
-        command: Command,
+        commands: Commands,
     },
     Ack {
         stamp: Stamp,
@@ -31,12 +33,12 @@ pub enum Message {
 }
 
 impl Message {
-    /// When it was sent.
+    /// When it was sent: the stamp of its first command.
     pub fn stamp(&self) -> Stamp
         ensures { result ≡ stamp_of self.now }
     {
         match self {
-            Message::Call { stamp, .. } => *stamp,
+            Message::Batch { stamp, .. } => *stamp,
             Message::Ack { stamp } => *stamp,
         }
     }

@@ -1,15 +1,17 @@
 //! Stamps, and their total order.
-ghost use Rattle.std.specs.Prelude.{IsTrue, ◌↔◌};
+ghost use Rattle.std.specs.Prelude.{IsTrue, ◌≡◌, ◌↔◌};
 ghost use Rattle.rbac_words.specs.Stamp.{IsBefore};
 
 use std::cmp::Ordering;
 
-/// When a message was sent: the sender's clock and the sender's number. The smaller clock comes first, and equal clocks
-/// are ordered by the smaller member number (Lamport 1978, "Ordering the Events Totally").
+/// When a command was submitted or a message sent: the sender's clock, the sender's number, and the command's place in its
+/// message, counted from 0. The smaller clock comes first, and equal clocks are ordered by the smaller member number (Lamport
+/// 1978, "Ordering the Events Totally"); the commands of one message are in the order of their places.
 #[derive(Clone, Copy, Debug, PartialEq, Eq, Drop)]
 pub struct Stamp {
     pub clock: u64,
     pub member: u32,
+    pub place: u32,
 }
 
 impl Ord for Stamp {
@@ -29,6 +31,7 @@ impl Ord for Stamp {
         self.clock
             .cmp(&other.clock)
             .then(self.member.cmp(&other.member))
+            .then(self.place.cmp(&other.place))
     }
 }
 
@@ -49,6 +52,17 @@ impl PartialOrd for Stamp {
 }
 
 impl Stamp {
+    /// The stamp of a message: that of its first command.
+    pub fn at(clock: u64, member: u32) -> Stamp
+        ensures { result ≡ record { clock = clock; member = member; place = 0 } }
+    {
+        Stamp {
+            clock,
+            member,
+            place: 0,
+        }
+    }
+
     /// Whether it comes before the other one.
     pub fn is_before(self, other: Stamp) -> bool
         ensures { IsTrue result ↔ IsBefore self other }

@@ -24,9 +24,9 @@ has_link l k = nat_le 1 k && nat_le k (length l.read)
 abbrev pub next_of : Links → ℕ → ℕ
 next_of l k = slice_index l.read (k - 1) + 1
 
--- whether a stamp is of member k, and comes after the last one that was taken of it
+-- whether a stamp is one of a message of member k, and comes after the last one that was taken of it
 abbrev pub is_rising_of : Links → ℕ → Stamp → Bool
-is_rising_of l k s = s.member == k && is_after (slice_index_or l.latest (k - 1) None) s
+is_rising_of l k s = s.member == k && (s.place == 0 && is_after (slice_index_or l.latest (k - 1) None) s)
 
 -- why the message of this number and stamp is not taken from a member: the first that applies
 abbrev pub link_refusal : Links → ℕ → ℕ → Stamp → Option Refusal

@@ -9,16 +9,16 @@ use Rattle.rbac_terms.specs.State.{State, founding_state}
 use Rattle.rbac_terms.specs.Effect.{effect, reply}
 use Rattle.rbac_terms.specs.Replay.{state_after}
 use Rattle.rbac_words.specs.Stamp.{IsBefore, IsRising, IsAfter, has_passed, insert_all}
-use Rattle.rbac_words.specs.Message.{stamp_of, submitted_at, submissions_of, submissions, commands_of, has_later, is_by, next_serial, CountsFrom, IsLawful}
+use Rattle.rbac_words.specs.Message.{stamp_of, submitted_at, submissions_of, has_bad_batch, submissions, commands_of, has_later, is_by, next_serial, CountsFrom, IsLawful}
 use Rattle.rbac_words.specs.Front.{IsLegalFront, command_of, is_of}
 use Rattle.rbac_words.specs.Keeping.Links.{Links, link_refusal}
 use Rattle.rbac_words.specs.World.{Node, stamp, read_of, least, clock_after, acknowledgement, acks, room_refusal}
 use Rattle.rbac_terms.specs.declared.command.Command.{Command}
 use Rattle.rbac_words.specs.declared.message.Message.{Message}
-use Rattle.rbac_words.specs.declared.message.Message.TheVariants.{Call, Ack}
+use Rattle.rbac_words.specs.declared.message.Message.TheVariants.{Batch, Ack}
 use Rattle.rbac_words.specs.declared.message.Submission.{Submission}
 use Rattle.rbac_words.specs.declared.event.Refusal.{Refusal}
-use Rattle.rbac_words.specs.declared.event.Refusal.TheVariants.{BadSerial}
+use Rattle.rbac_words.specs.declared.event.Refusal.TheVariants.{BadBatch, BadSerial}
 use Rattle.rbac_words.specs.declared.record.Record.{Record}
 use Rattle.rbac_words.specs.declared.stamp.Stamp.{Stamp}
 
@@ -64,16 +64,16 @@ known v = commands_of v.history ++ v.held
 
 -- ---- Submit
 
--- a command as it is submitted next
-abbrev pub submission : Member → ℕ → ℕ → Command → Submission
-submission v caller serial command = record { stamp = stamp (v.clock + 1) v.number; caller = caller; serial = serial; command = command }
+-- commands as they are sent next
+abbrev pub batch : Member → ℕ → ℕ → List Command → Message
+batch v caller serial commands = Batch (stamp (v.clock + 1) v.number) caller serial commands
 
--- the clock rises by one, and the command is sent with that stamp and held; its stamp is above all that is held
-abbrev pub submitted : Member → ℕ → ℕ → Command → Member
-submitted v caller serial command = record v {
+-- the clock rises by one, and the commands are sent with that stamp and held; their stamps are above all that is held
+abbrev pub submitted : Member → ℕ → ℕ → List Command → Member
+submitted v caller serial commands = record v {
   clock = v.clock + 1;
-  sent = v.sent ++ Call (stamp (v.clock + 1) v.number) caller serial command ∷ [];
-  held = v.held ++ submission v caller serial command ∷ [];
+  sent = v.sent ++ batch v caller serial commands ∷ [];
+  held = v.held ++ submissions_of (batch v caller serial commands);
 }
 
 -- ---- Receive
@@ -82,9 +82,13 @@ submitted v caller serial command = record v {
 abbrev pub links_of : Member → Links
 links_of v = record { me = v.number; read = v.read; latest = v.latest }
 
--- a command is refused where its serial is not the number of its caller's commands that the member knows
+-- commands are refused that are no batch
+abbrev pub batch_refusal : Message → Option Refusal
+batch_refusal m = if has_bad_batch m then Some BadBatch else None
+
+-- and where the first one's serial is not the number of its caller's commands that the member knows
 abbrev pub serial_refusal : Member → Message → Option Refusal
-serial_refusal v (Call s caller serial command) =
+serial_refusal v (Batch s caller serial commands) =
     if serial == next_serial caller (filter (is_of s.member) (known v)) then None
     else Some (BadSerial (next_serial caller (filter (is_of s.member) (known v))))
 serial_refusal v (Ack s) = None
@@ -93,9 +97,11 @@ abbrev pub or_else : Option Refusal → Option Refusal → Option Refusal
 or_else None other = other
 or_else (Some r) other = Some r
 
--- why a message is not received: the first that applies of what the link, the clock and the sent list, and the serial refuse
+-- why a message is not received: the first that applies of what the link, the batch, the clock and the sent list, and the
+-- serial refuse
 abbrev pub message_refusal : Member → ℕ → ℕ → Message → Option Refusal
-message_refusal v from n m = or_else (link_refusal (links_of v) from n (stamp_of m)) (or_else (room_refusal v.group (node_of v) m) (serial_refusal v m))
+message_refusal v from n m =
+    or_else (link_refusal (links_of v) from n (stamp_of m)) (or_else (batch_refusal m) (or_else (room_refusal v.group (node_of v) m) (serial_refusal v m)))
 
 -- one more message was read of member k, with this stamp; its commands are held, and it is acknowledged by the rule
 abbrev pub received : Member → ℕ → Message → Member
@@ -160,7 +166,7 @@ pub record IsNumber (group : Group) (k : ℕ) : Type 0 where
 
 -- each message of member k after the last one that was read has a stamp above this one
 abbrev pub IsCovered : Option Stamp → ℕ → Stamp → Type 0
-IsCovered last k s = (t : Stamp) → t.member ≡ k → IsAfter last t → IsBefore s t
+IsCovered last k s = (t : Stamp) → t.member ≡ k → t.place ≡ 0 → IsAfter last t → IsBefore s t
 
 -- a clock above that of the last message that was read
 abbrev pub IsClockAbove : Option Stamp → ℕ → Type 0
@@ -202,11 +208,13 @@ pub record IsMember (v : Member) : Type 0 where
   -- after each command of another member it sent something with a greater stamp
   pub acknowledged : AllByRecursion (λ (x : Submission). x.stamp.member ≢ v.number → has_later v.sent x.stamp ≡ true) (known v)
 
--- this is the next message of member k: it is that member's, it has a stamp after the latest one, and its commands have the
--- next serials of their callers
+-- this is the next message of member k: it is that member's, it has a message's stamp, after the latest one, and its commands
+-- are a batch, with the next serials of their caller
 pub record IsNext (v : Member) (k : ℕ) (m : Message) : Type 0 where
   pub number : IsNumber v.group k
   pub other : k ≢ v.number
   pub sender : (stamp_of m).member ≡ k
+  pub first : (stamp_of m).place ≡ 0
   pub after : IsAfter (latest_of v k) (stamp_of m)
+  pub batch : has_bad_batch m ≡ false
   pub serials : (caller : ℕ) → CountsFrom 0 (filter (is_by caller) (filter (is_of k) (known v) ++ submissions_of m))
