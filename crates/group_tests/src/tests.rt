@@ -2,6 +2,7 @@
 
 mod client_lines;
 mod conversations;
+mod failing;
 mod founding_files;
 mod hold_back;
 mod links;
@@ -10,6 +11,8 @@ mod nodes;
 mod passes;
 mod plays;
 mod refusals;
+mod refused_growths;
+mod refused_passes;
 mod schedule_lines;
 mod schedules;
 mod stamps;

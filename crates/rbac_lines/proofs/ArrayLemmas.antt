@@ -1,9 +1,9 @@
--- Reading an array of names, one element after another.
-use Rattle.std.proofs.Common.{◌≡◌, ◌&&◌, ◌+◌, ◌<◌, ◌≤◌, ℕ, List, [], ◌∷◌, map, drop, get_or, length, fold, Bool, true, false, ◌||◌, None, Some, Ok, Err, is_some, option_map, option_and_then, unwrap_or, if◌then◌else◌, refl, sym, ap, ◌∙◌}
+-- Reading an array of names or of commands, one element after another.
+use Rattle.std.proofs.Common.{◌≡◌, ◌&&◌, ◌+◌, ◌<◌, ◌≤◌, ℕ, List, [], ◌∷◌, map, drop, get_or, length, fold, Bool, true, false, ◌||◌, None, Some, Ok, Err, is_some, option_map, option_and_then, unwrap_or, if◌then◌else◌, ◌++◌, append_assoc, refl, sym, ap, ◌∙◌}
 use Rattle.std.specs.List.{list_all}
 use Rattle.std.proofs.lemmas.List.{at_drop_more, at_drop_all}
 use Rattle.serde_json.specs.declared.value.Value.{Value}
-use Rattle.serde_json.specs.Find.{as_str}
+use Rattle.serde_json.specs.Find.{as_object, as_str}
 use Rattle.serde_json.specs.View.{view, items_view}
 use Rattle.std.specs.List.Sorted.{IsStrictlySortedBy}
 use Rattle.std.specs.Ordering.{eq_by_cmp}
@@ -16,7 +16,9 @@ use Rattle.rbac_terms.specs.Name.{Name, is_name, name_cmp}
 use Rattle.rbac_terms.proofs.NameLemmas.{names_total, names_exact}
 use Rattle.rbac_founding.specs.Steps.{◌>>=◌}
 use Rattle.rbac_founding.proofs.ReadingLemmas.{of_kind_more}
-use Rattle.rbac_lines.specs.Fields.{Reading, name_of, names_of, texts_of}
+use Rattle.rbac_terms.specs.declared.command.Command.{Command}
+use Rattle.rbac_lines.specs.Fields.{Reading, name_of, names_of, texts_of, are_objects}
+use Rattle.rbac_lines.specs.Event.{command_in, commands_of}
 use Rattle.rbac_lines.specs.declared.refusal.LineRefusal.TheVariants.{WrongKind, BadName}
 
 -- ---- Names that are added in turn
@@ -97,3 +99,44 @@ names_of_others array others = rw (texts_of_array array, ← others)
 pub names_of_texts : (array : List Value) → true ≡ list_all (λ value. is_some (as_str (view value))) array → names_of (items_view array) ≡ names_from [] (map text_of array)
 names_of_texts array texts =
     rw (texts_of_array array, ← texts) (ap (λ set. if list_all is_name (map text_of array) then Ok set else Err BadName) (sym (added_all (map text_of array))))
+
+-- ---- Commands, one after another
+
+-- whether an array has objects alone, element by element
+pub are_objects_of : (array : List Value) → are_objects (items_view array) ≡ list_all (λ value. is_some (as_object (view value))) array
+are_objects_of [] = refl
+are_objects_of (value ∷ array) = ap (λ rest. is_some (as_object (view value)) && rest) (are_objects_of array)
+
+-- what is read already, and what is read of the rest
+abbrev pub commands_after : List Command → Reading (List Command) → Reading (List Command)
+commands_after done (Ok commands) = Ok (done ++ commands)
+commands_after done (Err refusal) = Err refusal
+
+pub none_before : (rest : Reading (List Command)) → rest ≡ commands_after [] rest
+none_before (Ok commands) = refl
+none_before (Err refusal) = refl
+
+one_before : (done : List Command) (command : Command) (rest : Reading (List Command))
+    → commands_after done (rest >>= λ commands. Ok (command ∷ commands)) ≡ commands_after (done ++ command ∷ []) rest
+one_before done command (Ok commands) = ap Ok (sym (append_assoc done (command ∷ []) commands))
+one_before done command (Err refusal) = refl
+
+first_before : (done : List Command) (first : Reading Command) (rest : Reading (List Command))
+    → commands_after done (first >>= λ command. rest >>= λ commands. Ok (command ∷ commands)) ≡ (first >>= λ command. commands_after (done ++ command ∷ []) rest)
+first_before done (Ok command) rest = one_before done command rest
+first_before done (Err refusal) rest = refl
+
+-- the next element is read as a command, or refused
+pub commands_next : (done : List Command) (array : List Value) (i : ℕ) (value : Value) (answer : Reading Command)
+    → i < length array → value ≡ get_or array i value → command_in (view value) ≡ answer
+    → commands_after done (commands_of (items_view (drop i array))) ≡ (answer >>= λ command. commands_after (done ++ command ∷ []) (commands_of (items_view (drop (i + 1) array))))
+commands_next done array i value answer within here read =
+    let later = drop (i + 1) array in
+    at_drop_more (λ values. commands_after done (commands_of (items_view values))) array i value within
+    ∙ ap (λ element. commands_after done (commands_of (items_view (element ∷ later)))) (sym here)
+    ∙ first_before done (command_in (view value)) (commands_of (items_view later))
+    ∙ ap (λ first. first >>= λ command. commands_after (done ++ command ∷ []) (commands_of (items_view later))) read
+
+-- after the last element all are read
+pub commands_end : (done : List Command) (array : List Value) (i : ℕ) → length array ≤ i → commands_after done (commands_of (items_view (drop i array))) ≡ Ok (done ++ [])
+commands_end done array i h = at_drop_all (λ values. commands_after done (commands_of (items_view values))) array i h

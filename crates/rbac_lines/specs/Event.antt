@@ -1,17 +1,18 @@
 -- What event a line stands for. A line is refused for the first of these: it is too long, it is no JSON, it is no object;
 -- then its object is checked whole: its word, the fields that belong to that from left to right, and no other key; and
--- only then is the command object of a submit looked into, in the same way.
+-- only then is the command object of a submit looked into, in the same way, or those of a batch, one after the other.
 use Rattle.std.specs.Prelude.{ℕ, List, [], ◌∷◌, length, codes, nat_lt, if◌then◌else◌, Option, None, ok_or, Ok, Err}
 use Rattle.std.specs.Str.{is_utf8}
-use Rattle.serde_json.specs.Data.{Data, Members}
+use Rattle.serde_json.specs.Data.{Data, Items, no_items, item, Members}
 use Rattle.serde_json.specs.Read.{read}
 use Rattle.serde_json.specs.Find.{as_object}
 use Rattle.line_engine.specs.Lines.{longest_line}
 use Rattle.rbac_words.specs.declared.event.Event.{Event}
-use Rattle.rbac_words.specs.declared.event.Event.TheVariants.{Submit, Receive, Deliver}
-use Rattle.rbac_lines.specs.declared.refusal.LineRefusal.TheVariants.{TooLong, NotJson, NotObject}
+use Rattle.rbac_terms.specs.declared.command.Command.{Command}
+use Rattle.rbac_words.specs.declared.event.Event.TheVariants.{Submit, SubmitBatch, Receive, Deliver}
+use Rattle.rbac_lines.specs.declared.refusal.LineRefusal.TheVariants.{TooLong, NotJson, NotObject, WrongKind}
 use Rattle.rbac_founding.specs.Steps.{◌>>=◌, ◌>>◌}
-use Rattle.rbac_lines.specs.Fields.{Reading, whole_in, text_in, object_in, only_keys, by_word, unknown}
+use Rattle.rbac_lines.specs.Fields.{Reading, whole_in, text_in, object_in, objects_in, only_keys, by_word, unknown}
 use Rattle.rbac_lines.specs.Command.{command_of}
 
 -- submit: at, caller, serial, and the object command
@@ -24,6 +25,31 @@ submit object = do
   only_keys (codes "do" ∷ codes "at" ∷ codes "caller" ∷ codes "serial" ∷ codes "command" ∷ []) object
   command ← command_of fields
   Ok (Submit at caller serial command)
+
+-- the command that an element of an array stands for
+abbrev pub command_in : Data → Reading Command
+command_in value = do
+  fields ← ok_or (as_object value) WrongKind
+  command_of fields
+
+-- the commands that the elements stand for, one after the other
+abbrev pub commands_of : Items → Reading (List Command)
+commands_of no_items = Ok []
+commands_of (item value rest) = do
+  command ← command_in value
+  commands ← commands_of rest
+  Ok (command ∷ commands)
+
+-- batch: at, caller, serial, and the array commands, of objects
+abbrev pub batch : Members → Reading Event
+batch object = do
+  at ← whole_in (codes "at") object
+  caller ← whole_in (codes "caller") object
+  serial ← whole_in (codes "serial") object
+  array ← objects_in (codes "commands") object
+  only_keys (codes "do" ∷ codes "at" ∷ codes "caller" ∷ codes "serial" ∷ codes "commands" ∷ []) object
+  commands ← commands_of array
+  Ok (SubmitBatch at caller serial commands)
 
 -- receive: at, from, number
 abbrev pub receive : Members → Reading Event
@@ -45,6 +71,7 @@ deliver object = do
 abbrev pub events : List (List ℕ × (Members → Reading Event))
 events =
     (codes "submit", submit)
+    ∷ (codes "batch", batch)
     ∷ (codes "receive", receive)
     ∷ (codes "deliver", deliver)
     ∷ []

@@ -1,7 +1,7 @@
 -- What is read of a JSON object's fields. Each word answers the value, or the first refusal: MissingField where the key is
 -- not there, WrongKind where its value is of another kind, and for a name BadName where the text is no name.
 -- The keys of an object stand in no order. Where a key was given twice, the object has the last value.
-use Rattle.std.specs.Prelude.{ℕ, ◌^◌, List, [], ◌∷◌, nat_lt, if◌then◌else◌, Option, Some, None, ok_or, option_map, option_and_then, Result, Ok, Err, ⊤}
+use Rattle.std.specs.Prelude.{ℕ, ◌^◌, Bool, true, ◌&&◌, List, [], ◌∷◌, is_some, nat_lt, if◌then◌else◌, Option, Some, None, ok_or, option_map, option_and_then, Result, Ok, Err, ⊤}
 use Rattle.std.specs.Str.{bytes_eq}
 use Rattle.std.specs.List.{list_all}
 use Rattle.serde_json.specs.Data.{Data, Items, no_items, item, Members, no_members, member}
@@ -9,7 +9,7 @@ use Rattle.serde_json.specs.Find.{get_member, as_str, as_number, as_u64, as_arra
 use Rattle.sorted_keys.specs.Keys.{set_of}
 use Rattle.rbac_terms.specs.Name.{Name, is_name, name_cmp}
 use Rattle.rbac_founding.specs.Keys.{is_one_of}
-use Rattle.rbac_founding.specs.Steps.{◌>>=◌, ReadsBut}
+use Rattle.rbac_founding.specs.Steps.{◌>>=◌, ◌>>◌, provided, ReadsBut}
 use Rattle.rbac_lines.specs.declared.refusal.LineRefusal.{LineRefusal}
 use Rattle.rbac_lines.specs.declared.refusal.LineRefusal.TheVariants.{UnknownWord, MissingField, WrongKind, BadName, ExtraField, NoMemory}
 
@@ -85,6 +85,21 @@ names_in key object = do
   value ← value_in key object
   array ← ok_or (as_array value) WrongKind
   names_of array
+
+-- ---- An array of objects
+
+-- whether all elements of an array are objects
+abbrev pub are_objects : Items → Bool
+are_objects no_items = true
+are_objects (item value rest) = is_some (as_object value) && are_objects rest
+
+-- the array at a key, of which each element is an object
+abbrev pub objects_in : List ℕ → Members → Reading Items
+objects_in key object = do
+  value ← value_in key object
+  array ← ok_or (as_array value) WrongKind
+  provided (are_objects array) WrongKind
+  Ok array
 
 -- ---- The whole object
 

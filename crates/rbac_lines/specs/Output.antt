@@ -4,7 +4,7 @@ use Rattle.line_engine.specs.Lines.{lines}
 use Rattle.line_engine.specs.Output.{Taker, texts, state_after, refused_count}
 use Rattle.rbac_words.specs.World.{World, node, due, record_of, step, step_outcome}
 use Rattle.rbac_words.specs.declared.event.Event.{Event}
-use Rattle.rbac_words.specs.declared.event.Event.TheVariants.{Submit, Receive, Deliver}
+use Rattle.rbac_words.specs.declared.event.Event.TheVariants.{Submit, SubmitBatch, Receive, Deliver}
 use Rattle.rbac_words.specs.declared.event.Outcome.{Outcome}
 use Rattle.rbac_words.specs.declared.event.Refusal.{Refusal}
 use Rattle.rbac_words.specs.declared.record.Record.{Record}
@@ -15,6 +15,7 @@ use Rattle.rbac_lines.specs.Text.{outcome_text, refusal_text, line_refusal_text}
 -- the record that an event delivers, if it delivers one
 abbrev pub delivered_record : World → Event → Option Record
 delivered_record w (Submit at caller serial command) = None
+delivered_record w (SubmitBatch at caller serial commands) = None
 delivered_record w (Receive at from number) = None
 delivered_record w (Deliver at) = option_map (record_of w.vocabulary (node w at)) (due w (node w at))
 

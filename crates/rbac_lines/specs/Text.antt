@@ -1,5 +1,5 @@
 -- What a line is answered with: compact JSON without blanks, its keys in the order of their bytes, and a line feed.
-use Rattle.std.specs.Prelude.{ℕ, List, ◌++◌, codes, decimal, Option, Some, None, Result, Ok, Err}
+use Rattle.std.specs.Prelude.{ℕ, ◌==◌, if◌then◌else◌, List, ◌++◌, codes, decimal, Option, Some, None, Result, Ok, Err}
 use Rattle.std.specs.List.{join_by}
 use Rattle.rbac_terms.specs.Name.{Name, Permission}
 use Rattle.rbac_terms.specs.Denials.{denial_word, denial_number}
@@ -11,7 +11,7 @@ use Rattle.rbac_terms.specs.declared.answer.Answer.TheVariants.{Done, Granted, R
 use Rattle.rbac_words.specs.declared.event.Outcome.{Outcome}
 use Rattle.rbac_words.specs.declared.event.Outcome.TheVariants.{Submitted, Received, Delivered}
 use Rattle.rbac_words.specs.declared.event.Refusal.{Refusal}
-use Rattle.rbac_words.specs.declared.event.Refusal.TheVariants.{UnknownMember, FromSelf, NotSent, Repeat, Gap, StampNotRising, ClockFull, SentFull, BadSerial, NoMemory}
+use Rattle.rbac_words.specs.declared.event.Refusal.TheVariants.{UnknownMember, BadBatch, FromSelf, NotSent, Repeat, Gap, StampNotRising, ClockFull, SentFull, BadSerial, NoMemory}
 use Rattle.rbac_lines.specs.declared.refusal.DeskRefusal.{DeskRefusal}
 use Rattle.rbac_lines.specs.declared.refusal.DeskRefusal.TheVariants.{UnknownMember as DeskUnknownMember, Stopped, Busy, ClockFull as DeskClockFull, SentFull as DeskSentFull, NoMemory as DeskNoMemory}
 use Rattle.rbac_lines.specs.declared.refusal.LineRefusal.{LineRefusal}
@@ -19,9 +19,11 @@ use Rattle.rbac_lines.specs.declared.refusal.LineRefusal.TheVariants.{TooLong, N
 
 -- ---- Parts of a text
 
--- [1,1]: the clock and the member
+-- [1,1]: the clock and the member; [1,1,2] where there is a place other than 0
 abbrev pub stamp_text : Stamp → List ℕ
-stamp_text stamp = codes "[" ++ decimal stamp.clock ++ codes "," ++ decimal stamp.member ++ codes "]"
+stamp_text stamp =
+    if stamp.place == 0 then codes "[" ++ decimal stamp.clock ++ codes "," ++ decimal stamp.member ++ codes "]"
+    else codes "[" ++ decimal stamp.clock ++ codes "," ++ decimal stamp.member ++ codes "," ++ decimal stamp.place ++ codes "]"
 
 -- a stamp, or null where there is none
 abbrev pub stamp_or_null : Option Stamp → List ℕ
@@ -103,6 +105,7 @@ outcome_text line (Delivered place) None = nothing_delivered_text line
 -- the word of an event's refusal
 abbrev pub refusal_word : Refusal → List ℕ
 refusal_word UnknownMember = codes "UnknownMember"
+refusal_word BadBatch = codes "BadBatch"
 refusal_word FromSelf = codes "FromSelf"
 refusal_word NotSent = codes "NotSent"
 refusal_word (Repeat expected) = codes "Repeat"

@@ -1,24 +1,25 @@
 //! Lines as events.
 ghost use Rattle.std.specs.Prelude.{◌≡◌, ◌≢◌, IfOk, IfErr, Ok, Err};
-ghost use Rattle.serde_json.specs.View.{view, members_view};
+ghost use Rattle.serde_json.specs.View.{view, items_view, members_view};
 ghost use Rattle.rbac_lines.specs.Fields.{Reads};
-ghost use Rattle.rbac_lines.specs.Event.{event, event_of, value_of, submit, receive, deliver};
+ghost use Rattle.rbac_lines.specs.Event.{event, event_of, value_of, command_in, commands_of, submit, batch, receive, deliver};
 
 mod client;
 mod commands;
 pub(crate) mod fields;
 
 use crate::reading::commands::command_of;
-use crate::reading::fields::{Object, object_in, only_keys, text_in, whole_in};
+use crate::reading::fields::{Object, Reading, object_in, objects_in, only_keys, text_in, whole_in};
 use crate::refusal::LineRefusal;
 pub use client::{kept_line_asks_the_same, read_client};
 use line_engine::LONGEST_LINE;
-use rbac_words::Event;
+use rbac_words::{Command, Commands, Event};
 use serde_json::Value;
 use std::alloc::Global;
 
 /// Reads a line, without its line feed. It is refused for the first of these: it is too long, it is no JSON, it is no
-/// object; then for what the outer object lacks or has too much; and only then for what its command does.
+/// object; then for what the outer object lacks or has too much; and only then for what its command does, or the first of its
+/// commands that does.
 ///
 /// # Errors
 /// `TooLong`, `NotJson` and `NotObject` of the line as a whole, then `MissingField`, `WrongKind`, `UnknownWord` and `ExtraField` of
@@ -54,6 +55,7 @@ fn event_of(alloc: Global, object: &Object) -> Result<Event, LineRefusal>
     let word = text_in(object, "do")?;
     match word {
         "submit" => submit(alloc, object),
+        "batch" => batch(alloc, object),
         "receive" => receive(object),
         "deliver" => deliver(object),
         _ => Err(LineRefusal::UnknownWord),
@@ -75,6 +77,46 @@ fn submit(alloc: Global, object: &Object) -> Result<Event, LineRefusal>
         caller,
         serial,
         command,
+    })
+}
+
+/// The command that an element of an array stands for.
+fn command_in(alloc: Global, value: &Value) -> Reading<Command>
+    ensures { Reads (command_in (view value.now)) result }
+{
+    let fields = value.as_object().ok_or(LineRefusal::WrongKind)?;
+    command_of(alloc, fields)
+}
+
+/// The commands that the elements of an array stand for: the first refusal is that of the first element that is refused.
+fn commands_of(alloc: Global, array: &[Value]) -> Reading<Commands>
+    ensures { Reads (commands_of (items_view array.now)) result }
+{
+    let mut commands = Vec::new(alloc);
+    for value in array {
+        let command = command_in(alloc, value)?;
+        if commands.push(command).is_err() {
+            return Err(LineRefusal::NoMemory);
+        }
+    }
+    Ok(Commands::of(commands))
+}
+
+/// As of a submit, the outer object is checked whole before its commands are looked into.
+fn batch(alloc: Global, object: &Object) -> Result<Event, LineRefusal>
+    ensures { Reads (batch (members_view object.now.entries)) result }
+{
+    let at = whole_in(object, "at")?;
+    let caller = whole_in(object, "caller")?;
+    let serial = whole_in(object, "serial")?;
+    let array = objects_in(object, "commands")?;
+    only_keys(object, &["do", "at", "caller", "serial", "commands"])?;
+    let commands = commands_of(alloc, array)?;
+    Ok(Event::SubmitBatch {
+        at,
+        caller,
+        serial,
+        commands,
     })
 }
 

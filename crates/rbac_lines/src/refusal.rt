@@ -25,8 +25,8 @@ pub enum LineRefusal {
     /// A field is not there.
     #[error("a field is not there")]
     MissingField,
-    /// A field is not of its kind: a whole number up to 4,294,967,295, a text, an array of texts or an object.
-    #[error("a field is not of its kind: a whole number up to 4294967295, a text, an array of texts or an object")]
+    /// A field is not of its kind: a whole number up to 4,294,967,295, a text, an array of texts, an object or an array of objects.
+    #[error("a field is not of its kind: a whole number up to 4294967295, a text, an array of texts, an object or an array of objects")]
     WrongKind,
     /// A text is no name.
     #[error("a text is no name")]

@@ -23,8 +23,16 @@ impl Display for Shown {
     ghost output = { λ shown. Some (stamp_text shown.stamp) };
 
     fn fmt<W: fmt::Write>(&self, f: &mut fmt::Formatter<W>) -> fmt::Result {
-        let Stamp { clock, member } = self.stamp;
-        write!(f, "[{clock},{member}]")
+        let Stamp {
+            clock,
+            member,
+            place,
+        } = self.stamp;
+        if place == 0 {
+            write!(f, "[{clock},{member}]")
+        } else {
+            write!(f, "[{clock},{member},{place}]")
+        }
     }
 }
 
@@ -139,6 +147,7 @@ fn refusal_word(refusal: &Refusal) -> &'static str
 {
     match refusal {
         Refusal::UnknownMember => "UnknownMember",
+        Refusal::BadBatch => "BadBatch",
         Refusal::FromSelf => "FromSelf",
         Refusal::NotSent => "NotSent",
         Refusal::Repeat { .. } => "Repeat",

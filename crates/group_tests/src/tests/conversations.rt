@@ -1,6 +1,7 @@
 //! Conversations of `rbac_lines` with a desk in memory, which lists whom it was asked for.
 ghost use Rattle.std.specs.Prelude.{◌≡◌, ◌++◌, ◌∷◌, []};
 
+use crate::tests::failing::{FailingReader, FailingWriter, STEP, line_feeds, read_before};
 use rbac_lines::{Desk, DeskRefusal, RunFault, Summary, converse, watch};
 use rbac_words::{Answer, Command, Denial};
 use std::alloc::{AllocError, Global};
@@ -194,4 +195,69 @@ fn answers_the_lines_that_ended_where_the_reader_stops(rt: HostRuntime) {
     );
     assert!(rt; OUTPUT.starts_with(&written));
     assert!(rt; written.ends_with(b"{\"line\":9,\"refused\":\"UnknownMember\"}\n"));
+}
+
+/// The members that are asked for in the lines of the input.
+const MEMBERS: &[u32] = &[2, 1, 3, 4, 5, 6, 9, 1];
+
+/// The conversation ends at the reader's failing call: each line that had ended then has its whole text, and nothing else was written.
+fn expect_read_fault(rt: &impl Abort, alloc: Global, before: usize) {
+    let mut reader = watch(FailingReader::of(INPUT, before));
+    let mut written = Vec::new(alloc);
+    let mut desk = Listing::with_room(rt, alloc, 8);
+    let ended = converse(alloc, &mut reader, &mut watch(&mut written), &mut desk);
+    assert!(rt; ended == Err(RunFault::Read));
+    assert!(rt; MEMBERS.starts_with(&desk.asked));
+    drop(desk);
+    assert!(rt; OUTPUT.starts_with(&written));
+    assert!(rt; written.is_empty() || written.ends_with(b"\n"));
+    assert_eq!(rt;
+        line_feeds(&written),
+        line_feeds(read_before(INPUT, before))
+    );
+    drop(written);
+}
+
+#[test]
+fn a_reader_that_fails_at_each_of_its_calls(rt: HostRuntime) {
+    // The last call is the one that meets the end of the input.
+    let calls = INPUT.len().div_ceil(STEP).saturating_add(1);
+    assert!(rt; calls > 60);
+    for before in 0..calls {
+        expect_read_fault(&rt, rt.alloc(), before);
+    }
+}
+
+/// How the conversation ends whose writer fails at a call, and what it took until then, which is the first part of the texts.
+fn written_before(
+    rt: &impl Abort,
+    alloc: Global,
+    before: usize,
+) -> (Result<Summary, RunFault>, usize) {
+    let mut writer = FailingWriter::of(alloc, before);
+    let mut desk = Listing::with_room(rt, alloc, 8);
+    let ended = converse(alloc, &mut watch(INPUT), &mut watch(&mut writer), &mut desk);
+    assert!(rt; MEMBERS.starts_with(&desk.asked));
+    drop(desk);
+    assert!(rt; OUTPUT.starts_with(&writer.taken));
+    let taken = writer.taken.len();
+    drop(writer);
+    (ended, taken)
+}
+
+#[test]
+fn a_writer_that_fails_at_each_of_its_calls(rt: HostRuntime) {
+    let mut last = 0;
+    for before in 0..200 {
+        let (ended, taken) = written_before(&rt, rt.alloc(), before);
+        if ended.is_ok() {
+            assert!(rt; taken == OUTPUT.len() && before > 20);
+            return;
+        }
+        assert!(rt; ended == Err(RunFault::Write));
+        // Each call took something more.
+        assert!(rt; before == 0 || last < taken);
+        last = taken;
+    }
+    panic!(rt; "each run fails");
 }

@@ -274,6 +274,135 @@ fn the_first_refusal_of_a_hierarchy(rt: HostRuntime) {
     }
 }
 
+#[test]
+fn a_file_that_is_too_long_and_no_toml(rt: HostRuntime) {
+    let mut file = Vec::new(rt.alloc());
+    file.resize(1_048_577, b'[').expect(&rt, "memory");
+    let long = Some(FoundingRefusal::TooLong);
+    assert_eq!(rt; refusal_of(rt.alloc(), &file), long);
+    file.truncate(1_048_576);
+    let none = Some(FoundingRefusal::NotToml);
+    assert_eq!(rt; refusal_of(rt.alloc(), &file), none);
+    drop(file);
+}
+
+#[test]
+fn each_key_that_is_missing(rt: HostRuntime) {
+    let missing = FoundingRefusal::MissingKey;
+    for lists in [
+        "operations = []\nobjects = []\npermissions = 1",
+        "members = \"1\"\nobjects = []\npermissions = []",
+        "members = \"1\"\noperations = []\npermissions = []",
+        "members = \"1\"\noperations = []\nobjects = []",
+    ] {
+        expect_refused(&rt, rt.alloc(), "version = 1", lists, missing);
+    }
+}
+
+#[test]
+fn each_list_of_another_kind(rt: HostRuntime) {
+    let wrong = FoundingRefusal::WrongKind;
+    for lists in [
+        "operations = \"\"\nobjects = []\npermissions = []",
+        "operations = []\nobjects = {}\npermissions = []",
+        "operations = []\nobjects = []\npermissions = [\"read\", \"ledger\"]",
+        "operations = []\nobjects = []\npermissions = [[\"read\"]]",
+        "operations = []\nobjects = []\npermissions = [[\"read\", 1]]",
+    ] {
+        let numbers = "version = 1\nmembers = 9";
+        expect_refused(&rt, rt.alloc(), numbers, lists, wrong);
+    }
+}
+
+// So many copies of a text, which is no name and stands more than once.
+fn copies(rt: &impl Abort, alloc: Global, text: &str, count: usize) -> String {
+    let mut copies = String::new(alloc);
+    for _ in 0..count {
+        copies.push_str(text).expect(rt, "memory");
+    }
+    copies
+}
+
+// A file with so many operations, objects and permissions, which have bad names, is refused so.
+fn expect_long_lists(
+    rt: &impl Abort,
+    alloc: Global,
+    (operations, objects, permissions): (usize, usize, usize),
+    refusal: FoundingRefusal,
+) {
+    let operations = copies(rt, alloc, "\"\",", operations);
+    let objects = copies(rt, alloc, "\"\",", objects);
+    let pairs = copies(rt, alloc, "[\"\",\"\"],", permissions);
+    let lists = format!(in alloc;
+        "operations = [{operations}]\nobjects = [{objects}]\npermissions = [{pairs}]"
+    );
+    let numbers = "version = 1\nmembers = 8";
+    let lists = lists.expect(rt, "memory");
+    expect_refused(rt, alloc, numbers, lists.as_str(), refusal);
+    drop(lists);
+}
+
+#[test]
+fn operations_have_a_limit(rt: HostRuntime) {
+    let alloc = rt.alloc();
+    expect_long_lists(&rt, alloc, (256, 0, 0), FoundingRefusal::BadName);
+    expect_long_lists(&rt, alloc, (257, 0, 0), FoundingRefusal::OutOfRange);
+}
+
+#[test]
+fn objects_have_a_limit(rt: HostRuntime) {
+    let outside = FoundingRefusal::OutOfRange;
+    expect_long_lists(&rt, rt.alloc(), (0, 4_097, 0), outside);
+}
+
+#[test]
+fn permissions_have_a_limit(rt: HostRuntime) {
+    let outside = FoundingRefusal::OutOfRange;
+    expect_long_lists(&rt, rt.alloc(), (0, 0, 16_385), outside);
+}
+
+#[test]
+fn each_number_outside_its_range(rt: HostRuntime) {
+    let outside = FoundingRefusal::OutOfRange;
+    for numbers in [
+        "version = 1\nmembers = 0",
+        "version = 1\nmembers = 9",
+        "version = 1\nmembers = 1\nclock = -1",
+        "version = 1\nmembers = 1\nclock = 9007199254740992",
+        "version = 1\nmembers = 1\nsent_limit = 0",
+        "version = 1\nmembers = 1\nsent_limit = 65537",
+    ] {
+        let lists = "operations = [\"\"]\nobjects = []\npermissions = []";
+        expect_refused(&rt, rt.alloc(), numbers, lists, outside);
+    }
+}
+
+#[test]
+fn a_bad_name_in_each_list(rt: HostRuntime) {
+    let bad = FoundingRefusal::BadName;
+    for lists in [
+        "operations = [\"a b\", \"a b\"]\nobjects = []\npermissions = []",
+        "operations = [\"a\", \"a\"]\nobjects = [\"\"]\npermissions = []",
+        "operations = [\"a\", \"a\"]\nobjects = []\npermissions = [[\"a\", \"a b\"]]",
+    ] {
+        let numbers = "version = 1\nmembers = 1";
+        expect_refused(&rt, rt.alloc(), numbers, lists, bad);
+    }
+}
+
+#[test]
+fn a_repetition_in_each_list(rt: HostRuntime) {
+    let repeated = FoundingRefusal::Repeated;
+    for lists in [
+        "operations = [\"a\", \"a\"]\nobjects = []\npermissions = [[\"a\", \"b\"]]",
+        "operations = []\nobjects = [\"a\", \"a\"]\npermissions = [[\"a\", \"b\"]]",
+        "operations = []\nobjects = []\npermissions = [[\"a\", \"b\"], [\"a\", \"b\"]]",
+    ] {
+        let numbers = "version = 1\nmembers = 1";
+        expect_refused(&rt, rt.alloc(), numbers, lists, repeated);
+    }
+}
+
 // The lists of names in the sample.
 const NAMES: &str = r#"
 version = 1

@@ -1,4 +1,5 @@
-//! What `rbac_lines` reads lines of a schedule as; the refusals are in the goldens, but for bytes that a golden cannot show.
+//! What `rbac_lines` reads lines of a schedule as; each refusal has a line here that the next check would refuse
+//! too, where it can; more stand in the goldens.
 
 use rbac_lines::{LineRefusal, read_line};
 use rbac_words::{Command, Event};
@@ -50,4 +51,108 @@ fn bytes_that_are_no_json(rt: HostRuntime) {
     assert!(rt; is_no_json(rt.alloc(), b"{\"do\":\"deliver\",\"at\":1,\"\xff\":0}"));
     assert!(rt; is_no_json(rt.alloc(), &nested_arrays(&rt, rt.alloc(), 128)));
     assert!(rt; !is_no_json(rt.alloc(), &nested_arrays(&rt, rt.alloc(), 127)));
+}
+
+/// The line is refused so.
+fn expect_refused(rt: &impl Abort, alloc: Global, line: &[u8], refusal: LineRefusal) {
+    assert!(rt; read_line(alloc, line).err() == Some(refusal));
+}
+
+#[test]
+fn a_line_that_is_too_long_and_no_json(rt: HostRuntime) {
+    let mut line = Vec::new(rt.alloc());
+    line.resize(65_537, b'[').expect(&rt, "memory");
+    expect_refused(&rt, rt.alloc(), &line, LineRefusal::TooLong);
+    line.truncate(65_536);
+    expect_refused(&rt, rt.alloc(), &line, LineRefusal::NotJson);
+    drop(line);
+}
+
+#[test]
+fn the_word_before_the_fields(rt: HostRuntime) {
+    for (line, refusal) in [
+        (br#"[{"do":7}"#.as_slice(), LineRefusal::NotJson),
+        (br#"[{"do":7}]"#, LineRefusal::NotObject),
+        (br#"{"at":"1","now":1}"#, LineRefusal::MissingField),
+        (br#"{"do":7,"now":1}"#, LineRefusal::WrongKind),
+        (br#"{"do":"fly","now":1}"#, LineRefusal::UnknownWord),
+    ] {
+        expect_refused(&rt, rt.alloc(), line, refusal);
+    }
+}
+
+#[test]
+fn the_fields_from_left_to_right(rt: HostRuntime) {
+    for (line, refusal) in [
+        (
+            br#"{"do":"receive","from":"2","now":1}"#.as_slice(),
+            LineRefusal::MissingField,
+        ),
+        (
+            br#"{"do":"receive","at":"1","now":1}"#,
+            LineRefusal::WrongKind,
+        ),
+        (
+            br#"{"do":"receive","at":1,"number":-1,"now":1}"#,
+            LineRefusal::MissingField,
+        ),
+        (
+            br#"{"do":"receive","at":1,"from":[],"now":1}"#,
+            LineRefusal::WrongKind,
+        ),
+        (
+            br#"{"do":"receive","at":1,"from":2,"now":1}"#,
+            LineRefusal::MissingField,
+        ),
+        (
+            br#"{"do":"receive","at":1,"from":2,"number":1.0,"now":1}"#,
+            LineRefusal::WrongKind,
+        ),
+        (
+            br#"{"do":"receive","at":9,"from":9,"number":0,"now":1}"#,
+            LineRefusal::ExtraField,
+        ),
+        (
+            br#"{"do":"deliver","at":9,"now":1}"#,
+            LineRefusal::ExtraField,
+        ),
+    ] {
+        expect_refused(&rt, rt.alloc(), line, refusal);
+    }
+}
+
+#[test]
+fn the_fields_of_a_submit(rt: HostRuntime) {
+    for (line, refusal) in [
+        (
+            br#"{"do":"submit","at":1,"serial":"0"}"#.as_slice(),
+            LineRefusal::MissingField,
+        ),
+        (
+            br#"{"do":"submit","at":1,"caller":"0"}"#,
+            LineRefusal::WrongKind,
+        ),
+        (
+            br#"{"do":"submit","at":1,"caller":0,"command":"Fly"}"#,
+            LineRefusal::MissingField,
+        ),
+        (
+            br#"{"do":"submit","at":1,"caller":0,"serial":4294967296}"#,
+            LineRefusal::WrongKind,
+        ),
+        (
+            br#"{"do":"submit","at":1,"caller":0,"serial":0,"now":1}"#,
+            LineRefusal::MissingField,
+        ),
+        (
+            br#"{"do":"submit","at":1,"caller":0,"serial":0,"command":[],"now":1}"#,
+            LineRefusal::WrongKind,
+        ),
+        (
+            br#"{"do":"submit","at":1,"caller":0,"serial":0,"command":{},"now":1}"#,
+            LineRefusal::ExtraField,
+        ),
+    ] {
+        expect_refused(&rt, rt.alloc(), line, refusal);
+    }
 }

@@ -1,6 +1,7 @@
-//! A whole run of `rbac_lines` with ample memory.
+//! A whole run of `rbac_lines` with ample memory, and runs whose reader or writer fails once, at each of its calls in turn.
 
-use rbac_lines::{Summary, run, sample_founding, watch};
+use crate::tests::failing::{FailingReader, FailingWriter, STEP, line_feeds, read_before};
+use rbac_lines::{RunFault, Summary, run, sample_founding, watch};
 use rbac_world::World;
 use std::alloc::Global;
 use std::process::Abort;
@@ -55,4 +56,69 @@ fn plays_a_whole_input(rt: HostRuntime) {
     drop(written);
     expect_first(&rt, &world, 1, 1);
     drop(world);
+}
+
+/// The day ends at the reader's failing call: each line that had ended then has its whole text, and nothing else was written.
+fn expect_read_fault(rt: &impl Abort, alloc: Global, before: usize) {
+    let mut reader = watch(FailingReader::of(INPUT, before));
+    let mut written = Vec::new(alloc);
+    let mut world = sample_world(rt, alloc);
+    let ended = run(alloc, &mut reader, &mut watch(&mut written), &mut world);
+    drop(world);
+    assert!(rt; ended == Err(RunFault::Read));
+    assert!(rt; OUTPUT.starts_with(&written));
+    assert!(rt; written.is_empty() || written.ends_with(b"\n"));
+    assert_eq!(rt;
+        line_feeds(&written),
+        line_feeds(read_before(INPUT, before))
+    );
+    drop(written);
+}
+
+#[test]
+fn a_reader_that_fails_at_each_of_its_calls(rt: HostRuntime) {
+    // The last call is the one that meets the end of the input.
+    let calls = INPUT.len().div_ceil(STEP).saturating_add(1);
+    assert!(rt; calls > 30);
+    for before in 0..calls {
+        expect_read_fault(&rt, rt.alloc(), before);
+    }
+}
+
+/// How the day ends whose writer fails at a call, and what it took until then, which is the first part of the day's texts.
+fn written_before(
+    rt: &impl Abort,
+    alloc: Global,
+    before: usize,
+) -> (Result<Summary, RunFault>, usize) {
+    let mut writer = FailingWriter::of(alloc, before);
+    let mut world = sample_world(rt, alloc);
+    let ended = run(
+        alloc,
+        &mut watch(INPUT),
+        &mut watch(&mut writer),
+        &mut world,
+    );
+    drop(world);
+    assert!(rt; OUTPUT.starts_with(&writer.taken));
+    let taken = writer.taken.len();
+    drop(writer);
+    (ended, taken)
+}
+
+#[test]
+fn a_writer_that_fails_at_each_of_its_calls(rt: HostRuntime) {
+    let mut last = 0;
+    for before in 0..200 {
+        let (ended, taken) = written_before(&rt, rt.alloc(), before);
+        if ended.is_ok() {
+            assert!(rt; taken == OUTPUT.len() && before > 20);
+            return;
+        }
+        assert!(rt; ended == Err(RunFault::Write));
+        // Each call took something more.
+        assert!(rt; before == 0 || last < taken);
+        last = taken;
+    }
+    panic!(rt; "each run fails");
 }

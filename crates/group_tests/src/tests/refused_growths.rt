@@ -1,0 +1,332 @@
+//! Calls of a member, of a world and of what reads and plays lines, made again where a growth is refused, and what a refusal leaves.
+//! With ample memory each goes well at once; `bench/hostile/refuse_each_growth` runs these tests with each growth refused in turn.
+
+use crate::tests::stamps::stamp;
+use rbac_founding::{Founding, FoundingRefusal, read_founding};
+use rbac_lines::{LineRefusal, RunFault, Summary, read_client, read_line, run, watch};
+use rbac_member::{Member, ReceiveRefusal, SubmitRefusal};
+use rbac_words::{Command, Group, Message, Name, Stamp, Vocabulary};
+use rbac_world::{Event, Outcome, Refusal, Stopped, World, play};
+use std::alloc::Global;
+use std::process::Abort;
+
+fn add_user(rt: &impl Abort, alloc: Global, user: &str) -> Command {
+    let user = match Name::read(alloc, user.as_bytes()) {
+        Ok(name) => name,
+        Err(_) => Name::read(alloc, user.as_bytes()).expect(rt, "a name"),
+    };
+    Command::AddUser { user }
+}
+
+// No operations, no objects, no permissions.
+fn no_words(rt: &impl Abort, alloc: Global) -> Vocabulary {
+    let built = Vocabulary::build(Vec::new(alloc), Vec::new(alloc), Vec::new(alloc));
+    built.expect(rt, "a vocabulary")
+}
+
+// Member 1 of a group of two.
+fn first_of_two(rt: &impl Abort, alloc: Global) -> Member {
+    let group = Group::build(2, 0, 5).expect(rt, "a group");
+    Member::found(alloc, group, 1, no_words(rt, alloc)).expect(rt, "a member")
+}
+
+// The clock, how many messages were sent, and how many taken of member 2.
+fn seen(member: &Member) -> (u64, usize, u32) {
+    (member.clock(), member.sent().len(), member.read(2))
+}
+
+// A refused submit leaves the member as it was, and is made again.
+fn submitted(rt: &impl Abort, alloc: Global, member: &mut Member, serial: u32) -> Stamp {
+    let before = seen(member);
+    match member.submit(0, serial, add_user(rt, alloc, "ann")) {
+        Ok(stamp) => stamp,
+        Err(refusal) => {
+            assert_eq!(rt; refusal, SubmitRefusal::NoMemory);
+            assert_eq!(rt; seen(member), before);
+            let again = member.submit(0, serial, add_user(rt, alloc, "ann"));
+            again.expect(rt, "memory")
+        }
+    }
+}
+
+// The same of a submit that copies its command.
+fn submitted_copy(rt: &impl Abort, member: &mut Member, serial: u32, command: &Command) -> Stamp {
+    let before = seen(member);
+    match member.submit_copy(0, serial, command) {
+        Ok(stamp) => stamp,
+        Err(refusal) => {
+            assert_eq!(rt; refusal, SubmitRefusal::NoMemory);
+            assert_eq!(rt; seen(member), before);
+            let again = member.submit_copy(0, serial, command);
+            again.expect(rt, "memory")
+        }
+    }
+}
+
+// A refused receipt leaves the member as it was, and is made again.
+fn received(rt: &impl Abort, member: &mut Member, number: u32, message: &Message) -> Option<Stamp> {
+    let before = seen(member);
+    match member.receive(2, number, message) {
+        Ok(acknowledged) => acknowledged,
+        Err(refusal) => {
+            assert_eq!(rt; refusal, ReceiveRefusal::NoMemory);
+            assert_eq!(rt; seen(member), before);
+            member.receive(2, number, message).expect(rt, "memory")
+        }
+    }
+}
+
+// A refused delivery leaves the member as it was, and is made again.
+fn delivered(rt: &impl Abort, alloc: Global, member: &mut Member) -> Option<usize> {
+    let before = member.history().len();
+    match member.deliver(alloc) {
+        Ok(place) => place,
+        Err(_) => {
+            assert_eq!(rt; member.history().len(), before);
+            member.deliver(alloc).expect(rt, "memory")
+        }
+    }
+}
+
+// Member 2's first command is taken, and then its acknowledgement.
+fn take_of_second(rt: &impl Abort, alloc: Global, member: &mut Member) {
+    let message = Message::Call {
+        stamp: stamp(2, 2),
+        caller: 0,
+        serial: 0,
+        command: add_user(rt, alloc, "bob"),
+    };
+    let acknowledged = received(rt, member, 1, &message);
+    drop(message);
+    assert_eq!(rt; acknowledged, Some(stamp(4, 1)));
+    let message = Message::Ack { stamp: stamp(6, 2) };
+    let acknowledged = received(rt, member, 2, &message);
+    drop(message);
+    assert_eq!(rt; acknowledged, None);
+}
+
+#[test]
+fn a_member_that_is_asked_again(rt: HostRuntime) {
+    let alloc = rt.alloc();
+    let mut member = first_of_two(&rt, alloc);
+    let command = add_user(&rt, alloc, "ann");
+    let copied = submitted_copy(&rt, &mut member, 0, &command);
+    drop(command);
+    assert_eq!(rt; copied, stamp(1, 1));
+    take_of_second(&rt, alloc, &mut member);
+    assert_eq!(rt; submitted(&rt, alloc, &mut member, 1), stamp(8, 1));
+    assert_eq!(rt; delivered(&rt, alloc, &mut member), Some(0));
+    assert_eq!(rt; delivered(&rt, alloc, &mut member), Some(1));
+    assert_eq!(rt; delivered(&rt, alloc, &mut member), None);
+    drop(member);
+}
+
+fn founded(rt: &impl Abort, alloc: Global) -> World {
+    let group = Group::build(2, 0, 5).expect(rt, "a group");
+    match World::found(alloc, group, no_words(rt, alloc)) {
+        Ok(world) => world,
+        Err(_) => World::found(alloc, group, no_words(rt, alloc)).expect(rt, "memory"),
+    }
+}
+
+fn submit(rt: &impl Abort, alloc: Global, at: u32) -> Event {
+    Event::Submit {
+        at,
+        caller: 0,
+        serial: 0,
+        command: add_user(rt, alloc, "ann"),
+    }
+}
+
+// Both members add ann, read each other, and deliver.
+fn a_day(rt: &impl Abort, alloc: Global) -> [Event; 8] {
+    [
+        submit(rt, alloc, 1),
+        submit(rt, alloc, 2),
+        Event::Receive {
+            at: 1,
+            from: 2,
+            number: 1,
+        },
+        Event::Receive {
+            at: 2,
+            from: 1,
+            number: 1,
+        },
+        Event::Deliver { at: 1 },
+        Event::Deliver { at: 1 },
+        Event::Receive {
+            at: 2,
+            from: 1,
+            number: 2,
+        },
+        Event::Deliver { at: 2 },
+    ]
+}
+
+// What the day's events answer.
+const DAY: &[Result<Outcome, Refusal>] = &[
+    Ok(Outcome::Submitted(Stamp {
+        clock: 1,
+        member: 1,
+    })),
+    Ok(Outcome::Submitted(Stamp {
+        clock: 1,
+        member: 2,
+    })),
+    Ok(Outcome::Received(Some(Stamp {
+        clock: 3,
+        member: 1,
+    }))),
+    Ok(Outcome::Received(None)),
+    Ok(Outcome::Delivered(Some(0))),
+    Ok(Outcome::Delivered(Some(1))),
+    Ok(Outcome::Received(None)),
+    Ok(Outcome::Delivered(Some(0))),
+];
+
+// Plays the day, and goes on after the events that were played where a growth is refused.
+fn expect_day(rt: &impl Abort, alloc: Global, world: &mut World, events: &[Event]) {
+    match play(world, alloc, events) {
+        Ok(outcomes) => assert!(rt; outcomes.as_slice() == DAY),
+        Err(Stopped { done }) => {
+            assert!(rt; done <= events.len());
+            assert!(rt; done <= DAY.len());
+            let rest = play(world, alloc, &events[done..]).expect(rt, "memory");
+            assert!(rt; rest.as_slice() == &DAY[done..]);
+        }
+    }
+}
+
+// How many commands the members have delivered.
+fn histories(rt: &impl Abort, world: &World) -> (usize, usize) {
+    let first = world.member(1).expect(rt, "a member");
+    let second = world.member(2).expect(rt, "a member");
+    (first.history().len(), second.history().len())
+}
+
+#[test]
+fn a_day_that_is_gone_on_with(rt: HostRuntime) {
+    let alloc = rt.alloc();
+    let mut world = founded(&rt, alloc);
+    let events = a_day(&rt, alloc);
+    expect_day(&rt, alloc, &mut world, &events);
+    drop(events);
+    assert_eq!(rt; histories(&rt, &world), (2, 1));
+    drop(world);
+}
+
+const LINE: &[u8] =
+    br#"{"do":"submit","at":1,"caller":7,"serial":0,"command":{"name":"CreateSession","user":"ann","session":"s1","roles":["clerk","guest"]}}"#;
+
+// Why a line is refused, read again where a growth is.
+fn line_refusal(alloc: Global, line: &[u8]) -> Option<LineRefusal> {
+    match read_line(alloc, line) {
+        Ok(event) => {
+            drop(event);
+            None
+        }
+        Err(LineRefusal::NoMemory) => read_line(alloc, line).err(),
+        Err(refusal) => Some(refusal),
+    }
+}
+
+// The same of a client's line.
+fn client_refusal(alloc: Global, line: &[u8]) -> Option<LineRefusal> {
+    match read_client(alloc, line) {
+        Ok(asked) => {
+            drop(asked);
+            None
+        }
+        Err(LineRefusal::NoMemory) => read_client(alloc, line).err(),
+        Err(refusal) => Some(refusal),
+    }
+}
+
+#[test]
+fn lines_that_are_read_again(rt: HostRuntime) {
+    let alloc = rt.alloc();
+    assert!(rt; line_refusal(alloc, LINE).is_none());
+    let roles =
+        br#"{"do":"submit","at":1,"caller":7,"serial":0,"command":{"name":"CreateSession","user":"ann","session":"s1","roles":["clerk",""]}}"#;
+    assert!(rt; line_refusal(alloc, roles) == Some(LineRefusal::BadName));
+    let client =
+        br#"{"at":1,"command":{"name":"CreateSession","user":"ann","session":"s1","roles":["clerk","guest"]}}"#;
+    assert!(rt; client_refusal(alloc, client).is_none());
+    let roles =
+        br#"{"at":1,"command":{"name":"CreateSession","user":"ann","session":"s1","roles":["clerk",7]}}"#;
+    assert!(rt; client_refusal(alloc, roles) == Some(LineRefusal::WrongKind));
+}
+
+const FILE: &[u8] = br#"
+version = 1
+members = 3
+operations = ["approve", "pay", "read"]
+objects = ["invoice", "ledger"]
+permissions = [["approve", "invoice"], ["pay", "invoice"], ["read", "ledger"]]
+"#;
+
+// A founding file, read again where a growth is refused.
+fn founding(rt: &impl Abort, alloc: Global) -> Founding {
+    match read_founding(alloc, FILE) {
+        Ok(founding) => founding,
+        Err(refusal) => {
+            assert_eq!(rt; refusal, FoundingRefusal::NoMemory);
+            read_founding(alloc, FILE).expect(rt, "memory")
+        }
+    }
+}
+
+#[test]
+fn a_founding_file_that_is_read_again(rt: HostRuntime) {
+    let Founding { group, vocabulary } = founding(&rt, rt.alloc());
+    assert_eq!(rt; group.members(), 3);
+    drop(vocabulary);
+}
+
+const INPUT: &[u8] =
+    br#"{"do":"submit","at":1,"caller":7,"serial":0,"command":{"name":"AddUser","user":"ann"}}
+nothing
+{"do":"deliver","at":1}
+{"do":"receive","at":2,"from":1,"number":1}
+"#;
+
+const OUTPUT: &[u8] = br#"{"line":1,"stamp":[1,1]}
+{"line":2,"refused":"NotJson"}
+{"answer":null,"line":3}
+{"acknowledged":[3,2],"line":4}
+"#;
+
+// How the run ended, and how much it wrote: the first texts, each of them whole.
+fn ran(rt: &impl Abort, alloc: Global) -> (Result<Summary, RunFault>, usize) {
+    let mut world = founded(rt, alloc);
+    let mut written = match Vec::with_capacity(alloc, 200) {
+        Ok(room) => room,
+        Err(_) => Vec::with_capacity(alloc, 200).expect(rt, "memory"),
+    };
+    let ended = run(
+        alloc,
+        &mut watch(INPUT),
+        &mut watch(&mut written),
+        &mut world,
+    );
+    drop(world);
+    assert!(rt; OUTPUT.starts_with(&written));
+    assert!(rt; written.is_empty() || written.ends_with(b"\n"));
+    let length = written.len();
+    drop(written);
+    (ended, length)
+}
+
+#[test]
+fn a_run_that_ends_without_memory(rt: HostRuntime) {
+    let (ended, length) = ran(&rt, rt.alloc());
+    if ended.is_ok() {
+        assert_eq!(rt; length, OUTPUT.len());
+        return;
+    }
+    assert!(rt; ended == Err(RunFault::NoMemory));
+    // All over again.
+    let (ended, length) = ran(&rt, rt.alloc());
+    assert!(rt; ended.is_ok() && length == OUTPUT.len());
+}
