@@ -3,6 +3,7 @@
 mod hierarchy;
 mod named;
 mod policy;
+mod refused_growths;
 mod reviews;
 mod role_sets;
 mod separation;

@@ -1,5 +1,5 @@
 //! Rows of `rbac_board`: what is set, read and refused.
-ghost use Rattle.std.specs.Prelude.{◌≡◌, length};
+ghost use Rattle.std.specs.Prelude.{◌≡◌, [], length};
 ghost use Rattle.rbac_board.specs.Known.{IsOf};
 
 use rbac_board::{Mark, Row, SetRefusal};
@@ -144,4 +144,78 @@ fn learns_what_another_mark_knows(rt: HostRuntime) -> Result<(), Fail> {
     expect_read(&rt, &row, &mut late, Some(7));
     expect_learned(&rt, &row, &mut late, &mut mark);
     Ok(())
+}
+
+// A boxed letter, made again where a growth is refused.
+fn boxed(rt: &impl Abort, alloc: Global, code: u8) -> Box<Letter> {
+    match letter_of(alloc, code) {
+        Ok(letter) => letter,
+        Err(_) => letter_of(alloc, code).expect(rt, "memory"),
+    }
+}
+
+// The letter that came back with the refusal for want of memory.
+fn starved(set: Result<(), SetRefusal<Letter>>) -> Option<Box<Letter>> {
+    match set {
+        Err(SetRefusal::NoMemory(value)) => Some(value),
+        _ => None,
+    }
+}
+
+// Sets the first cell: a refused growth gives the letter back, and leaves the cell and the mark as they were.
+fn set_again(rt: &impl Abort, row: &Row<Letter>, mark: &mut Mark<Letter>, letter: Box<Letter>)
+    requires of { IsOf row.now mark.old }
+    requires empty { mark.old.values ≡ [] }
+    ensures { IsOf row.now mark.new }
+{
+    let set = row.set(mark, 0, letter);
+    if set.is_ok() {
+        return;
+    }
+    let back = starved(set).expect(rt, "the letter");
+    assert!(rt; row.get(0).is_none());
+    assert!(rt; mark.len() == 0);
+    let set = row.set(mark, 0, back);
+    assert!(rt; set.is_ok());
+}
+
+// What is read next, again where a growth is refused.
+fn read_again(rt: &impl Abort, row: &Row<Letter>, mark: &mut Mark<Letter>, wanted: Option<u8>)
+    requires { IsOf row.now mark.old }
+    ensures { IsOf row.now mark.new }
+{
+    let found = match row.read(mark) {
+        Ok(found) => found,
+        Err(_) => row.read(mark).expect(rt, "memory"),
+    };
+    assert!(rt; found.map(|letter| letter.code) == wanted);
+}
+
+// A second mark, asked for again where a growth is refused.
+fn second(rt: &impl Abort, alloc: Global, mark: &mut Mark<Letter>) -> Mark<Letter> {
+    match mark.again(alloc) {
+        Ok(second) => second,
+        Err(_) => mark.again(alloc).expect(rt, "memory"),
+    }
+}
+
+// With ample memory each call goes well at once; `bench/hostile/refuse_each_growth` runs this with each growth refused in turn.
+#[test]
+fn a_row_that_is_asked_again(rt: HostRuntime) {
+    let alloc = rt.alloc();
+    let row = match Row::found(alloc, 1) {
+        Ok(row) => row,
+        Err(_) => Row::found(alloc, 1).expect(&rt, "memory"),
+    };
+    let mut mark = row.mark();
+    set_again(&rt, &row, &mut mark, boxed(&rt, alloc, 7));
+    let mut fresh = row.mark();
+    read_again(&rt, &row, &mut fresh, Some(7));
+    read_again(&rt, &row, &mut fresh, None);
+    let again = second(&rt, alloc, &mut fresh);
+    assert!(rt; mark.len() == 1 && again.len() == 1);
+    drop(again);
+    drop(fresh);
+    drop(mark);
+    drop(row);
 }
