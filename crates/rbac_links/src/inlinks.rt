@@ -120,7 +120,7 @@ impl Inlinks {
         if expected < u64::from(number) {
             return Err(LinkRefusal::Gap { expected });
         }
-        if stamp.member != from || !comes_after(self.latest[at], stamp) {
+        if stamp.member != from || stamp.place != 0 || !comes_after(self.latest[at], stamp) {
             return Err(LinkRefusal::StampNotRising);
         }
         Ok(())

@@ -28,7 +28,7 @@ pub enum LinkRefusal {
     /// A message before which another one is missing.
     #[error("a message before this one is missing: expected message {expected}")]
     Gap { expected: u64 },
-    /// The stamp is not of the sender, or not above the last one taken from it.
-    #[error("the stamp is not of the sender, or not above the last one taken from it")]
+    /// The stamp is none of a message of the sender, or not above the last one taken from it.
+    #[error("the stamp is none of a message of the sender, or not above the last one taken from it")]
     StampNotRising,
 }

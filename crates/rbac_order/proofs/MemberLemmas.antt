@@ -26,7 +26,7 @@ use Rattle.rbac_words.specs.declared.message.Submission.{Submission}
 use Rattle.rbac_words.specs.declared.record.Record.{Record}
 use Rattle.rbac_words.specs.declared.stamp.Stamp.{Stamp}
 use Rattle.sorted_keys.proofs.Lists.{Each-append, Each-left, Each-weaker, Each-both, Each-filter, map-push}
-use Rattle.rbac_order.proofs.StampLemmas.{IsBeside, before_next, message_above, sent_above, before_trans, before_true, true_before, Rising-append, Rising-push, Rising-left, insert_all_above, Each-insert_all, last_has, after_last}
+use Rattle.rbac_order.proofs.StampLemmas.{earlier, IsBeside, before_next, message_above, sent_above, before_trans, before_true, true_before, Rising-append, Rising-push, Rising-left, insert_all_above, Each-insert_all, last_has, after_last}
 use Rattle.rbac_order.proofs.MessageLemmas.{submissions-append, CountsFrom-left, serials_go_on, StaysByPlace, Each-commands, beside_message, own_rising}
 use Rattle.rbac_order.proofs.ReplayLemmas.{state_after-push, replies-push}
 use Rattle.rbac_order.proofs.SenderLemmas.{of, Rising, decide, is_of-no, of_member, of-none, of-all, put_all, IsPut, of-insert_all_other}
@@ -89,7 +89,7 @@ sent_lawfully : (v : Member) (m : Message) → (stamp_of m).member ≡ v.number 
 sent_lawfully v m own first batch above range room serials k = record {
   own = Each-append (λ n. (stamp_of n).member ≡ v.number) v.sent (m ∷ []) k.lawful.own (own, tt);
   first = Each-append (λ n. (stamp_of n).place ≡ 0) v.sent (m ∷ []) k.lawful.first (first, tt);
-  rising = Rising-push stamp_of v.sent m k.lawful.rising (Each-weaker (λ n. (stamp_of n).clock ≤ v.clock) (λ n. IsBefore (stamp_of n) (stamp_of m)) v.sent (λ n h. inl (omega arith)) k.clock_of_sent);
+  rising = Rising-push stamp_of v.sent m k.lawful.rising (Each-weaker (λ n. (stamp_of n).clock ≤ v.clock) (λ n. IsBefore (stamp_of n) (stamp_of m)) v.sent (λ n h. earlier (stamp_of n) (stamp_of m) (omega arith)) k.clock_of_sent);
   clocks_in_range = Each-append (λ n. (stamp_of n).clock ≤ last_clock) v.sent (m ∷ []) k.lawful.clocks_in_range (range, tt);
   within_limit = omega (arith, length-append v.sent (m ∷ []));
   batches = Each-append (λ n. has_bad_batch n ≡ false) v.sent (m ∷ []) k.lawful.batches (batch, tt);
@@ -155,7 +155,7 @@ module _ (v : Member) (caller serial : ℕ) (commands : List Command) where
     rising = subst Rising (sym known_submitted)
         (Rising-append submitted_at (known v) commands_now k.rising (own_rising message_now)
         (Each-weaker (λ (y : Submission). y.stamp.clock ≤ v.clock) (λ y. Each (λ x. IsBefore (submitted_at y) (submitted_at x)) commands_now) (known v)
-        (λ y h. Each-weaker (λ (x : Submission). x.stamp.clock ≡ v.clock + 1) (λ x. IsBefore (submitted_at y) (submitted_at x)) commands_now (λ x e. inl (omega arith)) clock_now) k.clock_of_known));
+        (λ y h. Each-weaker (λ (x : Submission). x.stamp.clock ≡ v.clock + 1) (λ x. IsBefore (submitted_at y) (submitted_at x)) commands_now (λ x e. earlier (submitted_at y) (submitted_at x) (omega arith)) clock_now) k.clock_of_known));
     serials = serials_submitted k next;
     passed = k.passed;
     covered = each_submitted (λ y. (y.stamp.member ≡ v.number → ⊥) → IsCovered (latest_of v y.stamp.member) y.stamp.member y.stamp) k.covered (not_own (λ y. IsCovered (latest_of v y.stamp.member) y.stamp.member y.stamp));
@@ -526,7 +526,7 @@ module _ (v : Member) (k : ℕ) (m : Message) (kept : IsMember v) (next : IsNext
     more = ack ∷ [];
     goes_on = refl;
     acknowledged = Each-weaker (λ (x : Submission). x.stamp.clock < moved + 1) (λ x. has_later (v.sent ++ ack ∷ []) x.stamp ≡ true) xs
-        (λ x h. list_any-append (λ z. is_before x.stamp (stamp_of z)) v.sent (ack ∷ []) ∙ or_right _ _ (or_left _ _ (true_before x.stamp (stamp_of ack) (inl h)))) (each_new (λ t. t.clock < moved + 1) (λ t h. h) (omega arith));
+        (λ x h. list_any-append (λ z. is_before x.stamp (stamp_of z)) v.sent (ack ∷ []) ∙ or_right _ _ (or_left _ _ (true_before x.stamp (stamp_of ack) (earlier x.stamp (stamp_of ack) h)))) (each_new (λ t. t.clock < moved + 1) (λ t h. h) (omega arith));
   }
     where
       same : submissions (v.sent ++ ack ∷ []) ≡ submissions v.sent

@@ -14,7 +14,7 @@ use Rattle.rbac_words.specs.Stamp.{IsBefore, IsRising}
 use Rattle.rbac_words.specs.declared.message.Submission.{Submission}
 use Rattle.rbac_words.specs.Message.{stamp_of, submitted_at, next_place, in_turn, submissions_of, has_bad_batch, submissions, is_by, next_serial, CountsFrom, AreSerialsInOrder, IsLawful}
 use Rattle.sorted_keys.proofs.Lists.{Each-append, Each-left, Each-weaker, Each-both}
-use Rattle.rbac_order.proofs.StampLemmas.{IsBeside, before_next, next_above, message_later, Rising-append, Rising-left}
+use Rattle.rbac_order.proofs.StampLemmas.{earlier, IsBeside, before_next, next_above, message_later, Rising-append, Rising-left}
 
 pub submissions-append : (ms ns : List Message) → submissions (ms ++ ns) ≡ submissions ms ++ submissions ns
 submissions-append ms ns = flat_map-append submissions_of ms ns
@@ -99,7 +99,7 @@ Rising-submissions k (m ∷ ms) own first r =
     Rising-append submitted_at (submissions_of m) (submissions ms) (own_rising m) (Rising-submissions k ms own.1 first.1 r.1)
     (Each-weaker (λ x. IsBeside (stamp_of m) (submitted_at x)) (λ x. Each (λ y. IsBefore (submitted_at x) (submitted_at y)) (submissions ms)) (submissions_of m)
     (λ x b. Each-weaker (λ y. (stamp_of m).clock < (submitted_at y).clock) (λ y. IsBefore (submitted_at x) (submitted_at y)) (submissions ms)
-    (λ y h. let c : (submitted_at x).clock ≡ (stamp_of m).clock = b.clock in inl (omega arith)) later)
+    (λ y h. let c : (submitted_at x).clock ≡ (stamp_of m).clock = b.clock in earlier (submitted_at x) (submitted_at y) (omega arith)) later)
     (beside_message m))
   where
     later : Each (λ y. (stamp_of m).clock < (submitted_at y).clock) (submissions ms)

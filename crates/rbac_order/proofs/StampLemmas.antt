@@ -11,14 +11,17 @@ use Rattle.rbac_words.specs.declared.stamp.Stamp.{Stamp}
 use Rattle.rbac_words.specs.Message.{next_place}
 use Rattle.rbac_words.specs.Stamp.{IsBefore, is_before, is_same_stamp, IsRising, IsInStampOrder, insert_by_stamp, insert_all, sort_by_stamp, last_stamp, up_to, IsAfter, has_passed}
 
+pub earlier : (s t : Stamp) → s.clock < t.clock → IsBefore s t
+earlier s t h = grind (arith, nat_tests)
+
 pub before_trans : (s t u : Stamp) → IsBefore s t → IsBefore t u → IsBefore s u
-before_trans s t u p q = grind arith
+before_trans s t u p q = grind (arith, nat_tests)
 
 pub before_irrefl : (s : Stamp) → IsBefore s s → ⊥
-before_irrefl s p = grind arith
+before_irrefl s p = grind (arith, nat_tests)
 
 pub before_asym : (s t : Stamp) → IsBefore s t → IsBefore t s → ⊥
-before_asym s t p q = grind arith
+before_asym s t p q = grind (arith, nat_tests)
 
 pub before_true : (s t : Stamp) → is_before s t ≡ true → IsBefore s t
 before_true s t p = grind (arith, nat_tests)
@@ -52,22 +55,22 @@ pub record IsBeside (s t : Stamp) : Type 0 where
   pub member : t.member ≡ s.member
 
 pub before_next : (s t : Stamp) → IsBefore s t → IsBefore s (next_place t)
-before_next s t p = grind arith
+before_next s t p = grind (arith, nat_tests)
 
 pub next_above : (s : Stamp) → IsBefore s (next_place s)
-next_above s = inr (refl, inr (refl, omega arith))
+next_above s = grind (arith, nat_tests)
 
 -- a later message is above each command of a message
 pub message_above : (s t u : Stamp) → IsBeside s t → u.member ≡ s.member → u.place ≡ 0 → IsBefore s u → IsBefore t u
-message_above s t u b m p h = let c : t.clock ≡ s.clock = b.clock in let d : t.member ≡ s.member = b.member in grind arith
+message_above s t u b m p h = let c : t.clock ≡ s.clock = b.clock in let d : t.member ≡ s.member = b.member in grind (arith, nat_tests)
 
 -- and so is what another member sends after it
 pub sent_above : (s t u : Stamp) → IsBeside s t → (u.member ≡ s.member → ⊥) → IsBefore s u → IsBefore t u
-sent_above s t u b m h = let c : t.clock ≡ s.clock = b.clock in let d : t.member ≡ s.member = b.member in grind arith
+sent_above s t u b m h = let c : t.clock ≡ s.clock = b.clock in let d : t.member ≡ s.member = b.member in grind (arith, nat_tests)
 
 -- of one member a later message has a greater clock
 pub message_later : (s u : Stamp) → u.member ≡ s.member → u.place ≡ 0 → IsBefore s u → s.clock < u.clock
-message_later s u m p h = grind arith
+message_later s u m p h = grind (arith, nat_tests)
 
 -- ---- Rising lists
 
