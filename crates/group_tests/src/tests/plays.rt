@@ -8,7 +8,11 @@ use std::alloc::Global;
 use std::process::Abort;
 
 fn founded(rt: &impl Abort, alloc: Global, members: u32) -> World {
-    let group = Group::build(members, 0, 65_536).expect(rt, "a group");
+    founded_with(rt, alloc, members, 65_536)
+}
+
+fn founded_with(rt: &impl Abort, alloc: Global, members: u32, sent_limit: u32) -> World {
+    let group = Group::build(members, 0, sent_limit).expect(rt, "a group");
     let vocabulary = Vocabulary::build(Vec::new(alloc), Vec::new(alloc), Vec::new(alloc));
     World::found(alloc, group, vocabulary.expect(rt, "a vocabulary")).expect(rt, "a world")
 }
@@ -179,6 +183,76 @@ fn one_submit_is_read_to_the_end(rt: HostRuntime) {
         expect_delivery(&rt, alloc, &mut world, at, None, clock);
         expect_record(&rt, &world, at, 0, stamp(1, 1), Answer::Done);
     }
+    drop(world);
+}
+
+// Two submits at once at two members, as they are numbered.
+fn submit_at_both(rt: &impl Abort, alloc: Global, world: &mut World) {
+    expect_submit(rt, alloc, world, 1, add_role(rt, alloc));
+    expect_submit(rt, alloc, world, 2, add_role(rt, alloc));
+}
+
+#[test]
+fn the_other_order_of_receipt(rt: HostRuntime) {
+    let alloc = rt.alloc();
+    let mut world = founded(&rt, alloc, 3);
+    submit_at_both(&rt, alloc, &mut world);
+    expect_receipt(&rt, alloc, &mut world, (3, 2, 1), true, 3);
+    expect_delivery(&rt, alloc, &mut world, 3, None, 3);
+    // Member 3 has sent [3,3], which comes after [1,1].
+    expect_receipt(&rt, alloc, &mut world, (3, 1, 1), false, 4);
+    expect_delivery(&rt, alloc, &mut world, 3, Some(0), 4);
+    expect_delivery(&rt, alloc, &mut world, 3, None, 4);
+    expect_receipt(&rt, alloc, &mut world, (1, 2, 1), true, 3);
+    expect_receipt(&rt, alloc, &mut world, (3, 1, 2), false, 5);
+    expect_delivery(&rt, alloc, &mut world, 3, Some(1), 5);
+    expect_both_records(&rt, &world, 3, Denial::RoleExists);
+    drop(world);
+}
+
+// Caller 0 of member 2 submits that a role is added, with its clock after that.
+fn expect_role(rt: &impl Abort, alloc: Global, world: &mut World, serial: u32, text: &str) {
+    let event = Event::Submit {
+        at: 2,
+        caller: 0,
+        serial,
+        command: Command::AddRole {
+            role: name(rt, alloc, text),
+        },
+    };
+    let clock = u64::from(serial) + 1;
+    let wanted = Ok(Outcome::Submitted(stamp(clock, 2)));
+    expect(rt, alloc, world, event, wanted, 2, clock);
+}
+
+#[test]
+fn a_gap_and_a_repeat(rt: HostRuntime) {
+    let alloc = rt.alloc();
+    let mut world = founded(&rt, alloc, 2);
+    expect_role(&rt, alloc, &mut world, 0, "a");
+    expect_role(&rt, alloc, &mut world, 1, "b");
+    let gap = Err(Refusal::Gap { expected: 1 });
+    expect(&rt, alloc, &mut world, receive(1, 2, 2), gap, 1, 0);
+    expect_receipt(&rt, alloc, &mut world, (1, 2, 1), true, 3);
+    // Member 1 has sent [3,1], which comes after [2,2].
+    expect_receipt(&rt, alloc, &mut world, (1, 2, 2), false, 4);
+    let repeat = Err(Refusal::Repeat { expected: 3 });
+    expect(&rt, alloc, &mut world, receive(1, 2, 1), repeat, 1, 4);
+    drop(world);
+}
+
+#[test]
+fn a_full_member_takes_what_needs_no_acknowledgement(rt: HostRuntime) {
+    let alloc = rt.alloc();
+    let mut world = founded_with(&rt, alloc, 2, 1);
+    submit_at_both(&rt, alloc, &mut world);
+    // Member 2 has sent [1,2], which comes after [1,1]; member 1 would have to acknowledge [1,2].
+    expect_receipt(&rt, alloc, &mut world, (2, 1, 1), false, 2);
+    expect_delivery(&rt, alloc, &mut world, 2, Some(0), 2);
+    expect_delivery(&rt, alloc, &mut world, 2, None, 2);
+    let full = Err(Refusal::SentFull);
+    expect(&rt, alloc, &mut world, receive(1, 2, 1), full, 1, 1);
+    expect_record(&rt, &world, 2, 0, stamp(1, 1), Answer::Done);
     drop(world);
 }
 

@@ -30,6 +30,60 @@ fn a_submit(rt: HostRuntime) {
     drop(event);
 }
 
+/// Whether it is the name of a role that is added.
+fn adds(command: &Command, text: &[u8]) -> bool {
+    match command {
+        Command::AddRole { role } => role.as_bytes() == text,
+        _ => false,
+    }
+}
+
+/// Whether the commands add the roles a and b.
+fn add_a_and_b(commands: &[Command]) -> bool {
+    let [first, second] = commands else {
+        return false;
+    };
+    adds(first, b"a") && adds(second, b"b")
+}
+
+/// Whether it is a batch of the two.
+fn is_batch_of_two(event: &Event) -> bool {
+    match event {
+        Event::SubmitBatch {
+            at: 4,
+            caller: 5,
+            serial: 6,
+            commands,
+        } => add_a_and_b(commands.as_slice()),
+        _ => false,
+    }
+}
+
+#[test]
+fn a_batch(rt: HostRuntime) {
+    let line = br#"{"commands":[{"role":"a","name":"AddRole"},{"name":"AddRole","role":"b"}],"serial":6,"caller":5,"at":4,"do":"batch"}"#;
+    let Ok(event) = read_line(rt.alloc(), line) else {
+        panic!(rt);
+    };
+    assert!(rt; is_batch_of_two(&event));
+    drop(event);
+}
+
+/// How many commands a batch of a line has.
+fn batch_len(alloc: Global, line: &[u8]) -> Option<usize> {
+    match read_line(alloc, line) {
+        Ok(Event::SubmitBatch { commands, .. }) => Some(commands.as_slice().len()),
+        _ => None,
+    }
+}
+
+/// A batch of no commands is refused by a member, not as a line.
+#[test]
+fn a_batch_of_none(rt: HostRuntime) {
+    let line = br#"{"do":"batch","at":1,"caller":0,"serial":0,"commands":[]}"#;
+    assert_eq!(rt; batch_len(rt.alloc(), line), Some(0));
+}
+
 /// Whether the line is refused as no JSON.
 fn is_no_json(alloc: Global, line: &[u8]) -> bool {
     read_line(alloc, line).err() == Some(LineRefusal::NotJson)
@@ -154,5 +208,79 @@ fn the_fields_of_a_submit(rt: HostRuntime) {
         ),
     ] {
         expect_refused(&rt, rt.alloc(), line, refusal);
+    }
+}
+
+#[test]
+fn the_fields_of_a_batch(rt: HostRuntime) {
+    for (line, refusal) in [
+        (
+            br#"{"do":"batch","serial":"0"}"#.as_slice(),
+            LineRefusal::MissingField,
+        ),
+        (
+            br#"{"do":"batch","at":1,"caller":"0"}"#,
+            LineRefusal::WrongKind,
+        ),
+        (
+            br#"{"do":"batch","at":1,"caller":0,"commands":7}"#,
+            LineRefusal::MissingField,
+        ),
+        (
+            br#"{"do":"batch","at":1,"caller":0,"serial":-1}"#,
+            LineRefusal::WrongKind,
+        ),
+        (
+            br#"{"do":"batch","at":1,"caller":0,"serial":0,"command":{}}"#,
+            LineRefusal::MissingField,
+        ),
+        (
+            br#"{"do":"batch","at":1,"caller":0,"serial":0,"commands":{},"now":1}"#,
+            LineRefusal::WrongKind,
+        ),
+        (
+            br#"{"do":"batch","at":1,"caller":0,"serial":0,"commands":[{},7],"now":1}"#,
+            LineRefusal::WrongKind,
+        ),
+        (
+            br#"{"do":"batch","at":1,"caller":0,"serial":0,"commands":[{}],"now":1}"#,
+            LineRefusal::ExtraField,
+        ),
+    ] {
+        expect_refused(&rt, rt.alloc(), line, refusal);
+    }
+}
+
+/// A batch of these two commands is refused so.
+fn expect_refused_batch(
+    rt: &impl Abort,
+    alloc: Global,
+    first: &str,
+    second: &str,
+    refusal: LineRefusal,
+) {
+    let line = format!(in alloc;
+        "{{\"do\":\"batch\",\"at\":1,\"caller\":0,\"serial\":0,\"commands\":[{first},{second}]}}"
+    );
+    let line = line.expect(rt, "memory");
+    expect_refused(rt, alloc, line.as_bytes(), refusal);
+    drop(line);
+}
+
+/// Of two commands that are refused, the first one is named; each is checked whole.
+#[test]
+fn the_first_command_of_a_batch_that_is_refused(rt: HostRuntime) {
+    let role = r#"{"name":"AddRole","role":"a"}"#;
+    let nameless = r#"{"name":"AddRole","role":""}"#;
+    let more = r#"{"name":"AddRole","role":"a","now":1}"#;
+    let word = r#"{"name":"Fly","role":""}"#;
+    for (first, second, refusal) in [
+        (nameless, word, LineRefusal::BadName),
+        (more, nameless, LineRefusal::ExtraField),
+        (word, more, LineRefusal::UnknownWord),
+        (role, "{}", LineRefusal::MissingField),
+        (role, nameless, LineRefusal::BadName),
+    ] {
+        expect_refused_batch(&rt, rt.alloc(), first, second, refusal);
     }
 }
