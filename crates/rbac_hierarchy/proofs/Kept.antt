@@ -1,10 +1,11 @@
 -- What a test keeps of a list, and of a list in order.
-use Rattle.std.proofs.Common.{ℕ, zero, suc, ◌≡◌, ◌+◌, ◌<◌, ◌≤◌, Bool, true, false, ◌||◌, cond, List, [], ◌∷◌, ◌++◌, length, get_or, take, drop, map, refl, sym, ap, ◌∙◌, arith}
+use Rattle.std.proofs.Common.{ℕ, zero, suc, ◌≡◌, ◌+◌, ◌<◌, ◌≤◌, Bool, true, false, not, ◌==◌, ◌||◌, cond, List, [], ◌∷◌, ◌++◌, length, get_or, take, drop, map, refl, sym, ap, ◌∙◌, arith}
 use Rattle.std.specs.declared.cmp.Ordering.{Ordering}
 use Rattle.std.specs.List.{AllWithin, filter, list_any}
 use Rattle.std.specs.List.Sorted.{IsStrictlySortedBy}
 use Rattle.std.specs.Cmp.{IsTotalOrder}
 use Rattle.std.proofs.lemmas.Bool.{false≢true}
+use Rattle.std.proofs.lemmas.Bool.Decides.{nat_tests}
 use Rattle.std.proofs.lemmas.List.{take_more}
 use Rattle.std.proofs.lemmas.Map.Keys.{Less-from_sorted}
 use Rattle.sorted_keys.specs.Keys.{with_key, by_key}
@@ -17,7 +18,18 @@ any-append p (x ∷ xs) ys = elim (p x) as (λ b. (b || list_any p (xs ++ ys)) �
   | false ↦ any-append p xs ys
 ]
 
+never_none : (n : ℕ) → (suc n == 0) ≡ false
+never_none n = grind (arith, nat_tests)
+
 module _ {X : Type 0} (p : X → Bool) where
+  -- some element passes where something is kept
+  pub some_kept : (xs : List X) → not (length (filter p xs) == 0) ≡ list_any p xs
+  some_kept [] = refl
+  some_kept (x ∷ xs) = elim (p x) as (λ b. not (length (cond b (x ∷ filter p xs) (filter p xs)) == 0) ≡ (b || list_any p xs)) [
+    | true ↦ ap not (never_none (length (filter p xs)))
+    | false ↦ some_kept xs
+  ]
+
   pub keeps_none : (xs : List X) → ((x : X) → p x ≡ false) → filter p xs ≡ []
   keeps_none [] h = refl
   keeps_none (x ∷ xs) h = rw (h x) (keeps_none xs h)
