@@ -2,7 +2,7 @@
 //! it. What is expected was written by hand.
 
 use crate::tests::stamps::stamp;
-use rbac_words::{Answer, Command, Denial, Group, Name, Stamp, Vocabulary};
+use rbac_words::{Answer, Command, Commands, Denial, Group, Name, Stamp, Vocabulary};
 use rbac_world::{Event, Outcome, Refusal, World, play};
 use std::alloc::Global;
 use std::process::Abort;
@@ -254,6 +254,112 @@ fn a_full_member_takes_what_needs_no_acknowledgement(rt: HostRuntime) {
     expect(&rt, alloc, &mut world, receive(1, 2, 1), full, 1, 1);
     expect_record(&rt, &world, 2, 0, stamp(1, 1), Answer::Done);
     drop(world);
+}
+
+// Caller 0 of a member submits that these roles are added, together.
+fn batch(rt: &impl Abort, alloc: Global, at: u32, serial: u32, roles: &[&str]) -> Event {
+    let mut commands = Vec::new(alloc);
+    for role in roles {
+        let role = name(rt, alloc, role);
+        let pushed = commands.push(Command::AddRole { role });
+        assert!(rt; pushed.is_ok());
+    }
+    Event::SubmitBatch {
+        at,
+        caller: 0,
+        serial,
+        commands: Commands::of(commands),
+    }
+}
+
+// Caller 0 of member 1 submits its first commands, with clock 1: a role, the same again, and another one.
+fn expect_three_roles(rt: &impl Abort, alloc: Global, world: &mut World) {
+    let event = batch(rt, alloc, 1, 0, &["a", "a", "b"]);
+    let wanted = Ok(Outcome::Submitted(stamp(1, 1)));
+    expect(rt, alloc, world, event, wanted, 1, 1);
+}
+
+// The stamp of a command of the first message of member 1.
+fn at_place(place: u32) -> Stamp {
+    Stamp {
+        clock: 1,
+        member: 1,
+        place,
+    }
+}
+
+#[test]
+fn a_batch_is_delivered_command_by_command(rt: HostRuntime) {
+    let alloc = rt.alloc();
+    let mut world = founded(&rt, alloc, 2);
+    expect_three_roles(&rt, alloc, &mut world);
+    expect_role(&rt, alloc, &mut world, 0, "b");
+    expect_receipt(&rt, alloc, &mut world, (1, 2, 1), true, 3);
+    for place in [Some(0), Some(1), Some(2), Some(3), None] {
+        expect_delivery(&rt, alloc, &mut world, 1, place, 3);
+    }
+    let denied = Answer::Denied(Denial::RoleExists);
+    expect_record(&rt, &world, 1, 0, at_place(0), Answer::Done);
+    expect_record(&rt, &world, 1, 1, at_place(1), denied);
+    expect_record(&rt, &world, 1, 2, at_place(2), Answer::Done);
+    let denied = Answer::Denied(Denial::RoleExists);
+    expect_record(&rt, &world, 1, 3, stamp(1, 2), denied);
+    expect_receipt(&rt, alloc, &mut world, (2, 1, 1), false, 2);
+    drop(world);
+}
+
+#[test]
+fn serials_go_on_after_a_batch(rt: HostRuntime) {
+    let alloc = rt.alloc();
+    let mut world = founded(&rt, alloc, 2);
+    expect_three_roles(&rt, alloc, &mut world);
+    let next = Err(Refusal::BadSerial { next: 3 });
+    let event = batch(&rt, alloc, 1, 1, &["c"]);
+    expect(&rt, alloc, &mut world, event, next, 1, 1);
+    let event = batch(&rt, alloc, 1, 3, &["c"]);
+    let wanted = Ok(Outcome::Submitted(stamp(2, 1)));
+    expect(&rt, alloc, &mut world, event, wanted, 1, 2);
+    drop(world);
+}
+
+// A batch of so many commands is refused or not; the clock is as before, or one more.
+fn expect_count_of_batch(rt: &impl Abort, alloc: Global, count: usize, is_taken: bool) {
+    let mut world = founded(rt, alloc, 1);
+    let roles = ["r"; 65];
+    let event = batch(rt, alloc, 1, 0, &roles[..count.min(65)]);
+    let (wanted, clock) = if is_taken {
+        (Ok(Outcome::Submitted(stamp(1, 1))), 1)
+    } else {
+        (Err(Refusal::BadBatch), 0)
+    };
+    expect(rt, alloc, &mut world, event, wanted, 1, clock);
+    drop(world);
+}
+
+#[test]
+fn a_batch_has_one_to_sixty_four_commands(rt: HostRuntime) {
+    for (count, is_taken) in [(0, false), (1, true), (64, true), (65, false)] {
+        expect_count_of_batch(&rt, rt.alloc(), count, is_taken);
+    }
+}
+
+// A batch with this serial, at a member of a group with this clock, is refused so.
+fn expect_refused_batch(rt: &impl Abort, alloc: Global, at: u32, serial: u32, refusal: Refusal) {
+    let mut world = founded(rt, alloc, 1);
+    let event = batch(rt, alloc, at, serial, &["a", "b"]);
+    let answer = world.step(alloc, &event);
+    drop(event);
+    assert!(rt; answer == Err(refusal));
+    drop(world);
+}
+
+#[test]
+fn serials_of_a_batch_end_at_the_last_one(rt: HostRuntime) {
+    let alloc = rt.alloc();
+    expect_refused_batch(&rt, alloc, 1, 4_294_967_295, Refusal::BadBatch);
+    let next = Refusal::BadSerial { next: 0 };
+    expect_refused_batch(&rt, alloc, 1, 4_294_967_294, next);
+    expect_refused_batch(&rt, alloc, 9, 4_294_967_295, Refusal::UnknownMember);
 }
 
 // Steps by an event, which is dropped here, and which is not refused.

@@ -5,7 +5,7 @@ use crate::tests::stamps::stamp;
 use rbac_founding::{Founding, FoundingRefusal, read_founding};
 use rbac_lines::{LineRefusal, RunFault, Summary, read_client, read_line, run, watch};
 use rbac_member::{Member, ReceiveRefusal, SubmitRefusal};
-use rbac_words::{Command, Group, Message, Name, Stamp, Vocabulary};
+use rbac_words::{Command, Commands, Group, Message, Name, Stamp, Vocabulary};
 use rbac_world::{Event, Outcome, Refusal, Stopped, World, play};
 use std::alloc::Global;
 use std::process::Abort;
@@ -90,11 +90,11 @@ fn delivered(rt: &impl Abort, alloc: Global, member: &mut Member) -> Option<usiz
 
 // Member 2's first command is taken, and then its acknowledgement.
 fn take_of_second(rt: &impl Abort, alloc: Global, member: &mut Member) {
-    let message = Message::Call {
+    let message = Message::Batch {
         stamp: stamp(2, 2),
         caller: 0,
         serial: 0,
-        command: add_user(rt, alloc, "bob"),
+        commands: Commands::one(add_user(rt, alloc, "bob")),
     };
     let acknowledged = received(rt, member, 1, &message);
     drop(message);
@@ -117,6 +117,83 @@ fn a_member_that_is_asked_again(rt: HostRuntime) {
     assert_eq!(rt; submitted(&rt, alloc, &mut member, 1), stamp(8, 1));
     assert_eq!(rt; delivered(&rt, alloc, &mut member), Some(0));
     assert_eq!(rt; delivered(&rt, alloc, &mut member), Some(1));
+    assert_eq!(rt; delivered(&rt, alloc, &mut member), None);
+    drop(member);
+}
+
+// Three commands, in a list that is made again where a growth is refused.
+fn three(rt: &impl Abort, alloc: Global) -> Vec<Command> {
+    let mut commands = match Vec::with_capacity(alloc, 3) {
+        Ok(room) => room,
+        Err(_) => Vec::with_capacity(alloc, 3).expect(rt, "memory"),
+    };
+    for user in ["ann", "bob", "ann"] {
+        let pushed = commands.push(add_user(rt, alloc, user));
+        assert!(rt; pushed.is_ok());
+    }
+    commands
+}
+
+// A refused submit of three commands leaves the member as it was, and is made again.
+fn submitted_batch(rt: &impl Abort, alloc: Global, member: &mut Member) -> Stamp {
+    let before = seen(member);
+    match member.submit_batch(0, 0, three(rt, alloc)) {
+        Ok(stamp) => stamp,
+        Err(refusal) => {
+            assert_eq!(rt; refusal, SubmitRefusal::NoMemory);
+            assert_eq!(rt; seen(member), before);
+            let again = member.submit_batch(0, 0, three(rt, alloc));
+            again.expect(rt, "memory")
+        }
+    }
+}
+
+// The same of a submit that copies its commands.
+fn submitted_batch_copy(rt: &impl Abort, alloc: Global, member: &mut Member) -> Stamp {
+    let commands = Commands::of(three(rt, alloc));
+    let before = seen(member);
+    let stamp = match member.submit_batch_copy(1, 0, &commands) {
+        Ok(stamp) => stamp,
+        Err(refusal) => {
+            assert_eq!(rt; refusal, SubmitRefusal::NoMemory);
+            assert_eq!(rt; seen(member), before);
+            let again = member.submit_batch_copy(1, 0, &commands);
+            again.expect(rt, "memory")
+        }
+    };
+    drop(commands);
+    stamp
+}
+
+// Member 2's batch of three is taken whole, and then its acknowledgement.
+fn take_batch_of_second(rt: &impl Abort, alloc: Global, member: &mut Member) {
+    let message = Message::Batch {
+        stamp: stamp(3, 2),
+        caller: 0,
+        serial: 0,
+        commands: Commands::of(three(rt, alloc)),
+    };
+    let acknowledged = received(rt, member, 1, &message);
+    drop(message);
+    assert_eq!(rt; acknowledged, Some(stamp(5, 1)));
+    let message = Message::Ack { stamp: stamp(6, 2) };
+    let acknowledged = received(rt, member, 2, &message);
+    drop(message);
+    assert_eq!(rt; acknowledged, None);
+}
+
+#[test]
+fn a_member_that_is_asked_again_for_batches(rt: HostRuntime) {
+    let alloc = rt.alloc();
+    let mut member = first_of_two(&rt, alloc);
+    let first = submitted_batch(&rt, alloc, &mut member);
+    assert_eq!(rt; first, stamp(1, 1));
+    let second = submitted_batch_copy(&rt, alloc, &mut member);
+    assert_eq!(rt; second, stamp(2, 1));
+    take_batch_of_second(&rt, alloc, &mut member);
+    for place in 0..9 {
+        assert_eq!(rt; delivered(&rt, alloc, &mut member), Some(place));
+    }
     assert_eq!(rt; delivered(&rt, alloc, &mut member), None);
     drop(member);
 }
@@ -169,14 +246,17 @@ const DAY: &[Result<Outcome, Refusal>] = &[
     Ok(Outcome::Submitted(Stamp {
         clock: 1,
         member: 1,
+        place: 0,
     })),
     Ok(Outcome::Submitted(Stamp {
         clock: 1,
         member: 2,
+        place: 0,
     })),
     Ok(Outcome::Received(Some(Stamp {
         clock: 3,
         member: 1,
+        place: 0,
     }))),
     Ok(Outcome::Received(None)),
     Ok(Outcome::Delivered(Some(0))),
