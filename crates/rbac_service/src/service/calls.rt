@@ -45,8 +45,9 @@ impl<G: GroupName, K: Gate + Drop, C: Courier + Drop> Service<G, K, C> {
     }
 
     /// Submits the pass's next command at its member, and publishes it. Where publishing is refused, the ticket is given all the
-    /// same, and a later turn publishes. Where nothing new was published, nobody is told. The pass is of this service. It may wait
-    /// for the member's lock.
+    /// same, and a later turn publishes. Then it takes turns of the other members whose threads run and whose locks are free, a
+    /// bounded number, and tells the others of what is new; where nothing new was published it does neither. The pass is of this
+    /// service. It may wait for the member's lock.
     ///
     /// # Errors
     /// The first that applies, as `ServiceRefusal` says; the command is dropped.
