@@ -47,10 +47,14 @@ document_of file = if nat_lt longest_file (length file) then Err TooLong else ok
 
 -- ---- Its keys
 
+-- the keys that each file has to have
+abbrev pub common_keys : List (List ℕ)
+common_keys = codes "members" ∷ codes "operations" ∷ codes "objects" ∷ codes "permissions" ∷ []
+
 -- the keys that a file of a version has to have
 abbrev pub needed_keys : Version → List (List ℕ)
-needed_keys First = codes "members" ∷ codes "operations" ∷ codes "objects" ∷ codes "permissions" ∷ []
-needed_keys Second = codes "hierarchy" ∷ needed_keys First
+needed_keys First = common_keys
+needed_keys Second = codes "hierarchy" ∷ common_keys
 
 -- all keys that it may have
 abbrev pub known_keys : Version → List (List ℕ)
@@ -78,12 +82,17 @@ has_only keys document = list_all (is_one_of keys) (keys_of document)
 abbrev pub has_all : List (List ℕ) → Members → Bool
 has_all keys document = list_all (λ key. is_some (get_member key document)) keys
 
+-- a document has none but the known keys, and all needed ones
+abbrev pub keys_within : List (List ℕ) → List (List ℕ) → Members → Reading ⊤
+keys_within known needed document = do
+  provided (has_only known document) UnknownKey
+  provided (has_all needed document) MissingKey
+
 -- the checks of the keys
 abbrev pub right_keys : Members → Reading ⊤
 right_keys document = do
   version ← version_of document
-  provided (has_only (known_keys version) document) UnknownKey
-  provided (has_all (needed_keys version) document) MissingKey
+  keys_within (known_keys version) (needed_keys version) document
 
 -- ---- What stands at the keys
 

@@ -5,9 +5,9 @@ ghost use Rattle.std.specs.List.{list_all, list_any};
 ghost use Rattle.std.specs.Str.{bytes_eq};
 ghost use Rattle.toml.specs.Data.{as_integer, get_member};
 ghost use Rattle.toml.specs.View.{view, table_view};
-ghost use Rattle.rbac_founding.specs.FoundingFile.{document_of, has_only, right_keys, version_of};
-ghost use Rattle.rbac_founding.specs.Steps.{◌>>◌, provided};
-ghost use Rattle.rbac_founding.specs.declared.refusal.FoundingRefusal.TheVariants.{MissingKey, UnknownKey};
+ghost use Rattle.rbac_founding.specs.FoundingFile.{document_of, has_all, has_only, keys_within, right_keys, version_of};
+ghost use Rattle.rbac_founding.specs.Steps.{provided};
+ghost use Rattle.rbac_founding.specs.declared.refusal.FoundingRefusal.TheVariants.{UnknownKey};
 
 use crate::keys::is_one_of;
 use crate::limits::LONGEST_FILE;
@@ -87,7 +87,7 @@ fn has_all(document: &Table, keys: &[&str]) -> bool
 
 /// Refuses a document that has a key besides the known ones, or lacks a needed one.
 fn check_keys(document: &Table, known: &[&str], needed: &[&str]) -> Result<(), FoundingRefusal>
-    ensures { let d = table_view document.now in result ≡ (provided (has_only (map (λ key. key.now) known.now) d) UnknownKey >> provided (list_all (λ key. is_some (get_member key.now d)) needed.now) MissingKey) }
+    ensures { result ≡ keys_within (map (λ key. key.now) known.now) (map (λ key. key.now) needed.now) (table_view document.now) }
 {
     only_keys(document, known)?;
     if !has_all(document, needed) {
