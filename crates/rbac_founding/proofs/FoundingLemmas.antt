@@ -9,10 +9,11 @@ use Rattle.toml.specs.Data.{Data, Items, Members, as_array, as_str}
 use Rattle.toml.specs.Parse.{parse_document}
 use Rattle.toml.specs.View.{view, items_view, members_view}
 use Rattle.toml.specs.declared.value.Value.{Value}
-use Rattle.rbac_founding.specs.Steps.{◌>>=◌, seen}
-use Rattle.rbac_founding.specs.FoundingFile.{Reading, document_of, founding_of, longest_file, has_only, each, two, as_permission}
+use Rattle.rbac_founding.specs.Steps.{◌>>=◌, ◌>>◌, provided, seen}
+use Rattle.rbac_founding.specs.FoundingFile.{Reading, document_of, founding_of, longest_file, version_of, known_keys, needed_keys, has_only, has_all, keys_within, right_keys, each, two, as_permission}
+use Rattle.rbac_founding.specs.declared.version.Version.{Version}
 use Rattle.rbac_founding.specs.declared.refusal.FoundingRefusal.{FoundingRefusal}
-use Rattle.rbac_founding.specs.declared.refusal.FoundingRefusal.TheVariants.{TooLong, NotToml, WrongKind, BadName}
+use Rattle.rbac_founding.specs.declared.refusal.FoundingRefusal.TheVariants.{TooLong, NotToml, UnknownKey, MissingKey, WrongKind, BadName}
 use Rattle.rbac_founding.proofs.LongLemmas.{front_value}
 use Rattle.std.proofs.lemmas.Bool.{lt-ltb, le-ltb}
 use Rattle.rbac_founding.proofs.ReadingLemmas.{list_any-map, of_kind_more}
@@ -41,6 +42,18 @@ pub has_only_keys : (keys : List (Bor (List ℕ))) (entries : List (String Globa
     → list_all (λ key. list_any (λ known. bytes_eq (string_bytes key) known.now) keys) (entry_keys entries) ≡ has_only (map (λ known. known.now) keys) (members_view entries)
 has_only_keys keys [] = refl
 has_only_keys keys (e ∷ es) = rw (list_any-map (bytes_eq (string_bytes e.0)) (λ known. known.now) keys, has_only_keys keys es)
+
+-- where no key is too much, the needed ones decide
+pub needed_told : (known needed : List (List ℕ)) (document : Members) (b : Bool) → provided (has_only known document) UnknownKey ≡ Ok tt → has_all needed document ≡ b
+    → keys_within known needed document ≡ provided b MissingKey
+needed_told known needed document b only is =
+    ap (λ r. r >> provided (has_all needed document) MissingKey) only ∙ ap (λ all. provided all MissingKey) is
+
+-- the keys are those of the version
+pub of_version : (document : Members) (read version : Version) → Ok read ≡ version_of document → read ≡ version → keys_within (known_keys version) (needed_keys version) document ≡ right_keys document
+of_version document read version told is =
+    ap (λ v. keys_within (known_keys v) (needed_keys v) document) (sym is)
+    ∙ ap (λ r. r >>= λ v. keys_within (known_keys v) (needed_keys v) document) told
 
 -- ---- Arrays
 
