@@ -3,3 +3,4 @@ pub mod MoveLemmas
 pub mod PassedLemmas
 pub mod PlaceLemmas
 pub mod QueueLemmas
+pub mod RoomLemmas

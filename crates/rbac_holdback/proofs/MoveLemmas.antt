@@ -13,19 +13,16 @@ use Rattle.rbac_words.specs.declared.message.Submission.{Submission}
 use Rattle.sorted_keys.proofs.Lists.{Each-append, Each-weaker, Each-both, Each-filter, filter-yes, filter-no}
 use Rattle.rbac_order.proofs.StampLemmas.{Rising-push}
 use Rattle.rbac_order.proofs.SenderLemmas.{of, Rising, decide, is_of-yes, is_of-no, of-insert_last, of-insert_other}
+use Rattle.rbac_holdback.specs.Holdback.{IsAboveOwn}
 use Rattle.rbac_holdback.specs.Queues.{lists_of, held_in, IsQueue, AreQueues, AreKept, IsWidened}
 use Rattle.rbac_holdback.proofs.PlaceLemmas.{Rising-put}
 use Rattle.rbac_holdback.proofs.QueueLemmas.{all_in, queue_at, queues_set, held_rises, held_of, held_of_none, held_is, held_senders}
 
 -- ---- Putting a command last in the queue of its member
 
--- the command comes after each one of its own member
-abbrev pub IsAboveOwn : Submission → List Submission → Type 0
-IsAboveOwn x xs = Each (λ (y : Submission). y.stamp.member ≡ x.stamp.member → IsBefore y.stamp x.stamp) xs
-
 -- the queues with one more command, last in the queue of this place
-abbrev pub longer : ℕ → Submission → List (List Submission) → List (List Submission)
-longer i x queues = set queues i (get_or queues i [] ++ x ∷ [])
+abbrev pub longer_at : ℕ → Submission → List (List Submission) → List (List Submission)
+longer_at i x queues = set queues i (get_or queues i [] ++ x ∷ [])
 
 module _ (i : ℕ) (queues : List (List Submission)) (x : Submission) (a : AreQueues 0 queues) (sender : x.stamp.member ≡ suc i) (made : i < length queues) (above : IsAboveOwn x (held_in queues)) where
   own_queue : IsQueue (suc i) (get_or queues i [])
@@ -38,28 +35,28 @@ module _ (i : ℕ) (queues : List (List Submission)) (x : Submission) (a : AreQu
       Each-weaker (λ y. same y × rule y) (λ (y : Submission). IsBefore y.stamp x.stamp) (get_or queues i []) (λ y h. h.1 (h.0 ∙ sym sender))
       (Each-both same rule (get_or queues i []) own_queue.own (subst (Each rule) (held_of i queues a) (Each-filter rule (is_of (suc i)) (held_in queues) above)))
 
-  pub queues_put : AreQueues 0 (longer i x queues)
+  pub queues_put : AreQueues 0 (longer_at i x queues)
   queues_put =
       queues_set (suc i) 0 i queues (get_or queues i [] ++ x ∷ []) (omega arith) a
       record { own = Each-append (λ (y : Submission). y.stamp.member ≡ suc i) (get_or queues i []) (x ∷ []) own_queue.own (sender, tt); rising = Rising-push submitted_at (get_or queues i []) x own_queue.rising below }
 
   -- it is held where its stamp puts it
-  pub held_put : held_in (longer i x queues) ≡ insert_by_stamp submitted_at x (held_in queues)
-  held_put = held_is (longer i x queues) (insert_by_stamp submitted_at x (held_in queues)) queues_put (Rising-put submitted_at x (held_in queues) (held_rises queues a) above) none each
+  pub held_put : held_in (longer_at i x queues) ≡ insert_by_stamp submitted_at x (held_in queues)
+  held_put = held_is (longer_at i x queues) (insert_by_stamp submitted_at x (held_in queues)) queues_put (Rising-put submitted_at x (held_in queues) (held_rises queues a) above) none each
     where
       none : of 0 (insert_by_stamp submitted_at x (held_in queues)) ≡ []
       none = of-insert_other 0 x (held_in queues) (is_of-no 0 x (λ e. omega arith)) ∙ held_of_none queues a
 
-      here : of (suc i) (insert_by_stamp submitted_at x (held_in queues)) ≡ get_or (longer i x queues) i []
+      here : of (suc i) (insert_by_stamp submitted_at x (held_in queues)) ≡ get_or (longer_at i x queues) i []
       here =
           of-insert_last (suc i) x (held_in queues) (is_of-yes (suc i) x sender) (held_rises queues a) (subst (Each (λ (y : Submission). IsBefore y.stamp x.stamp)) (sym (held_of i queues a)) below)
           ∙ ap (λ l. l ++ x ∷ []) (held_of i queues a)
           ∙ sym (get_or-set_same queues i (get_or queues i [] ++ x ∷ []) [] made)
 
-      each : (j : ℕ) → of (suc j) (insert_by_stamp submitted_at x (held_in queues)) ≡ get_or (longer i x queues) j []
+      each : (j : ℕ) → of (suc j) (insert_by_stamp submitted_at x (held_in queues)) ≡ get_or (longer_at i x queues) j []
       each j =
-          decide (of (suc j) (insert_by_stamp submitted_at x (held_in queues)) ≡ get_or (longer i x queues) j []) j i
-          (λ e. subst (λ n. of (suc n) (insert_by_stamp submitted_at x (held_in queues)) ≡ get_or (longer i x queues) n []) (sym e) here)
+          decide (of (suc j) (insert_by_stamp submitted_at x (held_in queues)) ≡ get_or (longer_at i x queues) j []) j i
+          (λ e. subst (λ n. of (suc n) (insert_by_stamp submitted_at x (held_in queues)) ≡ get_or (longer_at i x queues) n []) (sym e) here)
           (λ n. of-insert_other (suc j) x (held_in queues) (is_of-no (suc j) x (λ e. n (omega arith))) ∙ held_of j queues a ∙ sym (get_or-set_other queues i j (get_or queues i [] ++ x ∷ []) [] n))
 
 -- ---- Taking the least command
@@ -151,7 +148,7 @@ length_insert x (y ∷ ys) = elim (is_before x.stamp y.stamp) as (λ b. length (
 pub kept_widened : (members count : ℕ) (old new : List (List Submission)) → AreKept members count old → IsWidened old new → length new ≤ members → AreKept members count new
 kept_widened members count old new k w within = record { of_each = queues_widened old new w k.of_each; within = within; counted = k.counted ∙ ap length (sym (held_widened old new w)) }
 
-pub kept_put : (members count i : ℕ) (queues : List (List Submission)) (x : Submission) → AreKept members count queues → x.stamp.member ≡ suc i → i < length queues → IsAboveOwn x (held_in queues) → AreKept members (count + 1) (longer i x queues)
+pub kept_put : (members count i : ℕ) (queues : List (List Submission)) (x : Submission) → AreKept members count queues → x.stamp.member ≡ suc i → i < length queues → IsAboveOwn x (held_in queues) → AreKept members (count + 1) (longer_at i x queues)
 kept_put members count i queues x k sender made above = record {
   of_each = queues_put i queues x k.of_each sender made above;
   within = let e = length-set queues i (get_or queues i [] ++ x ∷ []) in let h : length queues ≤ members = k.within in omega arith;

@@ -1,5 +1,5 @@
 -- The place of a command among those that are held.
-use Rattle.std.proofs.Common.{ℕ, zero, suc, Bool, true, false, not, ◌≡◌, ◌⊎◌, inl, inr, ◌<◌, ◌≤◌, arith, refl, sym, subst, ap, ◌∙◌, true≢false, List, [], ◌∷◌, length, get_or}
+use Rattle.std.proofs.Common.{ℕ, zero, suc, Bool, true, false, not, ◌≡◌, ◌⊎◌, inl, inr, ◌<◌, ◌≤◌, arith, refl, sym, subst, ap, ◌∙◌, true≢false, List, [], ◌∷◌, length, get_or, Result, Ok, Err, OnOk, OnErr}
 use Rattle.std.specs.List.{AllByRecursion as Each, insert}
 use Rattle.std.specs.List.Sorted.{IsPartitionedBy, IsPartitionPoint}
 use Rattle.std.specs.Ordering.{is_le}
@@ -8,8 +8,8 @@ use Rattle.std.proofs.lemmas.Bool.{not-true, not-false}
 use Rattle.rbac_words.specs.declared.stamp.Stamp.{Stamp}
 use Rattle.rbac_words.specs.declared.message.Submission.{Submission}
 use Rattle.rbac_words.specs.Message.{submitted_at}
-use Rattle.rbac_words.specs.Stamp.{IsBefore, is_before, stamp_cmp, IsRising, insert_by_stamp}
-use Rattle.rbac_holdback.specs.Holdback.{Holdback, IsHoldback, CanBeHeld}
+use Rattle.rbac_words.specs.Stamp.{IsBefore, is_before, stamp_cmp, IsRising, insert_by_stamp, insert_all}
+use Rattle.rbac_holdback.specs.Holdback.{Holdback, IsHoldback, CanBeHeld, CanAllBeHeld}
 use Rattle.rbac_order.proofs.StampLemmas.{before_trans, before_true, true_before, before_total, IsApart, Each-insert, Rising-insert}
 
 module _ {X : Type 0} where
@@ -17,6 +17,10 @@ module _ {X : Type 0} where
   Each-at P [] i d h a = absurd (omega arith)
   Each-at P (x ∷ xs) zero d h a = a.0
   Each-at P (x ∷ xs) (suc i) d h a = Each-at P xs i d (omega arith) a.1
+
+  -- of an element at a place
+  pub Each-here : (P : X → Type 0) (xs : List X) (i : ℕ) (x : X) → x ≡ get_or xs i x → i < length xs → Each P xs → P x
+  Each-here P xs i x e h a = subst P (sym e) (Each-at P xs i x h a)
 
 module _ {X : Type 0} (at : X → Stamp) where
   -- whether an element goes after another one
@@ -73,3 +77,16 @@ IsHoldback-put h seen x e k can =
       rising = Rising-put submitted_at x h.held k.rising fits.above;
       senders = Each-insert submitted_at (λ (y : Submission). (1 ≤ y.stamp.member) × (y.stamp.member ≤ h.members)) x h.held (fits.low, fits.high) k.senders;
     }
+
+-- and so does an answer that puts it or changes nothing
+pub IsHoldback-answer : {T E : Type 0} (result : Result T E) (h seen : Holdback) (x : Submission) (new : List Submission) → h ≡ seen → IsHoldback h → CanBeHeld seen x
+    → OnOk result (new ≡ insert_by_stamp submitted_at x h.held) → OnErr result (new ≡ h.held) → IsHoldback (record { members = h.members; held = new })
+IsHoldback-answer (Ok t) h seen x new e k can put same = subst (λ (xs : List Submission). IsHoldback (record { members = h.members; held = xs })) (sym put) (IsHoldback-put h seen x e k can)
+IsHoldback-answer (Err f) h seen x new e k can put same = subst (λ (xs : List Submission). IsHoldback (record { members = h.members; held = xs })) (sym same) k
+
+-- what the requirements of several puts keep
+pub IsHoldback-put_all : (h : Holdback) (xs : List Submission) → IsHoldback h → CanAllBeHeld h xs → IsHoldback (record { members = h.members; held = insert_all submitted_at xs h.held })
+IsHoldback-put_all h [] k can = k
+IsHoldback-put_all h (x ∷ xs) k can =
+    let next : Holdback = record { members = h.members; held = insert_by_stamp submitted_at x h.held } in
+    IsHoldback-put_all next xs (IsHoldback-put h h x refl k can.0) can.1

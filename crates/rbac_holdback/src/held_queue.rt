@@ -1,10 +1,10 @@
 //! What is asked of the commands that are held, however they are kept.
 ghost use Rattle.std.specs.Prelude.{◌≡◌, ◌≤◌, ◌↔◌, IsTrue, [], drop, length, IfErr, OnOk, OnErr, IfSome, IfNone};
 ghost use Rattle.rbac_words.specs.Message.{submitted_at};
-ghost use Rattle.rbac_words.specs.Stamp.{insert_by_stamp};
+ghost use Rattle.rbac_words.specs.Stamp.{insert_by_stamp, insert_all};
 ghost use Rattle.rbac_words.specs.Keeping.Member.{is_least_passed};
 ghost use Rattle.rbac_words.specs.World.{least as least_of};
-ghost use Rattle.rbac_holdback.specs.Holdback.{Holdback as HoldbackValue, IsHoldback, CanBeHeld};
+ghost use Rattle.rbac_holdback.specs.Holdback.{Holdback as HoldbackValue, IsHoldback, CanBeHeld, CanAllBeHeld};
 
 use crate::passing::is_passed_by_all;
 use rbac_words::{Stamp, Submission as Held};
@@ -31,6 +31,15 @@ pub trait HeldQueue: Sized {
         ensures members { (content self.new).members ≡ (content self.old).members }
         ensures held { OnOk result ((content self.new).held ≡ insert_by_stamp submitted_at held (content self.old).held) }
         ensures handed_back { IfErr result (λ back. back ≡ held) }
+        ensures unchanged { OnErr result ((content self.new).held ≡ (content self.old).held) };
+
+    /// Holds some commands, each as `put` does once those before it are held, or none of them. Where memory is wanting, they are
+    /// handed back.
+    fn put_all(&mut self, held: Vec<Held>) -> Result<(), Vec<Held>>
+        requires { CanAllBeHeld (content self.old) held.items }
+        ensures members { (content self.new).members ≡ (content self.old).members }
+        ensures held { OnOk result ((content self.new).held ≡ insert_all submitted_at held.items (content self.old).held) }
+        ensures handed_back { IfErr result (λ back. back.items ≡ held.items) }
         ensures unchanged { OnErr result ((content self.new).held ≡ (content self.old).held) };
 
     /// The command with the least stamp, if one is held. It takes no memory.

@@ -1,11 +1,13 @@
 //! The commands that are held, as one queue for each sender.
-ghost use Rattle.std.specs.Prelude.{◌≡◌, ◌≤◌, ◌<◌, [], drop, length, max, IfErr, OnOk, OnErr, IfSome, IfNone, vec_len};
+ghost use Rattle.std.specs.Prelude.{ℕ, ◌≡◌, ◌≤◌, ◌-◌, [], drop, length, max, slice_set, IfErr, OnOk, OnErr, IfSome, IfNone, vec_len};
+ghost use Rattle.std.specs.List.{AllByRecursion};
 ghost use Rattle.std.specs.Option.{option_copied};
 ghost use Rattle.rbac_words.specs.Message.{submitted_at};
-ghost use Rattle.rbac_words.specs.Stamp.{insert_by_stamp};
+ghost use Rattle.rbac_words.specs.Stamp.{insert_by_stamp, insert_all};
+ghost use Rattle.rbac_words.specs.declared.message.Submission.{Submission};
 ghost use Rattle.rbac_words.specs.World.{least as least_of};
-ghost use Rattle.rbac_holdback.specs.Holdback.{IsHoldback};
-ghost use Rattle.rbac_holdback.specs.Queues.{AreQueues, IsWidened, held_in, lists_of, lesser as lesser_of};
+ghost use Rattle.rbac_holdback.specs.Holdback.{IsHoldback, CanBeHeld, CanAllBeHeld};
+ghost use Rattle.rbac_holdback.specs.Queues.{AreQueues, IsWidened, HaveRoom, held_in, lists_of, rooms_of, room_at, longer, longer_by, lesser as lesser_of};
 
 use crate::held_queue::HeldQueue;
 use rbac_words::Submission as Held;
@@ -70,12 +72,67 @@ fn make_queues(queues: &mut Vec<VecDeque<Held>>, count: usize) -> Result<(), All
     ensures made { IsWidened (lists_of queues.old.items) (lists_of queues.new.items) }
     ensures long_enough { OnOk result (vec_len queues.new ≡ max (vec_len queues.old) count) }
     ensures same_length { OnErr result (vec_len queues.new ≡ vec_len queues.old) }
+    ensures rooms { (member : ℕ) → room_at member (rooms_of queues.old.items) ≤ room_at member (rooms_of queues.new.items) }
 {
     if queues.len() < count {
         let alloc = *queues.allocator();
         queues.resize_with(count, || VecDeque::new(alloc))?;
     }
     Ok(())
+}
+
+// Makes the queue of a member where it is wanting, and room in it for so many commands.
+fn make_room(
+    queues: &mut Vec<VecDeque<Held>>,
+    member: usize,
+    count: usize,
+) -> Result<(), AllocError>
+    requires { 1 ≤ member }
+    ensures made { IsWidened (lists_of queues.old.items) (lists_of queues.new.items) }
+    ensures no_more { vec_len queues.new ≤ max (vec_len queues.old) member }
+    ensures rooms { (k : ℕ) → room_at k (rooms_of queues.old.items) ≤ room_at k (rooms_of queues.new.items) }
+    ensures room { OnOk result (count ≤ room_at member (rooms_of queues.new.items)) }
+{
+    make_queues(queues, member)?;
+    queues[member - 1].reserve(count)
+}
+
+// Makes room for each of these commands in the queue of its member. A member's queue gets room for all of them, which is no more
+// than it needs where they are of one member, as those of a message are.
+fn make_room_for_all(queues: &mut Vec<VecDeque<Held>>, held: &[Held]) -> Result<(), AllocError>
+    requires { AllByRecursion (λ (x : Submission). 1 ≤ x.stamp.member) held.now }
+    ensures made { IsWidened (lists_of queues.old.items) (lists_of queues.new.items) }
+    ensures no_more { (members : ℕ) → AllByRecursion (λ (x : Submission). x.stamp.member ≤ members) held.now → vec_len queues.old ≤ members → vec_len queues.new ≤ members }
+    ensures room { OnOk result (HaveRoom (length held.now) (rooms_of queues.new.items) held.now) }
+{
+    for item in held {
+        make_room(queues, item.stamp.member as usize, held.len())?;
+    }
+    Ok(())
+}
+
+// Puts a command last in the queue of its member, which has room for it. It takes no memory.
+fn put_ready(queues: &mut Vec<VecDeque<Held>>, held: Held)
+    requires member { 1 ≤ held.stamp.member }
+    requires room { 1 ≤ room_at held.stamp.member (rooms_of queues.old.items) }
+    ensures put { lists_of queues.new.items ≡ longer held (lists_of queues.old.items) }
+    ensures room { rooms_of queues.new.items ≡ slice_set (rooms_of queues.old.items) (held.stamp.member - 1) (room_at held.stamp.member (rooms_of queues.old.items) - 1) }
+{
+    let place = held.stamp.member as usize - 1;
+    let Ok(()) = queues[place].push_back(held) else {
+        unreachable!()
+    };
+}
+
+// The same of several commands, one after the other.
+fn put_all_ready(queues: &mut Vec<VecDeque<Held>>, held: Vec<Held>)
+    requires members { AllByRecursion (λ (x : Submission). 1 ≤ x.stamp.member) held.items }
+    requires room { HaveRoom (length held.items) (rooms_of queues.old.items) held.items }
+    ensures { lists_of queues.new.items ≡ longer_by held.items (lists_of queues.old.items) }
+{
+    for item in held {
+        put_ready(queues, item);
+    }
 }
 
 impl HeldQueue for Holdback {
@@ -94,21 +151,28 @@ impl HeldQueue for Holdback {
     }
 
     fn put(&mut self, held: Held) -> Result<(), Held> {
-        let member = held.stamp.member as usize;
         // no memory holds more commands than can be counted
         let Some(count) = self.count.checked_add(1) else {
             return Err(held);
         };
-        if make_queues(&mut self.queues, member).is_err() {
+        if make_room(&mut self.queues, held.stamp.member as usize, 1).is_err() {
             return Err(held);
         }
-        match self.queues[member - 1].push_back(held) {
-            Ok(()) => {
-                self.count = count;
-                Ok(())
-            }
-            Err(failed) => Err(failed.value),
+        put_ready(&mut self.queues, held);
+        self.count = count;
+        Ok(())
+    }
+
+    fn put_all(&mut self, held: Vec<Held>) -> Result<(), Vec<Held>> {
+        let Some(count) = self.count.checked_add(held.len()) else {
+            return Err(held);
+        };
+        if make_room_for_all(&mut self.queues, &held).is_err() {
+            return Err(held);
         }
+        put_all_ready(&mut self.queues, held);
+        self.count = count;
+        Ok(())
     }
 
     fn least(&self) -> Option<&Held> {
