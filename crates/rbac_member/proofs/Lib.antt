@@ -1,3 +1,4 @@
+pub mod CommandLemmas
 pub mod DeliveryLemmas
 pub mod HoldLemmas
 pub mod ReceiveLemmas

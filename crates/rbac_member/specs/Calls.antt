@@ -14,6 +14,7 @@ use Rattle.rbac_member.specs.declared.refusal.ReceiveRefusal.TheVariants as rece
 
 -- a member's refusals as the world's
 abbrev pub submit_refused : SubmitRefusal → Refusal
+submit_refused submit.BadBatch = refused.BadBatch
 submit_refused submit.ClockFull = refused.ClockFull
 submit_refused submit.SentFull = refused.SentFull
 submit_refused (submit.BadSerial next) = refused.BadSerial next
@@ -25,6 +26,7 @@ receipt_refused receive.FromSelf = refused.FromSelf
 receipt_refused (receive.Repeat expected) = refused.Repeat expected
 receipt_refused (receive.Gap expected) = refused.Gap expected
 receipt_refused receive.StampNotRising = refused.StampNotRising
+receipt_refused receive.BadBatch = refused.BadBatch
 receipt_refused receive.ClockFull = refused.ClockFull
 receipt_refused receive.SentFull = refused.SentFull
 receipt_refused (receive.BadSerial next) = refused.BadSerial next
@@ -33,6 +35,7 @@ receipt_refused receive.NoMemory = refused.NoMemory
 -- the rule that a refusal names; want of memory comes only where no rule refuses
 abbrev pub rule_of : Refusal → Option Refusal
 rule_of refused.UnknownMember = Some refused.UnknownMember
+rule_of refused.BadBatch = Some refused.BadBatch
 rule_of refused.FromSelf = Some refused.FromSelf
 rule_of refused.NotSent = Some refused.NotSent
 rule_of (refused.Repeat expected) = Some (refused.Repeat expected)

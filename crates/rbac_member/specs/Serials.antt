@@ -1,11 +1,13 @@
 -- The next serial of each caller of each member, as entries by member and caller.
-use Rattle.std.specs.Prelude.{ℕ, ◌≡◌, ◌+◌, List, [], ◌∷◌, unwrap_or}
+use Rattle.std.specs.Prelude.{ℕ, ◌≡◌, ◌+◌, List, length, unwrap_or}
 use Rattle.std.specs.List.{filter}
 use Rattle.std.specs.FinMap.Entries.{find, put}
 use Rattle.std.specs.declared.cmp.Ordering.{Ordering}
 use Rattle.std.specs.Ordering.{nat_cmp, then_cmp, on}
 use Rattle.rbac_words.specs.Message.{next_serial}
 use Rattle.rbac_words.specs.Front.{is_of}
+use Rattle.rbac_words.specs.declared.message.Message.{Message}
+use Rattle.rbac_words.specs.declared.message.Message.TheVariants.{Batch, Ack}
 use Rattle.rbac_words.specs.declared.message.Submission.{Submission}
 
 -- callers are ordered by member, and those of one member by their number
@@ -16,10 +18,10 @@ caller_cmp = then_cmp (on (λ p. p.0) nat_cmp) (on (λ p. p.1) nat_cmp)
 abbrev pub counted_of : ℕ → ℕ → List ((ℕ × ℕ) × ℕ) → ℕ
 counted_of member caller entries = unwrap_or (find caller_cmp (member, caller) entries) 0
 
--- the entries after some commands: a command with serial n is followed by one with serial n + 1
-abbrev pub counted : List Submission → List ((ℕ × ℕ) × ℕ) → List ((ℕ × ℕ) × ℕ)
-counted [] entries = entries
-counted (x ∷ xs) entries = counted xs (put caller_cmp (x.stamp.member, x.caller) (x.serial + 1) entries)
+-- the entries after a message: n commands of which the first has serial m are followed by one with serial m + n
+abbrev pub counted : Message → List ((ℕ × ℕ) × ℕ) → List ((ℕ × ℕ) × ℕ)
+counted (Batch stamp caller serial commands) entries = put caller_cmp (stamp.member, caller) (serial + length commands) entries
+counted (Ack stamp) entries = entries
 
 -- of each caller they say how many of its commands are among these
 abbrev pub AreCounted : List ((ℕ × ℕ) × ℕ) → List Submission → Type 0

@@ -17,6 +17,9 @@ pub enum FoundRefusal {
 /// Why a command was not submitted, in the order of the checks.
 #[derive(Clone, Copy, Debug, PartialEq, Eq, Drop, Error)]
 pub enum SubmitRefusal {
+    /// No command, more than 64, or a last serial above 4,294,967,295.
+    #[error("a message has 1 to 64 commands, with serials up to 4294967295")]
+    BadBatch,
     /// The clock is at its limit.
     #[error("the member's clock is at its limit")]
     ClockFull,
@@ -45,9 +48,12 @@ pub enum ReceiveRefusal {
     /// A message before which another one is missing.
     #[error("a message before this one is missing: expected message {expected}")]
     Gap { expected: u64 },
-    /// The stamp is not of the sender, or not above the last one taken from it.
-    #[error("the stamp is not of the sender, or not above the last one taken from it")]
+    /// The stamp is none of a message of the sender, or not above the last one taken from it.
+    #[error("the stamp is none of a message of the sender, or not above the last one taken from it")]
     StampNotRising,
+    /// No command, more than 64, or a last serial above 4,294,967,295.
+    #[error("a message has 1 to 64 commands, with serials up to 4294967295")]
+    BadBatch,
     /// The clock would pass its limit, the step of an acknowledgement that is due included.
     #[error("the member's clock is at its limit")]
     ClockFull,
@@ -80,6 +86,7 @@ impl From<SubmitRefusal> for Refusal {
 
     fn from(refusal: SubmitRefusal) -> Refusal {
         match refusal {
+            SubmitRefusal::BadBatch => Refusal::BadBatch,
             SubmitRefusal::ClockFull => Refusal::ClockFull,
             SubmitRefusal::SentFull => Refusal::SentFull,
             SubmitRefusal::BadSerial { next } => Refusal::BadSerial { next },
@@ -98,6 +105,7 @@ impl From<ReceiveRefusal> for Refusal {
             ReceiveRefusal::Repeat { expected } => Refusal::Repeat { expected },
             ReceiveRefusal::Gap { expected } => Refusal::Gap { expected },
             ReceiveRefusal::StampNotRising => Refusal::StampNotRising,
+            ReceiveRefusal::BadBatch => Refusal::BadBatch,
             ReceiveRefusal::ClockFull => Refusal::ClockFull,
             ReceiveRefusal::SentFull => Refusal::SentFull,
             ReceiveRefusal::BadSerial { next } => Refusal::BadSerial { next },

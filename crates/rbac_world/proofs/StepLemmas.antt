@@ -1,5 +1,5 @@
 -- A move of one member of a group is the step of its world.
-use Rattle.std.proofs.Common.{ℕ, Bool, true, false, not, cond, ◌≡◌, ◌≤◌, ◌<◌, ◌+◌, ◌-◌, ◌==◌, ◌||◌, ◌&&◌, ◌⊎◌, inl, inr, nat_lt, nat_le, List, [], ◌∷◌, ◌++◌, length, set, get_or, drop, Option, Some, None, is_some, Result, Ok, Err, refl, sym, ap, subst, ◌∙◌, arith}
+use Rattle.std.proofs.Common.{ℕ, suc, Bool, true, false, not, cond, ◌≡◌, ◌≤◌, ◌<◌, ◌+◌, ◌-◌, ◌==◌, ◌||◌, ◌&&◌, ◌⊎◌, inl, inr, nat_lt, nat_le, List, [], ◌∷◌, ◌++◌, length, set, get_or, drop, Option, Some, None, is_some, Result, Ok, Err, refl, sym, ap, subst, ◌∙◌, arith, true≢false}
 use Rattle.std.specs.List.{filter}
 use Rattle.std.proofs.lemmas.Bool.{eq-eqb, ne_eqb}
 use Rattle.std.proofs.lemmas.List.{length-map, set-get_or}
@@ -7,22 +7,22 @@ use Rattle.std.proofs.lemmas.List.Elements.{filter-append}
 use Rattle.rbac_terms.specs.Vocabulary.{Vocabulary}
 use Rattle.rbac_words.specs.Group.{Group}
 use Rattle.rbac_words.specs.Stamp.{IsAfter, is_after}
-use Rattle.rbac_words.specs.Message.{stamp_of, is_by, next_serial, CountsFrom, has_commands}
+use Rattle.rbac_words.specs.Message.{stamp_of, next_place, in_turn as following, has_bad_batch, is_by, next_serial, CountsFrom, has_commands}
 use Rattle.rbac_words.specs.Front.{is_of}
 use Rattle.rbac_words.specs.World.{World, Node, node, is_member, read_of, stamp, message, submit_refusal, receive_refusal, room_refusal, submit_at, receive_at, deliver_at, with_node, refusal, outcome, after, place_of, due, answer_unless, world_unless, acknowledgement}
 use Rattle.rbac_words.specs.Keeping.Links.{has_link, is_rising_of}
 use Rattle.rbac_words.specs.Step.{grows, IsStep}
-use Rattle.rbac_words.specs.Keeping.Member.{Member, node_of, links_of, latest_of, known, submitted, received, deliver_due, due_at, or_else, serial_refusal, message_refusal, IsNext}
+use Rattle.rbac_words.specs.Keeping.Member.{Member, node_of, links_of, latest_of, known, submitted, received, deliver_due, due_at, or_else, batch_refusal, serial_refusal, message_refusal, IsNext}
 use Rattle.rbac_words.specs.Keeping.Members.{AreMembers, no_member, member_at, world_of}
 use Rattle.rbac_terms.specs.declared.command.Command.{Command}
 use Rattle.rbac_words.specs.declared.event.Event.{Event}
-use Rattle.rbac_words.specs.declared.event.Event.TheVariants.{Submit, Receive, Deliver}
+use Rattle.rbac_words.specs.declared.event.Event.TheVariants.{Submit, SubmitBatch, Receive, Deliver}
 use Rattle.rbac_words.specs.declared.event.Outcome.{Outcome}
 use Rattle.rbac_words.specs.declared.event.Outcome.TheVariants.{Submitted, Received, Delivered}
 use Rattle.rbac_words.specs.declared.event.Refusal.{Refusal}
 use Rattle.rbac_words.specs.declared.event.Refusal.TheVariants as refused
 use Rattle.rbac_words.specs.declared.message.Message.{Message}
-use Rattle.rbac_words.specs.declared.message.Message.TheVariants.{Call, Ack}
+use Rattle.rbac_words.specs.declared.message.Message.TheVariants.{Batch, Ack}
 use Rattle.rbac_words.specs.declared.message.Submission.{Submission}
 use Rattle.rbac_words.specs.declared.stamp.Stamp.{Stamp}
 use Rattle.rbac_order.proofs.StampLemmas.{true_before}
@@ -159,19 +159,27 @@ module _ (group : Group) (vocabulary : Vocabulary) (ms : List Member) (are : Are
       let c : (at i).group.members ≡ group.members = ap (λ (g : Group). g.members) (group_of i hi) in
       let e : length (at i).read ≡ (at i).group.members = (are.kept i hi).reads in is_in_range (at j).number (length (at i).read) (omega arith) (omega arith)
 
-  submits : (i caller serial : ℕ) (c : Command) → i < length ms → IsMoveOf i (submit_of (at i) caller serial c) (Submit (i + 1) caller serial c)
-  submits i caller serial c h =
-      let same = ap (λ (g : Group). submit_refusal g (node_of (at i)) caller serial) (group_of i h) in record {
-        refused = rw (inside i h) (ap (λ (v : Node). submit_refusal group v caller serial) (node_at i) ∙ sym same);
+  batches : (i caller serial : ℕ) (cs : List Command) → i < length ms → IsMoveOf i (submit_of (at i) caller serial cs) (SubmitBatch (i + 1) caller serial cs)
+  batches i caller serial cs h =
+      let same = ap (λ (g : Group). submit_refusal g (node_of (at i)) caller serial (length cs)) (group_of i h) in record {
+        refused = rw (inside i h) (ap (λ (v : Node). submit_refusal group v caller serial (length cs)) (node_at i) ∙ sym same);
         gives = ap (λ (v : Node). Submitted (stamp (v.clock + 1) (i + 1))) (node_at i) ∙ ap (λ k. Submitted (stamp ((at i).clock + 1) k)) (sym (number i h));
-        leaves = place i (submitted (at i) caller serial c) ∙ ap (λ (v : Node). with_node w (i + 1) (submit_at v caller serial c)) (sym (node_at i));
+        leaves = place i (submitted (at i) caller serial cs) ∙ ap (λ (v : Node). with_node w (i + 1) (submit_at v caller serial cs)) (sym (node_at i));
         longer = refl;
-        keeps = λ free. members_submitted group vocabulary ms are i caller serial c h (sym same ∙ free);
+        keeps = λ free. members_submitted group vocabulary ms are i caller serial cs h (sym same ∙ free);
       }
 
+  pub batch_step : (k i caller serial : ℕ) (cs : List Command) (u : Member) (result : Result Outcome Refusal) (after : Member) → (k ≡ i + 1) × (i < length ms)
+      → IsMoved (submit_of (get_or ms i u) caller serial cs) (get_or ms i u) result after → IsGroupStep group vocabulary ms (SubmitBatch k caller serial cs) result (set ms i after)
+  batch_step k i caller serial cs = at_place (λ n. SubmitBatch n caller serial cs) (λ v. submit_of v caller serial cs) (λ j. batches j caller serial cs) k i
+
+  -- one command is a batch of one
+  submits : (i caller serial : ℕ) (c : Command) → i < length ms → IsMoveOf i (submit_of (at i) caller serial (c ∷ [])) (Submit (i + 1) caller serial c)
+  submits i caller serial c h = let b = batches i caller serial (c ∷ []) h in record { refused = b.refused; gives = b.gives; leaves = b.leaves; longer = b.longer; keeps = b.keeps }
+
   pub submit_step : (k i caller serial : ℕ) (c : Command) (u : Member) (result : Result Outcome Refusal) (after : Member) → (k ≡ i + 1) × (i < length ms)
-      → IsMoved (submit_of (get_or ms i u) caller serial c) (get_or ms i u) result after → IsGroupStep group vocabulary ms (Submit k caller serial c) result (set ms i after)
-  submit_step k i caller serial c = at_place (λ n. Submit n caller serial c) (λ v. submit_of v caller serial c) (λ j. submits j caller serial c) k i
+      → IsMoved (submit_of (get_or ms i u) caller serial (c ∷ [])) (get_or ms i u) result after → IsGroupStep group vocabulary ms (Submit k caller serial c) result (set ms i after)
+  submit_step k i caller serial c = at_place (λ n. Submit n caller serial c) (λ v. submit_of v caller serial (c ∷ [])) (λ j. submits j caller serial c) k i
 
   delivers : (i : ℕ) → i < length ms → IsMoveOf i (delivery_of (at i)) (Deliver (i + 1))
   delivers i h = record {
@@ -198,24 +206,32 @@ module _ (group : Group) (vocabulary : Vocabulary) (ms : List Member) (are : Are
 
   -- the next message of a sender has a rising stamp
   is_rising : (v : Member) (k : ℕ) (m : Message) → IsNext v k m → is_rising_of (links_of v) k (stamp_of m) ≡ true
-  is_rising v k m next = rw (eq-eqb (stamp_of m).member k next.sender) (is_after_true (latest_of v k) (stamp_of m) next.after)
+  is_rising v k m next = rw (eq-eqb (stamp_of m).member k next.sender, eq-eqb (stamp_of m).place 0 next.first) (is_after_true (latest_of v k) (stamp_of m) next.after)
 
-  -- and its command the next serial
+  -- its commands are a batch
+  is_batch : (v : Member) (k : ℕ) (m : Message) → IsNext v k m → batch_refusal m ≡ None
+  is_batch v k m next = rw next.batch refl
+
+  -- and the first of them has the next serial
   in_turn : (v : Member) (k : ℕ) (m : Message) → IsNext v k m → serial_refusal v m ≡ None
   in_turn v k (Ack s) next = refl
-  in_turn v k (Call s caller serial command) next = rw (eq-eqb serial (next_serial caller (filter (is_of s.member) (known v))) is) refl
+  in_turn v k (Batch s caller serial []) next = absurd (true≢false next.batch)
+  in_turn v k (Batch s caller serial (c ∷ cs)) next = rw (eq-eqb serial (next_serial caller (filter (is_of s.member) (known v))) is) refl
     where
       x : Submission
-      x = record { stamp = s; caller = caller; serial = serial; command = command }
+      x = record { stamp = s; caller = caller; serial = serial; command = c }
 
-      own : filter (is_by caller) (x ∷ []) ≡ x ∷ []
+      rest : List Submission
+      rest = following (next_place s) caller (suc serial) cs
+
+      own : filter (is_by caller) (x ∷ rest) ≡ x ∷ filter (is_by caller) rest
       own = rw (eq-eqb caller caller refl) refl
 
-      in_order : CountsFrom 0 (filter (is_by caller) (filter (is_of k) (known v)) ++ x ∷ [])
-      in_order = subst (CountsFrom 0) (filter-append (is_by caller) (filter (is_of k) (known v)) (x ∷ []) ∙ ap (λ l. filter (is_by caller) (filter (is_of k) (known v)) ++ l) own) (next.serials caller)
+      in_order : CountsFrom 0 (filter (is_by caller) (filter (is_of k) (known v)) ++ x ∷ filter (is_by caller) rest)
+      in_order = subst (CountsFrom 0) (filter-append (is_by caller) (filter (is_of k) (known v)) (x ∷ rest) ∙ ap (λ l. filter (is_by caller) (filter (is_of k) (known v)) ++ l) own) (next.serials caller)
 
       is : serial ≡ next_serial caller (filter (is_of s.member) (known v))
-      is = let e : serial ≡ 0 + next_serial caller (filter (is_of k) (known v)) = CountsFrom-next 0 (filter (is_by caller) (filter (is_of k) (known v))) x [] in_order in
+      is = let e : serial ≡ 0 + next_serial caller (filter (is_of k) (known v)) = CountsFrom-next 0 (filter (is_by caller) (filter (is_of k) (known v))) x (filter (is_by caller) rest) in_order in
           let f : next_serial caller (filter (is_of k) (known v)) ≡ next_serial caller (filter (is_of s.member) (known v)) = ap (λ n. next_serial caller (filter (is_of n) (known v))) (sym next.sender) in omega arith
 
   or_else-none : (o : Option Refusal) → or_else o None ≡ o
@@ -245,12 +261,12 @@ module _ (group : Group) (vocabulary : Vocabulary) (ms : List Member) (are : Are
 
       by_number : (a b : Bool) → nat_lt n expected ≡ a → nat_lt expected n ≡ b → n ≤ length (at j).sent
           → cond a (Some (refused.Repeat expected)) (cond b (Some (refused.Gap expected)) (room_refusal group (node_of (at i)) m))
-          ≡ or_else (cond a (Some (refused.Repeat expected)) (cond b (Some (refused.Gap expected)) (cond (is_rising_of (links_of (at i)) k (stamp_of m)) None (Some refused.StampNotRising)))) (or_else (room_refusal (at i).group (node_of (at i)) m) (serial_refusal (at i) m))
+          ≡ or_else (cond a (Some (refused.Repeat expected)) (cond b (Some (refused.Gap expected)) (cond (is_rising_of (links_of (at i)) k (stamp_of m)) None (Some refused.StampNotRising)))) (or_else (batch_refusal m) (or_else (room_refusal (at i).group (node_of (at i)) m) (serial_refusal (at i) m)))
       by_number true b e f l = refl
       by_number false true e f l = refl
       by_number false false e f l =
           let next = next_message group vocabulary ms are i j m (drop 1 (read_by group vocabulary ms are i j hi hj d).unread) hi hj d (comes_next group vocabulary ms are i j n hi hj d (meets expected n e f) l) in
-          rw (is_rising (at i) k m next, in_turn (at i) k m next) (room ∙ sym (or_else-none (room_refusal (at i).group (node_of (at i)) m)))
+          rw (is_rising (at i) k m next, is_batch (at i) k m next, in_turn (at i) k m next) (room ∙ sym (or_else-none (room_refusal (at i).group (node_of (at i)) m)))
 
       go : (b : Bool) → (n == 0 || nat_lt (length (at j).sent) n) ≡ b
           → cond b (Some refused.NotSent) (cond (nat_lt n expected) (Some (refused.Repeat expected)) (cond (nat_lt expected n) (Some (refused.Gap expected)) (room_refusal group (node_of (at i)) m)))
@@ -258,7 +274,7 @@ module _ (group : Group) (vocabulary : Vocabulary) (ms : List Member) (are : Are
       go true e = refl
       go false e =
           by_number (nat_lt n expected) (nat_lt expected n) refl refl (was_sent (length (at j).sent) n e)
-          ∙ ap (λ (o : Option Refusal). or_else o (or_else (room_refusal (at i).group (node_of (at i)) m) (serial_refusal (at i) m))) (sym (by_link _))
+          ∙ ap (λ (o : Option Refusal). or_else o (or_else (batch_refusal m) (or_else (room_refusal (at i).group (node_of (at i)) m) (serial_refusal (at i) m)))) (sym (by_link _))
 
   receives : (i j n : ℕ) → i < length ms → j < length ms → (j ≡ i → ⊥) → IsMoveOf i (receipt_of (at i) (at j) n) (Receive (i + 1) (j + 1) n)
   receives i j n hi hj d = record {

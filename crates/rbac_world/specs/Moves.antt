@@ -37,11 +37,11 @@ pub record IsMovedAt (place : ℕ) (m : Move) (old : List Member) (result : Resu
   pub is_moved : IsMoved m (member_at old place) result after
   pub changed : new ≡ slice_set old place after
 
-abbrev pub submit_of : Member → ℕ → ℕ → Command → Move
-submit_of v caller serial command = record {
-  refusal = submit_refusal v.group (node_of v) caller serial;
+abbrev pub submit_of : Member → ℕ → ℕ → List Command → Move
+submit_of v caller serial commands = record {
+  refusal = submit_refusal v.group (node_of v) caller serial (length commands);
   outcome = Submitted (stamp (v.clock + 1) v.number);
-  after = submitted v caller serial command;
+  after = submitted v caller serial commands;
   grows = true;
 }
 

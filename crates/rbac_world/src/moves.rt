@@ -1,12 +1,12 @@
 //! What one member of a group does upon an event.
-ghost use Rattle.std.specs.Prelude.{◌≡◌, ◌≢◌, ◌<◌, true, false, length, IfSome, IfNone};
+ghost use Rattle.std.specs.Prelude.{◌≡◌, ◌≢◌, ◌<◌, ◌∷◌, [], true, false, length, IfSome, IfNone};
 ghost use Rattle.rbac_words.specs.World.{message};
 ghost use Rattle.rbac_words.specs.Keeping.Member.{node_of};
 ghost use Rattle.rbac_words.specs.Keeping.Members.{member_at};
 ghost use Rattle.rbac_world.specs.Moves.{IsMoved, IsMovedAt, is_sent, submit_of, receipt_of, delivery_of};
 
 use rbac_member::Member;
-use rbac_words::{Command, Message, Outcome, Refusal};
+use rbac_words::{Command, Commands, Message, Outcome, Refusal};
 use std::alloc::{AllocError, Global};
 
 pub(crate) fn submit(
@@ -15,9 +15,23 @@ pub(crate) fn submit(
     serial: u32,
     command: &Command,
 ) -> Result<Outcome, Refusal>
-    ensures { IsMoved (submit_of member.old caller serial command.now) member.old result member.new }
+    ensures { IsMoved (submit_of member.old caller serial (command.now ∷ [])) member.old result member.new }
 {
     match member.submit_copy(caller, serial, command) {
+        Ok(stamp) => Ok(Outcome::Submitted(stamp)),
+        Err(refusal) => Err(refusal.into()),
+    }
+}
+
+pub(crate) fn submit_batch(
+    member: &mut Member,
+    caller: u32,
+    serial: u32,
+    commands: &Commands,
+) -> Result<Outcome, Refusal>
+    ensures { IsMoved (submit_of member.old caller serial commands.now) member.old result member.new }
+{
+    match member.submit_batch_copy(caller, serial, commands) {
         Ok(stamp) => Ok(Outcome::Submitted(stamp)),
         Err(refusal) => Err(refusal.into()),
     }

@@ -8,7 +8,7 @@ ghost use Rattle.rbac_world.specs.Moves.{IsGroupStep};
 
 use crate::moves;
 use rbac_member::Member;
-use rbac_words::{Command, Event, Outcome, Refusal};
+use rbac_words::{Command, Commands, Event, Outcome, Refusal};
 use std::alloc::Global;
 
 // The place of the member of this number.
@@ -36,6 +36,22 @@ fn submit(
         Err(refusal) => return Err(refusal),
     };
     moves::submit(&mut members[place], caller, serial, command)
+}
+
+fn submit_batch(
+    members: &mut [Member],
+    at: u32,
+    caller: u32,
+    serial: u32,
+    commands: &Commands,
+) -> Result<Outcome, Refusal>
+    ensures { (group : GroupValue) (vocabulary : VocabularyValue) → AreMembers group vocabulary members.old → IsGroupStep group vocabulary members.old (event.SubmitBatch at caller serial commands.now) result members.new }
+{
+    let place = match place_of(members, at) {
+        Ok(place) => place,
+        Err(refusal) => return Err(refusal),
+    };
+    moves::submit_batch(&mut members[place], caller, serial, commands)
 }
 
 fn receive(members: &mut [Member], at: u32, from: u32, number: u32) -> Result<Outcome, Refusal>
@@ -76,6 +92,12 @@ pub(crate) fn step(members: &mut [Member], alloc: Global, event: &Event) -> Resu
             serial,
             command,
         } => submit(members, *at, *caller, *serial, command),
+        Event::SubmitBatch {
+            at,
+            caller,
+            serial,
+            commands,
+        } => submit_batch(members, *at, *caller, *serial, commands),
         Event::Receive { at, from, number } => receive(members, *at, *from, *number),
         Event::Deliver { at } => deliver(members, alloc, *at),
     }

@@ -1,16 +1,25 @@
 //! What a member holds, and the serials that it counts.
-ghost use Rattle.std.specs.Prelude.{◌≡◌, ◌≢◌, [], OnOk, OnErr};
-ghost use Rattle.std.specs.List.{AllByRecursion};
+ghost use Rattle.std.specs.Prelude.{◌≡◌, ◌≢◌, [], ◌∷◌, false, length, IfOk, OnOk, OnErr};
 ghost use Rattle.std.specs.Result.{is_err};
 ghost use Rattle.rbac_words.specs.Stamp.{insert_all};
-ghost use Rattle.rbac_words.specs.Message.{submitted_at, submissions_of};
-ghost use Rattle.rbac_holdback.specs.Holdback.{CanBeHeld};
+ghost use Rattle.rbac_words.specs.Message.{submitted_at, submissions_of, in_turn, is_bad_batch as is_no_batch, has_bad_batch, stamp_of};
+ghost use Rattle.rbac_holdback.specs.Holdback.{CanAllBeHeld};
 ghost use Rattle.rbac_member.specs.Serials.{counted, counted_of};
 
 use rbac_holdback::{Held, HeldQueue, Holdback};
-use rbac_words::Message;
+use rbac_words::limits::MOST_COMMANDS;
+use rbac_words::{Command, Message, Stamp};
 use sorted_keys::SortedMap;
-use std::alloc::AllocError;
+use std::alloc::{AllocError, Global};
+
+// Whether so many commands, the first of them with this serial, are no batch.
+pub(crate) fn is_bad_batch(serial: u32, count: usize) -> bool
+    ensures { result ≡ is_no_batch serial count }
+{
+    count == 0
+        || MOST_COMMANDS < count
+        || u64::from(u32::MAX) < u64::from(serial) + count as u64 - 1
+}
 
 // The next serial of a caller of a member.
 pub(crate) fn next_serial(serials: &SortedMap<(u32, u32), u64>, member: u32, caller: u32) -> u64
@@ -26,14 +35,102 @@ fn is_handed_back(answer: Result<(), Held>) -> bool
     answer.is_err()
 }
 
-// Holds a copy of the command of a message, where it has one, and counts it for its caller.
+// The same of several commands.
+fn are_handed_back(answer: Result<(), Vec<Held>>) -> bool
+    ensures { result ≡ is_err answer }
+{
+    answer.is_err()
+}
+
+// Copies of commands as they are held.
+fn copied(
+    alloc: Global,
+    stamp: Stamp,
+    caller: u32,
+    serial: u32,
+    commands: &[Command],
+) -> Result<Vec<Held>, AllocError>
+    requires first { stamp.place ≡ 0 }
+    requires batch { is_no_batch serial (length commands.now) ≡ false }
+    ensures { IfOk result (λ held. held.items ≡ in_turn stamp caller serial commands.now) }
+{
+    let mut held = Vec::new(alloc);
+    for (place, command) in commands.iter().enumerate() {
+        let place = place as u32;
+        let item = Held {
+            stamp: Stamp { place, ..stamp },
+            caller,
+            serial: serial + place,
+            command: command.copy()?,
+        };
+        held.push(item)?;
+    }
+    Ok(held)
+}
+
+// Holds a copy of a single command, which takes no list of its own.
+fn hold_copy(
+    held: &mut Holdback,
+    stamp: Stamp,
+    caller: u32,
+    serial: u32,
+    command: &Command,
+) -> Result<(), AllocError>
+    requires fit { CanAllBeHeld held.old (in_turn stamp caller serial (command.now ∷ [])) }
+    ensures held { OnOk result (held.new.held ≡ insert_all submitted_at (in_turn stamp caller serial (command.now ∷ [])) held.old.held) }
+    ensures members { held.new.members ≡ held.old.members }
+    ensures held_unchanged { OnErr result (held.new.held ≡ held.old.held) }
+{
+    let command = command.copy()?;
+    let item = Held {
+        stamp,
+        caller,
+        serial,
+        command,
+    };
+    if is_handed_back(held.put(item)) {
+        return Err(AllocError);
+    }
+    Ok(())
+}
+
+// Holds copies of several commands, all or none.
+fn hold_copies(
+    alloc: Global,
+    held: &mut Holdback,
+    stamp: Stamp,
+    caller: u32,
+    serial: u32,
+    commands: &[Command],
+) -> Result<(), AllocError>
+    requires first { stamp.place ≡ 0 }
+    requires batch { is_no_batch serial (length commands.now) ≡ false }
+    requires fit { CanAllBeHeld held.old (in_turn stamp caller serial commands.now) }
+    ensures held { OnOk result (held.new.held ≡ insert_all submitted_at (in_turn stamp caller serial commands.now) held.old.held) }
+    ensures members { held.new.members ≡ held.old.members }
+    ensures held_unchanged { OnErr result (held.new.held ≡ held.old.held) }
+{
+    if commands.len() == 1 {
+        return hold_copy(held, stamp, caller, serial, &commands[0]);
+    }
+    let copies = copied(alloc, stamp, caller, serial, commands)?;
+    if are_handed_back(held.put_all(copies)) {
+        return Err(AllocError);
+    }
+    Ok(())
+}
+
+// Holds copies of the commands of a message, where it has some, and counts them for their caller.
 pub(crate) fn hold(
+    alloc: Global,
     serials: &mut SortedMap<(u32, u32), u64>,
     held: &mut Holdback,
     message: &Message,
 ) -> Result<(), AllocError>
-    requires { AllByRecursion (CanBeHeld held.old) (submissions_of message.now) }
-    ensures counted { OnOk result (serials.new.content ≡ counted (submissions_of message.now) serials.old.content) }
+    requires first { (stamp_of message.now).place ≡ 0 }
+    requires batch { has_bad_batch message.now ≡ false }
+    requires fit { CanAllBeHeld held.old (submissions_of message.now) }
+    ensures counted { OnOk result (serials.new.content ≡ counted message.now serials.old.content) }
     ensures held { OnOk result (held.new.held ≡ insert_all submitted_at (submissions_of message.now) held.old.held) }
     ensures members { held.new.members ≡ held.old.members }
     ensures serials_unchanged { OnErr result (serials.new.content ≡ serials.old.content) }
@@ -41,24 +138,19 @@ pub(crate) fn hold(
     ensures had_a_command { OnErr result (submissions_of message.now ≢ []) }
 {
     match message {
-        Message::Call {
+        Message::Batch {
             stamp,
             caller,
             serial,
-            command,
+            commands,
         } => {
+            let commands = commands.as_slice();
             serials.reserve(1)?;
-            let command = command.copy()?;
-            let item = Held {
-                stamp: *stamp,
-                caller: *caller,
-                serial: *serial,
-                command,
-            };
-            if is_handed_back(held.put(item)) {
-                return Err(AllocError);
-            }
-            serials.put((stamp.member, *caller), u64::from(*serial) + 1);
+            hold_copies(alloc, held, *stamp, *caller, *serial, commands)?;
+            serials.put(
+                (stamp.member, *caller),
+                u64::from(*serial) + commands.len() as u64,
+            );
             Ok(())
         }
         Message::Ack { .. } => Ok(()),

@@ -1,16 +1,40 @@
 //! How a member receives what the others send.
 ghost use Rattle.std.specs.Prelude.{◌≡◌, ◌≢◌, ◌<◌, ◌++◌, true, None, is_some, length, IfOk, IfErr, OnOk, OnErr};
-ghost use Rattle.rbac_words.specs.Message.{has_commands, has_later};
+ghost use Rattle.rbac_words.specs.Message.{has_commands as message_has_commands, has_bad_batch as message_has_bad_batch, has_later};
 ghost use Rattle.rbac_words.specs.Stamp.{has_passed as stamp_has_passed};
 ghost use Rattle.rbac_words.specs.World.{acks};
 
 use crate::member::Member;
-use crate::member::counting::{hold, next_serial};
+use crate::member::counting::{hold, is_bad_batch, next_serial};
 use crate::refusal::ReceiveRefusal;
 use rbac_links::Outbox;
 use rbac_words::limits::LAST_CLOCK;
 use rbac_words::{Message, Stamp};
 use std::alloc::AllocError;
+
+// Whether a message has a command.
+fn has_commands(message: &Message) -> bool
+    ensures { result ≡ message_has_commands message.now }
+{
+    match message {
+        Message::Batch { commands, .. } => !commands.as_slice().is_empty(),
+        Message::Ack { .. } => false,
+    }
+}
+
+// Whether a message has commands that are no batch.
+fn has_bad_batch(message: &Message) -> bool
+    ensures { result ≡ message_has_bad_batch message.now }
+{
+    match message {
+        Message::Batch {
+            serial,
+            commands,
+            ..
+        } => is_bad_batch(*serial, commands.as_slice().len()),
+        Message::Ack { .. } => false,
+    }
+}
 
 // Whether the last stamp, if there is one, comes after this one.
 fn has_passed(last: Option<Stamp>, stamp: Stamp) -> bool
@@ -53,12 +77,12 @@ impl Member {
     ghost use Rattle.rbac_words.specs.World.{must_acknowledge, clock_after, acknowledgement, room_refusal};
     ghost use Rattle.rbac_member.specs.Calls.{receipt_refused, rule_of};
 
-    /// Receives message `number` of member `from`, which is the next one that it has not received: a command is held, and
-    /// acknowledged where nothing was sent after it, and no message of a smaller stamp is taken of that member any more. Answers the
-    /// acknowledgement's stamp.
+    /// Receives message `number` of member `from`, which is the next one that it has not received: its commands are held, all or
+    /// none, and acknowledged where nothing was sent after it, and no message of a smaller stamp is taken of that member any more.
+    /// Answers the acknowledgement's stamp.
     ///
     /// # Errors
-    /// The first that applies: `UnknownMember`, `FromSelf`, `Repeat`, `Gap`, `StampNotRising` of the links; `ClockFull`,
+    /// The first that applies: `UnknownMember`, `FromSelf`, `Repeat`, `Gap`, `StampNotRising` of the links; `BadBatch`; `ClockFull`,
     /// `SentFull`, `BadSerial`; `NoMemory`. The member is as before.
     pub fn receive(
         &mut self,
@@ -70,7 +94,7 @@ impl Member {
         ensures received { OnOk result (self.new ≡ received self.old from message.now) }
         ensures accepted { OnOk result (message_refusal self.old from number message.now ≡ None) }
         ensures first_refusal { IfErr result (λ refusal. message_refusal self.old from number message.now ≡ rule_of (receipt_refused refusal)) }
-        ensures memory_needed { IfErr result (λ refusal. refusal ≡ ReceiveRefusal.NoMemory → has_commands message.now ≡ true) }
+        ensures memory_needed { IfErr result (λ refusal. refusal ≡ ReceiveRefusal.NoMemory → message_has_commands message.now ≡ true) }
         ensures unchanged { OnErr result (self.new ≡ self.old) }
     {
         let clock = self.clock_upon(from, number, message)?;
@@ -93,7 +117,7 @@ impl Member {
     fn must_acknowledge(&self, message: &Message) -> bool
         ensures { result ≡ must_acknowledge (node_of self.now) message.now }
     {
-        matches!(message, Message::Call { .. }) && !self.has_later(message.stamp())
+        has_commands(message) && !self.has_later(message.stamp())
     }
 
     // The stamp of what is sent upon a message that leaves this clock, if it is acknowledged.
@@ -105,6 +129,7 @@ impl Member {
             Some(Stamp {
                 clock,
                 member: self.number,
+                place: 0,
             })
         } else {
             None
@@ -131,12 +156,12 @@ impl Member {
         Ok(seen + steps)
     }
 
-    // Whether the command of a message has its caller's next serial.
+    // Whether the first command of a message has its caller's next serial.
     fn serial_in_turn(&self, message: &Message) -> Result<(), ReceiveRefusal>
         ensures accepted { OnOk result (serial_refusal self.now message.now ≡ None) }
         ensures refused { IfErr result (λ refusal. (serial_refusal self.now message.now ≡ rule_of (receipt_refused refusal)) × (refusal ≢ ReceiveRefusal.NoMemory)) }
     {
-        let Message::Call {
+        let Message::Batch {
             stamp,
             caller,
             serial,
@@ -161,6 +186,9 @@ impl Member {
     {
         // Messages of one member are received in the order in which they were sent (Lamport 1978, "Ordering the Events Totally").
         self.links.check(from, number, message.stamp())?;
+        if has_bad_batch(message) {
+            return Err(ReceiveRefusal::BadBatch);
+        }
         let clock = self.room_for(message)?;
         self.serial_in_turn(message)?;
         Ok(clock)
@@ -179,12 +207,13 @@ impl Member {
         requires clock { clock ≡ clock_after (node_of self.old) message.now }
         requires stamp { stamp ≡ acknowledgement (node_of self.old) message.now }
         ensures received { OnOk result (self.new ≡ received self.old from message.now) }
-        ensures memory_needed { OnErr result (has_commands message.now ≡ true) }
+        ensures memory_needed { OnErr result (message_has_commands message.now ≡ true) }
         ensures unchanged { OnErr result (self.new ≡ self.old) }
     {
         // All memory is taken before anything changes.
         make_room(&mut self.outbox, stamp)?;
-        hold(&mut self.serials, &mut self.held, message)?;
+        let alloc = *self.history.allocator();
+        hold(alloc, &mut self.serials, &mut self.held, message)?;
         let Ok(()) = self.links.accept(from, number, message.stamp()) else {
             unreachable!()
         };

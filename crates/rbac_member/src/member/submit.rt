@@ -1,35 +1,37 @@
 //! How a member sends the commands of its callers.
-ghost use Rattle.std.specs.Prelude.{◌≡◌, ◌+◌, ◌++◌, ◌∷◌, [], None, IfOk, IfErr, OnOk, OnErr};
-ghost use Rattle.std.specs.List.{AllByRecursion};
+ghost use Rattle.std.specs.Prelude.{◌≡◌, ◌+◌, ◌++◌, ◌∷◌, [], false, None, length, IfOk, IfErr, OnOk, OnErr};
 ghost use Rattle.rbac_words.specs.Stamp.{insert_all};
-ghost use Rattle.rbac_words.specs.Message.{submitted_at, submissions_of};
-ghost use Rattle.rbac_holdback.specs.Holdback.{CanBeHeld};
+ghost use Rattle.rbac_words.specs.Message.{submitted_at, submissions_of, stamp_of, has_bad_batch};
+ghost use Rattle.rbac_holdback.specs.Holdback.{CanAllBeHeld};
 ghost use Rattle.rbac_member.specs.Serials.{counted};
 
 use crate::member::Member;
-use crate::member::counting::{hold, next_serial};
+use crate::member::counting::{hold, is_bad_batch, next_serial};
 use crate::refusal::SubmitRefusal;
 use rbac_holdback::Holdback;
 use rbac_links::Outbox;
 use rbac_words::limits::LAST_CLOCK;
-use rbac_words::{Command, Message, Stamp};
+use rbac_words::{Command, Commands, Message, Stamp};
 use sorted_keys::SortedMap;
-use std::alloc::AllocError;
+use std::alloc::{AllocError, Global};
 
 // Drops a message that is not sent, in this one place: a drop of a command is a case for each command.
 fn dropped(_message: Message) -> AllocError {
     AllocError
 }
 
-// Sends a message of the member itself, counts its command, and holds it.
+// Sends a message of the member itself, counts its commands, and holds them.
 fn send(
+    alloc: Global,
     serials: &mut SortedMap<(u32, u32), u64>,
     outbox: &mut Outbox,
     held: &mut Holdback,
     message: Message,
 ) -> Result<(), AllocError>
-    requires { AllByRecursion (CanBeHeld held.old) (submissions_of message) }
-    ensures counted { OnOk result (serials.new.content ≡ counted (submissions_of message) serials.old.content) }
+    requires first { (stamp_of message).place ≡ 0 }
+    requires batch { has_bad_batch message ≡ false }
+    requires fit { CanAllBeHeld held.old (submissions_of message) }
+    ensures counted { OnOk result (serials.new.content ≡ counted message serials.old.content) }
     ensures sent { OnOk result (outbox.new.sent ≡ outbox.old.sent ++ message ∷ []) }
     ensures held { OnOk result (held.new.held ≡ insert_all submitted_at (submissions_of message) held.old.held) }
     ensures limit { outbox.new.limit ≡ outbox.old.limit }
@@ -38,7 +40,7 @@ fn send(
     ensures sent_unchanged { OnErr result (outbox.new.sent ≡ outbox.old.sent) }
     ensures held_unchanged { OnErr result (held.new.held ≡ held.old.held) }
 {
-    if outbox.make_room().is_err() || hold(serials, held, &message).is_err() {
+    if outbox.make_room().is_err() || hold(alloc, serials, held, &message).is_err() {
         return Err(dropped(message));
     }
     let Ok(_) = outbox.push(message) else {
@@ -48,7 +50,7 @@ fn send(
 }
 
 impl Member {
-    ghost use Rattle.rbac_words.specs.Keeping.Member.{submitted, node_of};
+    ghost use Rattle.rbac_words.specs.Keeping.Member.{batch, submitted, node_of};
     ghost use Rattle.rbac_words.specs.World.{stamp, submit_refusal};
     ghost use Rattle.rbac_member.specs.Calls.{submit_refused, rule_of};
 
@@ -63,16 +65,32 @@ impl Member {
         command: Command,
     ) -> Result<Stamp, SubmitRefusal>
         ensures stamp { IfOk result (λ s. s ≡ stamp (self.old.clock + 1) self.old.number) }
-        ensures submitted { OnOk result (self.new ≡ submitted self.old caller serial command) }
-        ensures accepted { OnOk result (submit_refusal self.old.group (node_of self.old) caller serial ≡ None) }
-        ensures first_refusal { IfErr result (λ refusal. submit_refusal self.old.group (node_of self.old) caller serial ≡ rule_of (submit_refused refusal)) }
+        ensures submitted { OnOk result (self.new ≡ submitted self.old caller serial (command ∷ [])) }
+        ensures accepted { OnOk result (submit_refusal self.old.group (node_of self.old) caller serial 1 ≡ None) }
+        ensures first_refusal { IfErr result (λ refusal. submit_refusal self.old.group (node_of self.old) caller serial 1 ≡ rule_of (submit_refused refusal)) }
         ensures unchanged { OnErr result (self.new ≡ self.old) }
     {
-        let next = self.next_stamp(caller, serial)?;
-        match self.send_call(next, caller, serial, command) {
-            Ok(()) => Ok(next),
-            Err(AllocError) => Err(SubmitRefusal::NoMemory),
-        }
+        self.send_batch(caller, serial, Commands::one(command))
+    }
+
+    /// Sends a caller's next commands to all members in one message, and holds them. The first has the serial, the others those after
+    /// it; each is delivered and answered by itself.
+    ///
+    /// # Errors
+    /// The first that applies: `BadBatch`, `ClockFull`, `SentFull`, `BadSerial`, `NoMemory`. The member is as before.
+    pub fn submit_batch(
+        &mut self,
+        caller: u32,
+        serial: u32,
+        commands: Vec<Command>,
+    ) -> Result<Stamp, SubmitRefusal>
+        ensures stamp { IfOk result (λ s. s ≡ stamp (self.old.clock + 1) self.old.number) }
+        ensures submitted { OnOk result (self.new ≡ submitted self.old caller serial commands.items) }
+        ensures accepted { OnOk result (submit_refusal self.old.group (node_of self.old) caller serial (length commands.items) ≡ None) }
+        ensures first_refusal { IfErr result (λ refusal. submit_refusal self.old.group (node_of self.old) caller serial (length commands.items) ≡ rule_of (submit_refused refusal)) }
+        ensures unchanged { OnErr result (self.new ≡ self.old) }
+    {
+        self.send_batch(caller, serial, Commands::of(commands))
     }
 
     /// Submits a copy of a command, which is made only where nothing but memory stands in its way.
@@ -86,28 +104,81 @@ impl Member {
         command: &Command,
     ) -> Result<Stamp, SubmitRefusal>
         ensures stamp { IfOk result (λ s. s ≡ stamp (self.old.clock + 1) self.old.number) }
-        ensures submitted { OnOk result (self.new ≡ submitted self.old caller serial command.now) }
-        ensures accepted { OnOk result (submit_refusal self.old.group (node_of self.old) caller serial ≡ None) }
-        ensures first_refusal { IfErr result (λ refusal. submit_refusal self.old.group (node_of self.old) caller serial ≡ rule_of (submit_refused refusal)) }
+        ensures submitted { OnOk result (self.new ≡ submitted self.old caller serial (command.now ∷ [])) }
+        ensures accepted { OnOk result (submit_refusal self.old.group (node_of self.old) caller serial 1 ≡ None) }
+        ensures first_refusal { IfErr result (λ refusal. submit_refusal self.old.group (node_of self.old) caller serial 1 ≡ rule_of (submit_refused refusal)) }
         ensures unchanged { OnErr result (self.new ≡ self.old) }
     {
-        let next = self.next_stamp(caller, serial)?;
+        let next = self.next_stamp(caller, serial, 1)?;
         let copy = match command.copy() {
             Ok(copy) => copy,
             Err(AllocError) => return Err(SubmitRefusal::NoMemory),
         };
-        match self.send_call(next, caller, serial, copy) {
+        match self.send_next(next, caller, serial, Commands::one(copy)) {
             Ok(()) => Ok(next),
             Err(AllocError) => Err(SubmitRefusal::NoMemory),
         }
     }
 
-    // The stamp of a caller's next command, where nothing stands in its way.
-    fn next_stamp(&self, caller: u32, serial: u32) -> Result<Stamp, SubmitRefusal>
-        ensures stamp { IfOk result (λ s. s ≡ stamp (self.now.clock + 1) self.now.number) }
-        ensures accepted { OnOk result (submit_refusal self.now.group (node_of self.now) caller serial ≡ None) }
-        ensures first_refusal { IfErr result (λ refusal. submit_refusal self.now.group (node_of self.now) caller serial ≡ rule_of (submit_refused refusal)) }
+    /// Submits copies of commands, which are made only where nothing but memory stands in their way.
+    ///
+    /// # Errors
+    /// As `submit_batch`.
+    pub fn submit_batch_copy(
+        &mut self,
+        caller: u32,
+        serial: u32,
+        commands: &Commands,
+    ) -> Result<Stamp, SubmitRefusal>
+        ensures stamp { IfOk result (λ s. s ≡ stamp (self.old.clock + 1) self.old.number) }
+        ensures submitted { OnOk result (self.new ≡ submitted self.old caller serial commands.now) }
+        ensures accepted { OnOk result (submit_refusal self.old.group (node_of self.old) caller serial (length commands.now) ≡ None) }
+        ensures first_refusal { IfErr result (λ refusal. submit_refusal self.old.group (node_of self.old) caller serial (length commands.now) ≡ rule_of (submit_refused refusal)) }
+        ensures unchanged { OnErr result (self.new ≡ self.old) }
     {
+        let next = self.next_stamp(caller, serial, commands.as_slice().len())?;
+        let copy = match commands.copy() {
+            Ok(copy) => copy,
+            Err(AllocError) => return Err(SubmitRefusal::NoMemory),
+        };
+        match self.send_next(next, caller, serial, copy) {
+            Ok(()) => Ok(next),
+            Err(AllocError) => Err(SubmitRefusal::NoMemory),
+        }
+    }
+
+    // Sends a caller's next commands.
+    fn send_batch(
+        &mut self,
+        caller: u32,
+        serial: u32,
+        commands: Commands,
+    ) -> Result<Stamp, SubmitRefusal>
+        ensures stamp { IfOk result (λ s. s ≡ stamp (self.old.clock + 1) self.old.number) }
+        ensures submitted { OnOk result (self.new ≡ submitted self.old caller serial commands) }
+        ensures accepted { OnOk result (submit_refusal self.old.group (node_of self.old) caller serial (length commands) ≡ None) }
+        ensures first_refusal { IfErr result (λ refusal. submit_refusal self.old.group (node_of self.old) caller serial (length commands) ≡ rule_of (submit_refused refusal)) }
+        ensures unchanged { OnErr result (self.new ≡ self.old) }
+    {
+        let next = match self.next_stamp(caller, serial, commands.as_slice().len()) {
+            Ok(next) => next,
+            Err(refusal) => return Err(refusal),
+        };
+        match self.send_next(next, caller, serial, commands) {
+            Ok(()) => Ok(next),
+            Err(AllocError) => Err(SubmitRefusal::NoMemory),
+        }
+    }
+
+    // The stamp of so many next commands of a caller, where nothing stands in their way.
+    fn next_stamp(&self, caller: u32, serial: u32, count: usize) -> Result<Stamp, SubmitRefusal>
+        ensures stamp { IfOk result (λ s. s ≡ stamp (self.now.clock + 1) self.now.number) }
+        ensures accepted { OnOk result (submit_refusal self.now.group (node_of self.now) caller serial count ≡ None) }
+        ensures first_refusal { IfErr result (λ refusal. submit_refusal self.now.group (node_of self.now) caller serial count ≡ rule_of (submit_refused refusal)) }
+    {
+        if is_bad_batch(serial, count) {
+            return Err(SubmitRefusal::BadBatch);
+        }
         // A command is an event of its member, and its stamp is the clock after it (Lamport 1978, "Logical Clocks", rule IR1).
         if LAST_CLOCK <= self.clock {
             return Err(SubmitRefusal::ClockFull);
@@ -124,30 +195,38 @@ impl Member {
         Ok(Stamp {
             clock: self.clock + 1,
             member: self.number,
+            place: 0,
         })
     }
 
-    // Sends a command with the next stamp, which nothing but memory stands in the way of, and holds it.
-    fn send_call(
+    // Sends commands with the next stamp, which nothing but memory stands in the way of, and holds them.
+    fn send_next(
         &mut self,
         next: Stamp,
         caller: u32,
         serial: u32,
-        command: Command,
+        commands: Commands,
     ) -> Result<(), AllocError>
-        requires accepted { submit_refusal self.old.group (node_of self.old) caller serial ≡ None }
+        requires accepted { submit_refusal self.old.group (node_of self.old) caller serial (length commands) ≡ None }
         requires next { next ≡ stamp (self.old.clock + 1) self.old.number }
-        ensures submitted { OnOk result (self.new ≡ submitted self.old caller serial command) }
+        ensures submitted { OnOk result (self.new ≡ submitted self.old caller serial commands) }
         ensures unchanged { OnErr result (self.new ≡ self.old) }
     {
-        let message = Message::Call {
+        let message = Message::Batch {
             stamp: next,
             caller,
             serial,
-            command,
+            commands,
         };
         // It joins the member's own queue too (rule 1).
-        send(&mut self.serials, &mut self.outbox, &mut self.held, message)?;
+        let alloc = *self.history.allocator();
+        send(
+            alloc,
+            &mut self.serials,
+            &mut self.outbox,
+            &mut self.held,
+            message,
+        )?;
         self.clock = next.clock;
         Ok(())
     }

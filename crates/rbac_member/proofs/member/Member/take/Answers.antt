@@ -7,12 +7,25 @@ use Rattle.rbac_words.specs.Keeping.Member.{Member, IsMember, node_of, message_r
 use Rattle.rbac_order.proofs.MemberLemmas.{keeps_received}
 use Rattle.rbac_member.specs.Inside.{member_of}
 use Rattle.rbac_member.specs.Serials.{AreCounted}
-use Rattle.rbac_member.proofs.ReceiveLemmas.{next_is, room_is_free, serial_in_turn}
+use Rattle.rbac_member.proofs.CommandLemmas.{has_any, on_err}
+use Rattle.rbac_member.proofs.ReceiveLemmas.{next_is, batch_is_good, room_is_free, serial_in_turn}
 use Rattle.rbac_member.proofs.HoldLemmas.{message_fits, received_is, counted_received}
 use Rattle.rbac_member.proofs.member.Member.take.Goals as goal
 
-pub hold-requires : goal.hold-requires
-hold-requires c =
+pub hold-requires-clause-first : goal.hold-requires-clause-first
+hold-requires-clause-first c =
+    let v = member_of c.self.inside in
+    let free = ap (λ (m : Member). message_refusal m c.args.from c.args.number c.args.message.now) c.self.view_is ∙ c.requires.accepted in
+    (next_is v c.args.from c.args.number c.args.message.now c.self.invariant.kept free).first
+
+pub hold-requires-clause-batch : goal.hold-requires-clause-batch
+hold-requires-clause-batch c =
+    let v = member_of c.self.inside in
+    let free = ap (λ (m : Member). message_refusal m c.args.from c.args.number c.args.message.now) c.self.view_is ∙ c.requires.accepted in
+    batch_is_good v c.args.from c.args.number c.args.message.now free
+
+pub hold-requires-clause-fit : goal.hold-requires-clause-fit
+hold-requires-clause-fit c =
     let v = member_of c.self.inside in
     let free = ap (λ (m : Member). message_refusal m c.args.from c.args.number c.args.message.now) c.self.view_is ∙ c.requires.accepted in
     message_fits v c.self.inside.held c.args.from c.args.message.now c.self.invariant.members refl c.self.invariant.kept (next_is v c.args.from c.args.number c.args.message.now c.self.invariant.kept free)
@@ -38,3 +51,6 @@ invariant_of-self-2 c =
       members = c.hold.ensures.members ∙ c.self.invariant.members;
       kept = subst IsMember (sym is) (keeps_received v from m c.self.invariant.kept (next_is v from c.args.number m c.self.invariant.kept free) (room_is_free v from c.args.number m free));
     }
+
+pub returns-in_err-hold-clause-memory_needed : goal.returns-in_err-hold-clause-memory_needed
+returns-in_err-hold-clause-memory_needed c = on_err c.from_residual-in_err-hold.result _ (has_any c.args.message.now c.in_err-hold.ensures.had_a_command)
