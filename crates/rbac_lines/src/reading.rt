@@ -9,7 +9,9 @@ mod commands;
 pub(crate) mod fields;
 
 use crate::reading::commands::command_of;
-use crate::reading::fields::{Object, Reading, object_in, objects_in, only_keys, text_in, whole_in};
+use crate::reading::fields::{
+    Object, Reading, object_in, objects_in, only_keys, text_in, whole_in,
+};
 use crate::refusal::LineRefusal;
 pub use client::{kept_line_asks_the_same, read_client};
 use line_engine::LONGEST_LINE;

@@ -61,7 +61,8 @@ fn is_batch_of_two(event: &Event) -> bool {
 
 #[test]
 fn a_batch(rt: HostRuntime) {
-    let line = br#"{"commands":[{"role":"a","name":"AddRole"},{"name":"AddRole","role":"b"}],"serial":6,"caller":5,"at":4,"do":"batch"}"#;
+    let line =
+        br#"{"commands":[{"role":"a","name":"AddRole"},{"name":"AddRole","role":"b"}],"serial":6,"caller":5,"at":4,"do":"batch"}"#;
     let Ok(event) = read_line(rt.alloc(), line) else {
         panic!(rt);
     };

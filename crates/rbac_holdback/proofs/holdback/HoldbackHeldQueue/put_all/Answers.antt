@@ -31,8 +31,8 @@ invariant_of-self c =
     let old = c.self.inside.queues in
     let new = c.make_room_for_all.new.queues in
     let few =
-        within c.self.inside.members old.len new.len c.args.self.now c.args.held.items c.deref.result.now old.items new.items (ap (λ (h : Holdback). h.members) c.self.view_is) c.deref.ensures.value c.requires old.ok.0 new.ok.0
-        c.self.invariant.within c.make_room_for_all.ensures.no_more in
+    within c.self.inside.members old.len new.len c.args.self.now c.args.held.items c.deref.result.now old.items new.items (ap (λ (h : Holdback). h.members) c.self.view_is) c.deref.ensures.value c.requires old.ok.0 new.ok.0
+    c.self.invariant.within c.make_room_for_all.ensures.no_more in
     (nothing_put c.self.inside.members c.self.inside.count c.args.self.now old.items new.items c.self.view_is c.self.invariant c.make_room_for_all.ensures.made few).kept
 
 pub returns-then-is_err-clause-unchanged : goal.returns-then-is_err-clause-unchanged
@@ -40,8 +40,8 @@ returns-then-is_err-clause-unchanged c =
     let old = c.self.inside.queues in
     let new = c.make_room_for_all.new.queues in
     let few =
-        within c.self.inside.members old.len new.len c.args.self.now c.args.held.items c.deref.result.now old.items new.items (ap (λ (h : Holdback). h.members) c.self.view_is) c.deref.ensures.value c.requires old.ok.0 new.ok.0
-        c.self.invariant.within c.make_room_for_all.ensures.no_more in
+    within c.self.inside.members old.len new.len c.args.self.now c.args.held.items c.deref.result.now old.items new.items (ap (λ (h : Holdback). h.members) c.self.view_is) c.deref.ensures.value c.requires old.ok.0 new.ok.0
+    c.self.invariant.within c.make_room_for_all.ensures.no_more in
     (nothing_put c.self.inside.members c.self.inside.count c.args.self.now old.items new.items c.self.view_is c.self.invariant c.make_room_for_all.ensures.made few).held_are
 
 pub invariant_of-self-2 : goal.invariant_of-self-2
@@ -50,8 +50,8 @@ invariant_of-self-2 c =
     let old = c.self.inside.queues in
     let new = c.make_room_for_all.new.queues in
     let few =
-        within c.self.inside.members old.len new.len c.args.self.now held.items c.deref.result.now old.items new.items (ap (λ (h : Holdback). h.members) c.self.view_is) c.deref.ensures.value c.requires old.ok.0 new.ok.0
-        c.self.invariant.within c.make_room_for_all.ensures.no_more in
+    within c.self.inside.members old.len new.len c.args.self.now held.items c.deref.result.now old.items new.items (ap (λ (h : Holdback). h.members) c.self.view_is) c.deref.ensures.value c.requires old.ok.0 new.ok.0
+    c.self.invariant.within c.make_room_for_all.ensures.no_more in
     let room : HaveRoom (length held.items) (rooms_of new.items) held.items = search rules in
     let more : c.in-Some.count ≡ c.self.inside.count + length held.items = search rules in
     let put = all_put c.self.inside.members c.self.inside.count c.args.self.now old.items new.items c.self.view_is c.self.invariant c.make_room_for_all.ensures.made few held.items c.requires room in
@@ -63,8 +63,8 @@ returns-clause-held c =
     let old = c.self.inside.queues in
     let new = c.make_room_for_all.new.queues in
     let few =
-        within c.self.inside.members old.len new.len c.args.self.now held.items c.deref.result.now old.items new.items (ap (λ (h : Holdback). h.members) c.self.view_is) c.deref.ensures.value c.requires old.ok.0 new.ok.0
-        c.self.invariant.within c.make_room_for_all.ensures.no_more in
+    within c.self.inside.members old.len new.len c.args.self.now held.items c.deref.result.now old.items new.items (ap (λ (h : Holdback). h.members) c.self.view_is) c.deref.ensures.value c.requires old.ok.0 new.ok.0
+    c.self.invariant.within c.make_room_for_all.ensures.no_more in
     let room : HaveRoom (length held.items) (rooms_of new.items) held.items = search rules in
     let put = all_put c.self.inside.members c.self.inside.count c.args.self.now old.items new.items c.self.view_is c.self.invariant c.make_room_for_all.ensures.made few held.items c.requires room in
     rw c.put_all_ready.ensures put.held_are
