@@ -1,5 +1,5 @@
 -- What each call of a node keeps.
-use Rattle.std.proofs.Common.{ℕ, Bool, true, false, cond, nat_le, ◌≡◌, ◌<◌, ◌≤◌, ◌-◌, ◌==◌, ◌&&◌, List, length, set, get_or, Option, None, Some, Result, Ok, Err, IfOk, OnOk, OnErr, refl, sym, ap, subst, ◌∙◌, arith}
+use Rattle.std.proofs.Common.{ℕ, Bool, true, false, cond, nat_le, ◌≡◌, ◌<◌, ◌≤◌, ◌-◌, ◌==◌, ◌&&◌, List, [], ◌∷◌, length, set, get_or, Option, None, Some, Result, Ok, Err, IfOk, OnOk, OnErr, refl, sym, ap, subst, ◌∙◌, arith}
 use Rattle.std.specs.List.{slice_get}
 use Rattle.std.proofs.lemmas.Bool.{eqb-true}
 use Rattle.std.proofs.lemmas.List.{get_or_past}
@@ -43,9 +43,9 @@ module _ {G : Type 0} (name : Ghosts G) (i : Inside G) where
 
   module _ (kept : Keeps i.member i.reads.items) where
     pub kept_submitted : {T E : Type 0} (result : Result T E) (old : NodeState) (new : Member) (caller serial : ℕ) (command : Command) → state ≡ old → caller < old.next_caller
-        → OnOk result (new ≡ submitted i.member caller serial command) → OnErr result (new ≡ i.member) → Keeps new i.reads.items
+        → OnOk result (new ≡ submitted i.member caller serial (command ∷ [])) → OnErr result (new ≡ i.member) → Keeps new i.reads.items
     kept_submitted result old new caller serial command is below done refused =
-        on_both result (λ v. Keeps v i.reads.items) i.member new (submitted i.member caller serial command) done refused kept
+        on_both result (λ v. Keeps v i.reads.items) i.member new (submitted i.member caller serial (command ∷ [])) done refused kept
         (record {
           group = kept.group;
           vocabulary = kept.vocabulary;

@@ -4,13 +4,12 @@ use Rattle.std.specs.List.{AllByRecursion as Each, slice_get}
 use Rattle.std.proofs.lemmas.Option.{same_Some}
 use Rattle.rbac_words.specs.Message.{stamp_of, submissions}
 use Rattle.rbac_words.specs.Front.{is_of}
-use Rattle.rbac_words.specs.World.{read_of, stamp, acknowledgement, acks}
+use Rattle.rbac_words.specs.World.{read_of, acknowledgement, acks}
 use Rattle.rbac_words.specs.Play.{IsPrefixOf}
-use Rattle.rbac_words.specs.Keeping.Member.{Member, IsMember, IsNext, node_of, known, submission, submitted, received, due_at, delivery, delivered, deliver_due}
+use Rattle.rbac_words.specs.Keeping.Member.{Member, IsMember, IsNext, node_of, known, batch, submitted, received, due_at, delivery, delivered, deliver_due}
 use Rattle.rbac_words.specs.Keeping.Members.{HasReadOf}
 use Rattle.rbac_terms.specs.declared.command.Command.{Command}
 use Rattle.rbac_words.specs.declared.message.Message.{Message}
-use Rattle.rbac_words.specs.declared.message.Message.TheVariants.{Call}
 use Rattle.rbac_words.specs.declared.message.Submission.{Submission}
 use Rattle.rbac_words.specs.declared.record.Record.{Record}
 use Rattle.rbac_words.specs.declared.stamp.Stamp.{Stamp}
@@ -47,13 +46,13 @@ shown_after n v more more_history s sent history reads callers = record {
 
 -- ---- A submit
 
-pub shown_submitted : (n : NodeState) (caller serial : ℕ) (command : Command) → IsShown n → caller < n.next_caller → IsShown (with_own_member n (submitted n.member caller serial command))
+pub shown_submitted : (n : NodeState) (caller serial : ℕ) (command : Command) → IsShown n → caller < n.next_caller → IsShown (with_own_member n (submitted n.member caller serial (command ∷ [])))
 shown_submitted n caller serial command s below =
     let v : Member = n.member in
-    shown_after n (submitted v caller serial command) (Call (stamp (v.clock + 1) v.number) caller serial command ∷ []) [] s refl (sym (append-nil v.history))
+    shown_after n (submitted v caller serial (command ∷ [])) (batch v caller serial (command ∷ []) ∷ []) [] s refl (sym (append-nil v.history))
     (λ k another. let same : IsAnother v k = record { number = another.number; other = another.other } in
-    stays_read v (submitted v caller serial command) k (seen_of n k) refl refl
-    (of-submitted_other v caller serial command k another.other) (s.reads k same))
+    stays_read v (submitted v caller serial (command ∷ [])) k (seen_of n k) refl refl
+    (of-submitted_other v caller serial (command ∷ []) k another.other) (s.reads k same))
     (below, tt)
 
 -- ---- A delivery

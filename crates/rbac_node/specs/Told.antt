@@ -6,9 +6,10 @@ use Rattle.rbac_node.specs.declared.refusal.ServiceRefusal.{ServiceRefusal}
 use Rattle.rbac_node.specs.declared.refusal.ServiceRefusal.TheVariants as refused
 
 -- a member's reason to refuse a submit, as a pass is told it: a serial that the member does not expect is that of another
--- service's pass
+-- service's pass, and so would be one that is too large
 abbrev pub told : Refusal → ServiceRefusal
 told rule.UnknownMember = refused.Foreign
+told rule.BadBatch = refused.Foreign
 told rule.FromSelf = refused.Foreign
 told rule.NotSent = refused.Foreign
 told (rule.Repeat expected) = refused.Foreign

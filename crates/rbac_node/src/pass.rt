@@ -1,5 +1,5 @@
 //! What a caller holds: its pass, its outstanding ticket, and the answer.
-ghost use Rattle.std.specs.Prelude.{ℕ, List, ◌≡◌, ◌≢◌, ◌≤◌, ◌<◌, ◌+◌, ◌↔◌, ◌⊎◌, true, false, None, Some, [], max, length, IsTrue, IfOk, IfErr, OnOk, OnErr, IfSome, MatchOption};
+ghost use Rattle.std.specs.Prelude.{ℕ, List, ◌≡◌, ◌≢◌, ◌≤◌, ◌<◌, ◌+◌, ◌↔◌, ◌⊎◌, true, false, None, Some, [], ◌∷◌, max, length, IsTrue, IfOk, IfErr, OnOk, OnErr, IfSome, MatchOption};
 ghost use Rattle.rbac_words.specs.Play.{IsPrefixOf};
 ghost use Rattle.rbac_board.specs.Known.{AreOfOneRow, IsOf};
 ghost use Rattle.rbac_node.specs.Cells.{history_cells};
@@ -66,10 +66,10 @@ impl<G: GroupName> Pass<G> {
     ghost use Rattle.rbac_terms.specs.State.{founding_state};
     ghost use Rattle.rbac_words.specs.Front.{IsLegalFront};
     ghost use Rattle.rbac_words.specs.World.{submit_refusal};
-    ghost use Rattle.rbac_words.specs.Keeping.Member.{node_of, submission, submitted};
+    ghost use Rattle.rbac_words.specs.Keeping.Member.{node_of, submitted};
     ghost use Rattle.rbac_node.specs.Node.{with_own_member};
     ghost use Rattle.rbac_node.specs.Told.{if_told};
-    ghost use Rattle.rbac_node.specs.Pass.{PassState, Owns, pass_refusal};
+    ghost use Rattle.rbac_node.specs.Pass.{PassState, Owns, submission, pass_refusal};
 
     /// A pass of this caller of a member, with an empty front of the member's history row. A node alone gives caller numbers.
     pub(crate) fn found(member: u32, caller: u32, row: &Row<Record>) -> Pass<G>
@@ -125,7 +125,7 @@ impl<G: GroupName> Pass<G> {
     pub fn submit(&mut self, node: &mut Node<G>, command: Command) -> Result<Ticket, ServiceRefusal>
         ensures call { IfOk result (λ ticket. ticket.call ≡ submission node.old.member self.old.caller self.old.next command) }
         ensures seen { IfOk result (λ ticket. ticket.seen ≡ length self.old.front) }
-        ensures submitted { OnOk result (node.new ≡ with_own_member node.old (submitted node.old.member self.old.caller self.old.next command)) }
+        ensures submitted { OnOk result (node.new ≡ with_own_member node.old (submitted node.old.member self.old.caller self.old.next (command ∷ []))) }
         ensures pass { OnOk result (self.new ≡ record self.old { next = self.old.next + 1; is_waiting = true }) }
         ensures accepted { OnOk result (pass_refusal node.old self.old ≡ None) }
         ensures first_refusal { IfErr result (λ refusal. (refusal ≢ ServiceRefusal.NoMemory → pass_refusal node.old self.old ≡ Some refusal) × (refusal ≡ ServiceRefusal.NoMemory → pass_refusal node.old self.old ≡ None)) }
@@ -153,7 +153,7 @@ impl<G: GroupName> Pass<G> {
     // Whether the node is not stopped, no ticket is outstanding, and the node gave this caller's number.
     fn may_submit(&self, node: &Node<G>) -> Result<(), ServiceRefusal>
         ensures caller { OnOk result (self.now.caller < node.now.next_caller) }
-        ensures refusal { OnOk result (pass_refusal node.now self.now ≡ if_told (submit_refusal node.now.member.group (node_of node.now.member) self.now.caller self.now.next)) }
+        ensures refusal { OnOk result (pass_refusal node.now self.now ≡ if_told (submit_refusal node.now.member.group (node_of node.now.member) self.now.caller self.now.next 1)) }
         ensures first_refusal { IfErr result (λ refusal. (pass_refusal node.now self.now ≡ Some refusal) × (refusal ≢ ServiceRefusal.NoMemory)) }
         ensures idle { OnOk result (self.now.is_waiting ≡ false) }
         ensures busy { IfErr result (λ refusal. refusal ≡ ServiceRefusal.Busy → self.now.is_waiting ≡ true) }

@@ -70,6 +70,7 @@ impl From<SubmitRefusal> for ServiceRefusal {
 
     fn from(refusal: SubmitRefusal) -> ServiceRefusal {
         match refusal {
+            SubmitRefusal::BadBatch => ServiceRefusal::Foreign,
             SubmitRefusal::ClockFull => ServiceRefusal::ClockFull,
             SubmitRefusal::SentFull => ServiceRefusal::SentFull,
             SubmitRefusal::BadSerial { .. } => ServiceRefusal::Foreign,

@@ -1,5 +1,5 @@
 //! Commands of a node's callers, and their delivery.
-ghost use Rattle.std.specs.Prelude.{ℕ, ◌≡◌, ◌<◌, ◌+◌, true, false, None, is_some, IfOk, IfErr, OnOk, OnErr};
+ghost use Rattle.std.specs.Prelude.{ℕ, ◌≡◌, ◌<◌, ◌+◌, ◌∷◌, [], true, false, None, is_some, IfOk, IfErr, OnOk, OnErr};
 
 use crate::group_name::GroupName;
 use crate::node::Node;
@@ -25,9 +25,9 @@ impl<G: GroupName> Node<G> {
     ) -> Result<Stamp, SubmitRefusal>
         requires { caller < self.old.next_caller }
         ensures stamp { IfOk result (λ s. s ≡ stamp (self.old.member.clock + 1) self.old.member.number) }
-        ensures submitted { OnOk result (self.new ≡ with_own_member self.old (submitted self.old.member caller serial command)) }
-        ensures accepted { OnOk result (submit_refusal self.old.member.group (node_of self.old.member) caller serial ≡ None) }
-        ensures first_refusal { IfErr result (λ refusal. submit_refusal self.old.member.group (node_of self.old.member) caller serial ≡ rule_of (submit_refused refusal)) }
+        ensures submitted { OnOk result (self.new ≡ with_own_member self.old (submitted self.old.member caller serial (command ∷ []))) }
+        ensures accepted { OnOk result (submit_refusal self.old.member.group (node_of self.old.member) caller serial 1 ≡ None) }
+        ensures first_refusal { IfErr result (λ refusal. submit_refusal self.old.member.group (node_of self.old.member) caller serial 1 ≡ rule_of (submit_refused refusal)) }
         ensures unchanged { OnErr result (self.new ≡ self.old) }
     {
         self.member.submit(caller, serial, command)
@@ -46,9 +46,9 @@ impl<G: GroupName> Node<G> {
     ) -> Result<Stamp, SubmitRefusal>
         requires { caller < self.old.next_caller }
         ensures stamp { IfOk result (λ s. s ≡ stamp (self.old.member.clock + 1) self.old.member.number) }
-        ensures submitted { OnOk result (self.new ≡ with_own_member self.old (submitted self.old.member caller serial command.now)) }
-        ensures accepted { OnOk result (submit_refusal self.old.member.group (node_of self.old.member) caller serial ≡ None) }
-        ensures first_refusal { IfErr result (λ refusal. submit_refusal self.old.member.group (node_of self.old.member) caller serial ≡ rule_of (submit_refused refusal)) }
+        ensures submitted { OnOk result (self.new ≡ with_own_member self.old (submitted self.old.member caller serial (command.now ∷ []))) }
+        ensures accepted { OnOk result (submit_refusal self.old.member.group (node_of self.old.member) caller serial 1 ≡ None) }
+        ensures first_refusal { IfErr result (λ refusal. submit_refusal self.old.member.group (node_of self.old.member) caller serial 1 ≡ rule_of (submit_refused refusal)) }
         ensures unchanged { OnErr result (self.new ≡ self.old) }
     {
         self.member.submit_copy(caller, serial, command)
