@@ -480,10 +480,7 @@ pub(crate) fn expect_no_record<G: GroupName, K: Gate + Drop, C: Courier + Drop>(
 // A record that no member made.
 fn forged(rt: &impl Abort, alloc: Global) -> Record {
     Record {
-        stamp: Stamp {
-            clock: 1,
-            member: 1,
-        },
+        stamp: Stamp::at(1, 1),
         caller: 0,
         serial: 0,
         command: add_ann(rt, alloc),

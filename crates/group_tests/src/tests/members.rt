@@ -3,7 +3,7 @@
 
 use crate::tests::stamps::stamp;
 use rbac_member::{FoundRefusal, Member, ReceiveRefusal, SubmitRefusal};
-use rbac_words::{Answer, Command, Denial, Group, Message, Name, Stamp, Vocabulary};
+use rbac_words::{Answer, Command, Commands, Denial, Group, Message, Name, Stamp, Vocabulary};
 use std::alloc::Global;
 use std::process::Abort;
 
@@ -15,12 +15,44 @@ fn add_user(rt: &impl Abort, alloc: Global) -> Command {
 
 // A command of caller 0 as another member sends it.
 fn call(rt: &impl Abort, alloc: Global, stamp: Stamp, serial: u32) -> Message {
-    Message::Call {
+    Message::Batch {
         stamp,
         caller: 0,
         serial,
-        command: add_user(rt, alloc),
+        commands: Commands::one(add_user(rt, alloc)),
     }
+}
+
+// So many times ann.
+fn users(rt: &impl Abort, alloc: Global, count: usize) -> Vec<Command> {
+    let mut commands = Vec::new(alloc);
+    for _ in 0..count {
+        let pushed = commands.push(add_user(rt, alloc));
+        assert!(rt; pushed.is_ok());
+    }
+    commands
+}
+
+// Commands of caller 0 as another member sends them together.
+fn batch(rt: &impl Abort, alloc: Global, stamp: Stamp, serial: u32, count: usize) -> Message {
+    Message::Batch {
+        stamp,
+        caller: 0,
+        serial,
+        commands: Commands::of(users(rt, alloc, count)),
+    }
+}
+
+// Submits so many commands of caller 0 together, and compares the answer.
+fn expect_batch(
+    rt: &impl Abort,
+    alloc: Global,
+    member: &mut Member,
+    (serial, count): (u32, usize),
+    wanted: Result<Stamp, SubmitRefusal>,
+) {
+    let answer = member.submit_batch(0, serial, users(rt, alloc, count));
+    assert_eq!(rt; answer, wanted);
 }
 
 // Member 1 of a group of so many, whose clock starts here and which may send so much.
@@ -290,4 +322,103 @@ fn delivers_in_stamp_order_when_all_have_passed(rt: HostRuntime) {
     expect_record(&rt, &member, 0, stamp(1, 1), Answer::Done);
     expect_record(&rt, &member, 1, stamp(1, 2), denied);
     drop(member);
+}
+
+#[test]
+fn submits_a_batch(rt: HostRuntime) {
+    let alloc = rt.alloc();
+    let mut member = first_of(&rt, alloc, 1, 0, 5);
+    expect_batch(&rt, alloc, &mut member, (0, 3), Ok(stamp(1, 1)));
+    expect_submit(&rt, alloc, &mut member, 3, Ok(stamp(2, 1)));
+    assert_eq!(rt; (member.clock(), member.sent().len()), (2, 2));
+    for place in [Some(0), Some(1), Some(2), Some(3), None] {
+        expect_delivery(&rt, alloc, &mut member, place);
+    }
+    expect_record(&rt, &member, 0, stamp(1, 1), Answer::Done);
+    let exists = Answer::Denied(Denial::UserExists);
+    let third = Stamp {
+        clock: 1,
+        member: 1,
+        place: 2,
+    };
+    expect_record(&rt, &member, 2, third, exists);
+    drop(member);
+}
+
+// Each is refused by the next check too.
+#[test]
+fn refuses_what_is_no_batch(rt: HostRuntime) {
+    let alloc = rt.alloc();
+    let mut full = first_of(&rt, alloc, 1, 9_007_199_254_740_991, 1);
+    let bad = Err(SubmitRefusal::BadBatch);
+    expect_batch(&rt, alloc, &mut full, (9, 0), bad);
+    expect_batch(&rt, alloc, &mut full, (9, 65), bad);
+    expect_batch(&rt, alloc, &mut full, (4_294_967_295, 2), bad);
+    let late = Err(SubmitRefusal::ClockFull);
+    expect_batch(&rt, alloc, &mut full, (4_294_967_295, 1), late);
+    expect_batch(&rt, alloc, &mut full, (9, 64), late);
+    drop(full);
+}
+
+#[test]
+fn submits_copies_of_a_batch(rt: HostRuntime) {
+    let alloc = rt.alloc();
+    let mut member = first_of(&rt, alloc, 1, 0, 5);
+    let commands = Commands::of(users(&rt, alloc, 2));
+    let first = member.submit_batch_copy(0, 0, &commands);
+    let again = member.submit_batch_copy(0, 1, &commands);
+    drop(commands);
+    assert_eq!(rt; first, Ok(stamp(1, 1)));
+    assert_eq!(rt; again, Err(SubmitRefusal::BadSerial { next: 2 }));
+    drop(member);
+}
+
+#[test]
+fn receives_a_batch_whole(rt: HostRuntime) {
+    let alloc = rt.alloc();
+    let mut member = first_of(&rt, alloc, 2, 0, 5);
+    let three = batch(&rt, alloc, stamp(4, 2), 0, 3);
+    expect_receipt(&rt, &mut member, 2, 1, three, Ok(Some(stamp(6, 1))));
+    expect_ack(&rt, &mut member, 2, stamp(7, 2), Ok(None));
+    for place in [Some(0), Some(1), Some(2), None] {
+        expect_delivery(&rt, alloc, &mut member, place);
+    }
+    drop(member);
+}
+
+// A message of member 2 is refused so, by a member whose clock is full and that has read nothing.
+fn expect_refused_receipt(
+    rt: &impl Abort,
+    alloc: Global,
+    number: u32,
+    message: Message,
+    refusal: ReceiveRefusal,
+) {
+    let mut full = first_of(rt, alloc, 2, 9_007_199_254_740_991, 5);
+    expect_receipt(rt, &mut full, 2, number, message, Err(refusal));
+    drop(full);
+}
+
+// Each is refused by the next check too.
+#[test]
+fn receives_nothing_that_is_no_batch(rt: HostRuntime) {
+    let alloc = rt.alloc();
+    let gap = ReceiveRefusal::Gap { expected: 1 };
+    let none = batch(&rt, alloc, stamp(4, 2), 9, 0);
+    expect_refused_receipt(&rt, alloc, 2, none, gap);
+    let foreign = batch(&rt, alloc, stamp(4, 3), 9, 65);
+    expect_refused_receipt(&rt, alloc, 1, foreign, ReceiveRefusal::StampNotRising);
+    let placed = Stamp {
+        clock: 4,
+        member: 2,
+        place: 1,
+    };
+    let later = batch(&rt, alloc, placed, 9, 65);
+    expect_refused_receipt(&rt, alloc, 1, later, ReceiveRefusal::StampNotRising);
+    for (serial, count) in [(9, 0), (9, 65), (4_294_967_295, 2)] {
+        let bad = batch(&rt, alloc, stamp(4, 2), serial, count);
+        expect_refused_receipt(&rt, alloc, 1, bad, ReceiveRefusal::BadBatch);
+    }
+    let late = batch(&rt, alloc, stamp(4, 2), 9, 64);
+    expect_refused_receipt(&rt, alloc, 1, late, ReceiveRefusal::ClockFull);
 }

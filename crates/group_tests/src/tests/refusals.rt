@@ -24,7 +24,10 @@ const REPEAT: &str = "the message was received before: expected message 3";
 
 const GAP: &str = "a message before this one is missing: expected message 18446744073709551615";
 
-const RISING: &str = "the stamp is not of the sender, or not above the last one taken from it";
+const RISING: &str =
+    "the stamp is none of a message of the sender, or not above the last one taken from it";
+
+const BATCH: &str = "a message has 1 to 64 commands, with serials up to 4294967295";
 
 const CLOCK: &str = "the member's clock is at its limit";
 
@@ -55,6 +58,7 @@ fn refusals_of_an_event(rt: HostRuntime) {
     let next = 4_294_967_295;
     for (refusal, text) in [
         (Refusal::UnknownMember, MEMBER),
+        (Refusal::BadBatch, BATCH),
         (Refusal::FromSelf, FROM_SELF),
         (
             Refusal::NotSent,
@@ -93,6 +97,7 @@ fn refusals_of_a_member(rt: HostRuntime) {
     expect_text(&rt, FoundRefusal::UnknownMember, MEMBER);
     let next = 4_294_967_295;
     for (refusal, text) in [
+        (SubmitRefusal::BadBatch, BATCH),
         (SubmitRefusal::ClockFull, CLOCK),
         (SubmitRefusal::SentFull, SENT),
         (SubmitRefusal::BadSerial { next }, SERIAL),
@@ -112,6 +117,7 @@ fn refusals_of_a_receipt(rt: HostRuntime) {
         (ReceiveRefusal::Repeat { expected: 3 }, REPEAT),
         (ReceiveRefusal::Gap { expected }, GAP),
         (ReceiveRefusal::StampNotRising, RISING),
+        (ReceiveRefusal::BadBatch, BATCH),
         (ReceiveRefusal::ClockFull, CLOCK),
         (ReceiveRefusal::SentFull, SENT),
         (ReceiveRefusal::BadSerial { next }, SERIAL),
@@ -177,7 +183,7 @@ fn refusals_of_a_founding_file(rt: HostRuntime) {
         (FoundingRefusal::NotToml, "the file is no TOML text"),
         (
             FoundingRefusal::BadVersion,
-            "`version` is not there, or is not the whole number 1",
+            "`version` is not there, or is not the whole number 1 or 2",
         ),
         (
             FoundingRefusal::UnknownKey,
@@ -185,15 +191,15 @@ fn refusals_of_a_founding_file(rt: HostRuntime) {
         ),
         (
             FoundingRefusal::MissingKey,
-            "`members`, `operations`, `objects` or `permissions` is not there",
+            "`members`, `operations`, `objects`, `permissions` or, in version 2, `hierarchy` is not there",
         ),
         (
             FoundingRefusal::WrongKind,
-            "a value is not of its kind: a whole number, an array of texts, or an array of pairs of texts",
+            "a value is not of its kind: a whole number, a text, an array of texts, or an array of pairs of texts",
         ),
         (
             FoundingRefusal::OutOfRange,
-            "a number is outside its range, or a list has too many entries",
+            "a number is outside its range, a list has too many entries, or `hierarchy` is neither `general` nor `limited`",
         ),
         (FoundingRefusal::BadName, "a text is no name"),
         (
@@ -223,7 +229,7 @@ fn refusals_of_a_line(rt: HostRuntime) {
         (LineRefusal::MissingField, "a field is not there"),
         (
             LineRefusal::WrongKind,
-            "a field is not of its kind: a whole number up to 4294967295, a text, an array of texts or an object",
+            "a field is not of its kind: a whole number up to 4294967295, a text, an array of texts, an object or an array of objects",
         ),
         (LineRefusal::BadName, "a text is no name"),
         (

@@ -7,5 +7,5 @@ use rbac_words::Stamp;
 pub(crate) fn stamp(clock: u64, member: u32) -> Stamp
     ensures { result ≡ stamp_of clock member }
 {
-    Stamp { clock, member }
+    Stamp::at(clock, member)
 }

@@ -3,7 +3,9 @@
 //! case for each variant.
 
 use crate::tests::stamps::stamp;
-use rbac_words::{Answer, Command, Denial, Group, GroupRefusal, Message, Name, Record, Review};
+use rbac_words::{
+    Answer, Command, Commands, Denial, Group, GroupRefusal, Message, Name, Record, Review, Stamp,
+};
 use sorted_keys::Same;
 use std::alloc::Global;
 use std::process::Abort;
@@ -124,15 +126,20 @@ fn a_record_is_copied(rt: HostRuntime) {
     expect_record_copied(&rt, record);
 }
 
-// Whether a message is a grant of this stamp, caller 3 and serial 4.
+// Whether there are commands, and each is the grant.
+fn are_grants(commands: &[Command]) -> bool {
+    !commands.is_empty() && commands.iter().all(|command| is_grant(command))
+}
+
+// Whether a message has grants alone, with this stamp, caller 3 and serial 4.
 fn is_call(message: &Message) -> bool {
     match message {
-        Message::Call {
+        Message::Batch {
             stamp: sent,
             caller: 3,
             serial: 4,
-            command,
-        } => *sent == stamp(7, 2) && is_grant(command),
+            commands,
+        } => *sent == stamp(7, 2) && are_grants(commands.as_slice()),
         _ => false,
     }
 }
@@ -147,11 +154,46 @@ fn expect_message_copied(rt: &impl Abort, message: Message) {
 
 #[test]
 fn a_message_is_copied(rt: HostRuntime) {
-    let message = Message::Call {
+    let message = Message::Batch {
         stamp: stamp(7, 2),
         caller: 3,
         serial: 4,
-        command: grant(&rt, rt.alloc()),
+        commands: Commands::one(grant(&rt, rt.alloc())),
     };
     expect_message_copied(&rt, message);
+}
+
+#[test]
+fn a_message_of_several_commands_is_copied(rt: HostRuntime) {
+    let mut commands = Vec::new(rt.alloc());
+    for _ in 0..3 {
+        let pushed = commands.push(grant(&rt, rt.alloc()));
+        assert!(rt; pushed.is_ok());
+    }
+    let message = Message::Batch {
+        stamp: stamp(7, 2),
+        caller: 3,
+        serial: 4,
+        commands: Commands::of(commands),
+    };
+    expect_message_copied(&rt, message);
+}
+
+#[test]
+fn stamps_are_ordered_by_the_place_last(rt: HostRuntime) {
+    let second = Stamp {
+        clock: 7,
+        member: 2,
+        place: 1,
+    };
+    for (first, later) in [
+        (stamp(7, 2), second),
+        (stamp(7, 1), stamp(7, 2)),
+        (second, stamp(7, 3)),
+        (second, stamp(8, 1)),
+    ] {
+        assert!(rt; first.is_before(later) && !later.is_before(first));
+        assert!(rt; first < later && first != later);
+    }
+    assert!(rt; !second.is_before(second));
 }

@@ -100,10 +100,7 @@ fn published_records_are_those_of_their_member_and_place(rt: HostRuntime) {
 // A record that no member made.
 fn forged(rt: &impl Abort, alloc: Global) -> Record {
     Record {
-        stamp: Stamp {
-            clock: 7,
-            member: 1,
-        },
+        stamp: Stamp::at(7, 1),
         caller: 0,
         serial: 0,
         command: add_ann(rt, alloc),
@@ -123,10 +120,7 @@ fn spoil_history(rt: &impl Abort, alloc: Global, rows: &Rows) {
 // Sets the first cell of member 1's sent row.
 fn spoil_sent(rt: &impl Abort, alloc: Global, rows: &Rows) {
     assert!(rt; 1 <= rows.members());
-    let stamp = Stamp {
-        clock: 7,
-        member: 1,
-    };
+    let stamp = Stamp::at(7, 1);
     let message = Box::new(alloc, Message::Ack { stamp }).expect(rt, "memory");
     let row = rows.sent(1);
     let set = row.set(&mut row.mark(), 0, message);

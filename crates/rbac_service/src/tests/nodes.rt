@@ -10,7 +10,7 @@ use std::marker::Brand;
 use std::process::Abort;
 
 fn stamp(clock: u64, member: u32) -> Stamp {
-    Stamp { clock, member }
+    Stamp::at(clock, member)
 }
 
 // The node of a member of the founding that G names.
