@@ -9,9 +9,27 @@ use crate::limits;
 use fields::Fields;
 
 pub enum Event {
-    Submit { at: u32, caller: u32, serial: u32, command: Command },
-    Receive { at: u32, from: u32, number: u32 },
-    Deliver { at: u32 },
+    Submit {
+        at: u32,
+        caller: u32,
+        serial: u32,
+        command: Command,
+    },
+    /// Commands of one caller in one message. The serial is that of the first.
+    Batch {
+        at: u32,
+        caller: u32,
+        serial: u32,
+        commands: Vec<Command>,
+    },
+    Receive {
+        at: u32,
+        from: u32,
+        number: u32,
+    },
+    Deliver {
+        at: u32,
+    },
 }
 
 #[derive(Clone, Copy, Debug, PartialEq, Eq)]
@@ -46,7 +64,7 @@ pub fn read_client(line: &[u8]) -> Result<(u32, Command), LineRefusal> {
     Ok((at, commands::read_command(command)?))
 }
 
-/// Reads a line of a schedule. The outer object is looked at whole before the command in it.
+/// Reads a line of a schedule. The outer object is looked at whole before the commands in it.
 pub fn read_line(line: &[u8]) -> Result<Event, LineRefusal> {
     let object = read_object(line)?;
     let mut fields = Fields::new(&object);
@@ -56,6 +74,13 @@ pub fn read_line(line: &[u8]) -> Result<Event, LineRefusal> {
             let command = fields.object("command")?;
             fields.end()?;
             Ok(Event::Submit { at, caller, serial, command: commands::read_command(command)? })
+        }
+        "batch" => {
+            let (at, caller, serial) = (fields.number("at")?, fields.number("caller")?, fields.number("serial")?);
+            let commands = fields.objects("commands")?;
+            fields.end()?;
+            let commands = commands.into_iter().map(commands::read_command).collect::<Result<_, _>>()?;
+            Ok(Event::Batch { at, caller, serial, commands })
         }
         "receive" => {
             let (at, from, number) = (fields.number("at")?, fields.number("from")?, fields.number("number")?);

@@ -18,3 +18,6 @@ pub const CLOCK: u64 = 9_007_199_254_740_991;
 pub const SENT: u32 = 65_536;
 
 pub const MEMBERS: u32 = 8;
+
+/// Commands of one message.
+pub const BATCH: usize = 64;

@@ -4,6 +4,7 @@ use crate::answer::{Answer, Denial};
 use crate::event::LineRefusal;
 use crate::name::Name;
 use crate::world::{EventRefusal, Outcome, Record, Stamp};
+use std::fmt;
 use std::io::Write;
 
 /// Writing into a vector cannot fail.
@@ -16,16 +17,24 @@ macro_rules! put {
 /// The line for what became of an event.
 pub fn write_outcome(text: &mut Vec<u8>, line: u64, outcome: &Outcome) {
     match outcome {
-        Outcome::Submitted(Stamp { clock, member }) => put!(text, "{{\"line\":{line},\"stamp\":[{clock},{member}]}}\n"),
+        Outcome::Submitted(stamp) => put!(text, "{{\"line\":{line},\"stamp\":{stamp}}}\n"),
         Outcome::Received(None) => put!(text, "{{\"acknowledged\":null,\"line\":{line}}}\n"),
-        Outcome::Received(Some(Stamp { clock, member })) => {
-            put!(text, "{{\"acknowledged\":[{clock},{member}],\"line\":{line}}}\n");
-        }
+        Outcome::Received(Some(stamp)) => put!(text, "{{\"acknowledged\":{stamp},\"line\":{line}}}\n"),
         Outcome::Delivered(None) => put!(text, "{{\"answer\":null,\"line\":{line}}}\n"),
-        Outcome::Delivered(Some(Record { stamp: Stamp { clock, member }, caller, serial, answer })) => {
+        Outcome::Delivered(Some(Record { stamp, caller, serial, answer })) => {
             text.extend_from_slice(b"{\"answer\":");
             write_answer(text, answer);
-            put!(text, ",\"caller\":{caller},\"line\":{line},\"serial\":{serial},\"stamp\":[{clock},{member}]}}\n");
+            put!(text, ",\"caller\":{caller},\"line\":{line},\"serial\":{serial},\"stamp\":{stamp}}}\n");
+        }
+    }
+}
+
+/// A place is written where it is not 0.
+impl fmt::Display for Stamp {
+    fn fmt(&self, formatter: &mut fmt::Formatter) -> fmt::Result {
+        match self {
+            Stamp { clock, member, place: 0 } => write!(formatter, "[{clock},{member}]"),
+            Stamp { clock, member, place } => write!(formatter, "[{clock},{member},{place}]"),
         }
     }
 }

@@ -6,15 +6,18 @@ use crate::answer::Answer;
 use crate::command::Command;
 use crate::event::Event;
 use crate::founding::Founding;
+use crate::limits;
 use crate::policy::Policy;
 use member::{Limits, Member};
 use std::rc::Rc;
 
-/// A clock and the number of the member that it is of. The smaller clock comes first, and of equal clocks the smaller number.
+/// A clock, the number of the member that it is of, and a command's place in its message. The smaller clock comes first, of equal
+/// clocks the smaller number, and then the smaller place. A message's own stamp has the place 0.
 #[derive(Clone, Copy, Debug, PartialEq, Eq, PartialOrd, Ord)]
 pub struct Stamp {
     pub clock: u64,
     pub member: u32,
+    pub place: u32,
 }
 
 pub enum Outcome {
@@ -35,6 +38,7 @@ pub struct Record {
 #[derive(Clone, Copy, Debug, PartialEq, Eq)]
 pub enum EventRefusal {
     UnknownMember,
+    BadBatch,
     FromSelf,
     NotSent,
     Repeat { expected: u32 },
@@ -44,18 +48,32 @@ pub enum EventRefusal {
     BadSerial { next: u32 },
 }
 
-/// What a member sends to all others. Without a call it is an acknowledgement.
+/// What a member sends to all others. Without a batch it is an acknowledgement.
 #[derive(Clone)]
 struct Message {
     stamp: Stamp,
-    call: Option<Rc<Call>>,
+    batch: Option<Rc<Batch>>,
 }
 
-/// A command as it was submitted.
-struct Call {
+/// Commands of one caller as they were submitted. The serial is that of the first, and each other one has the next.
+struct Batch {
     caller: u32,
     serial: u32,
-    command: Command,
+    commands: Vec<Command>,
+}
+
+impl Batch {
+    fn of_one(caller: u32, serial: u32, command: Command) -> Batch {
+        Batch { caller, serial, commands: vec![command] }
+    }
+
+    /// Whether it has as many commands as a message may have, and a serial for each of them.
+    fn is_good(&self) -> bool {
+        let Some(last) = self.commands.len().checked_sub(1).filter(|last| *last < limits::BATCH) else {
+            return false;
+        };
+        self.serial.checked_add(last as u32).is_some()
+    }
 }
 
 pub struct World {
@@ -77,8 +95,10 @@ impl World {
     pub fn step(&mut self, event: Event) -> Result<Outcome, EventRefusal> {
         match event {
             Event::Submit { at, caller, serial, command } => {
-                let at = self.place(at)?;
-                self.members[at].submit(Call { caller, serial, command }).map(Outcome::Submitted)
+                self.submit(at, Batch::of_one(caller, serial, command)).map(Outcome::Submitted)
+            }
+            Event::Batch { at, caller, serial, commands } => {
+                self.submit(at, Batch { caller, serial, commands }).map(Outcome::Submitted)
             }
             Event::Receive { at, from, number } => self.receive(at, from, number).map(Outcome::Received),
             Event::Deliver { at } => {
@@ -91,8 +111,7 @@ impl World {
     /// The answer of one member to a caller's next command: it is submitted, and then each member takes all messages and delivers
     /// all that it can. Each member has to take each message, so no clock is near its end.
     pub fn answer(&mut self, at: u32, serial: u32, command: Command) -> Result<Answer, EventRefusal> {
-        let place = self.place(at)?;
-        let stamp = self.members[place].submit(Call { caller: 0, serial, command })?;
+        let stamp = self.submit(at, Batch::of_one(0, serial, command))?;
         let mut answer = None;
         let mut moves = true;
         while moves {
@@ -124,6 +143,11 @@ impl World {
             }
         }
         Ok(moves)
+    }
+
+    fn submit(&mut self, at: u32, batch: Batch) -> Result<Stamp, EventRefusal> {
+        let at = self.place(at)?;
+        if batch.is_good() { self.members[at].submit(batch) } else { Err(EventRefusal::BadBatch) }
     }
 
     fn receive(&mut self, at: u32, from: u32, number: u32) -> Result<Option<Stamp>, EventRefusal> {

@@ -1,42 +1,12 @@
 //! Groups of members: which messages are taken, and when a command is delivered.
 
+mod grouping;
 mod playing;
 
-use playing::played;
-
-/// A founding without a vocabulary.
-fn founding(members: u32, more: &str) -> String {
-    format!("version = 1\nmembers = {members}\n{more}\noperations = []\nobjects = []\npermissions = []\n")
-}
+use grouping::{check, deliver, founding, played_lines, receive, submit};
 
 fn add_user(at: u32, caller: u32, serial: u32, user: &str) -> String {
-    let command = format!(r#"{{"name":"AddUser","user":"{user}"}}"#);
-    format!(r#"{{"do":"submit","at":{at},"caller":{caller},"serial":{serial},"command":{command}}}"#)
-}
-
-fn receive(at: u32, from: u32, number: u32) -> String {
-    format!(r#"{{"do":"receive","at":{at},"from":{from},"number":{number}}}"#)
-}
-
-fn deliver(at: u32) -> String {
-    format!(r#"{{"do":"deliver","at":{at}}}"#)
-}
-
-fn played_lines(founding: &str, lines: &[String]) -> Vec<String> {
-    let input = lines.iter().map(|line| format!("{line}\n")).collect();
-    played(founding, input).lines().map(str::to_owned).collect()
-}
-
-/// Plays the lines and compares each answer, which is wanted without the number of its line.
-fn check(founding: &str, rows: &[(String, &str)]) {
-    let lines: Vec<String> = rows.iter().map(|(line, _)| line.clone()).collect();
-    let answers = played_lines(founding, &lines);
-    assert_eq!(answers.len(), rows.len());
-    for (place, ((line, wanted), answer)) in rows.iter().zip(&answers).enumerate() {
-        let number = format!("\"line\":{}", place + 1);
-        let answer = answer.replace(&format!(",{number}"), "").replace(&format!("{number},"), "");
-        assert_eq!(&answer, wanted, "{number}: {line}");
-    }
+    submit(at, caller, serial, &grouping::add_user(user))
 }
 
 const NOTHING: &str = r#"{"answer":null}"#;

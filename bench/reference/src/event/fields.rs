@@ -37,8 +37,13 @@ impl<'a> Fields<'a> {
     }
 
     pub fn object(&mut self, key: &'static str) -> Result<&'a Object<'a>, LineRefusal> {
+        object(self.value(key)?)
+    }
+
+    /// An array of objects, of any length.
+    pub fn objects(&mut self, key: &'static str) -> Result<Vec<&'a Object<'a>>, LineRefusal> {
         match self.value(key)? {
-            Value::Object(object) => Ok(object),
+            Value::List(items) => items.iter().map(object).collect(),
             _ => Err(LineRefusal::WrongKind),
         }
     }
@@ -63,5 +68,12 @@ impl<'a> Fields<'a> {
     pub fn end(&self) -> Result<(), LineRefusal> {
         let is_known = |key: &str| self.taken.contains(&key);
         if self.object.iter().all(|(key, _)| is_known(key)) { Ok(()) } else { Err(LineRefusal::ExtraField) }
+    }
+}
+
+fn object<'a>(value: &'a Value<'a>) -> Result<&'a Object<'a>, LineRefusal> {
+    match value {
+        Value::Object(object) => Ok(object),
+        _ => Err(LineRefusal::WrongKind),
     }
 }

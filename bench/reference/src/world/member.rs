@@ -1,6 +1,6 @@
 //! One member: its clock, what it sent and has taken of the others, the commands that it holds, and its policy.
 
-use super::{Call, EventRefusal, Message, Record, Stamp};
+use super::{Batch, EventRefusal, Message, Record, Stamp};
 use crate::limits;
 use crate::policy::Policy;
 use std::collections::{BTreeMap, HashMap};
@@ -17,7 +17,8 @@ pub struct Member {
     /// Of those who submit here.
     next_serials: HashMap<u32, u32>,
     /// Commands that are known and not delivered, its own ones among them.
-    held: BTreeMap<Stamp, Rc<Call>>,
+    /// A stamp's place tells which command of the batch it is of.
+    held: BTreeMap<Stamp, Rc<Batch>>,
     policy: Policy,
 }
 
@@ -58,25 +59,31 @@ impl Member {
         self.links[from as usize - 1].taken
     }
 
-    /// Sends a command that is submitted here, and holds it.
-    pub fn submit(&mut self, call: Call) -> Result<Stamp, EventRefusal> {
+    /// Sends a batch that is submitted here, and holds its commands. It is one message, and one step of the clock.
+    pub fn submit(&mut self, batch: Batch) -> Result<Stamp, EventRefusal> {
         self.require_clock(self.clock + 1)?;
         self.require_room()?;
-        let next = self.next_serials.entry(call.caller).or_default();
-        if call.serial != *next {
+        let next = self.next_serials.entry(batch.caller).or_default();
+        if batch.serial != *next {
             return Err(EventRefusal::BadSerial { next: *next });
         }
-        *next += 1;
+        *next += batch.commands.len() as u32;
         self.clock += 1;
         let stamp = self.stamp();
-        let call = Rc::new(call);
-        self.held.insert(stamp, Rc::clone(&call));
-        self.sent.push(Message { stamp, call: Some(call) });
+        let batch = Rc::new(batch);
+        self.hold(stamp, &batch);
+        self.sent.push(Message { stamp, batch: Some(batch) });
         Ok(stamp)
     }
 
-    /// Takes a message, which has to be the sender's next one. A command is held, and acknowledged where nothing that was sent
-    /// from here comes after it.
+    /// Holds each command of a message with this stamp.
+    fn hold(&mut self, stamp: Stamp, batch: &Rc<Batch>) {
+        let stamps = (0..batch.commands.len() as u32).map(|place| Stamp { place, ..stamp });
+        self.held.extend(stamps.map(|stamp| (stamp, Rc::clone(batch))));
+    }
+
+    /// Takes a message, which has to be the sender's next one. Its commands are held, and acknowledged together where nothing that
+    /// was sent from here comes after them.
     pub fn receive(&mut self, sender: usize, number: u32, message: Message) -> Result<Option<Stamp>, EventRefusal> {
         let expected = self.links[sender].taken + 1;
         if number < expected {
@@ -88,7 +95,7 @@ impl Member {
         let moved = self.clock.max(message.stamp.clock) + 1;
         // What is sent here has greater and greater stamps, so the last one tells.
         let has_sent_later = self.sent.last().is_some_and(|last| last.stamp > message.stamp);
-        if message.call.is_none() || has_sent_later {
+        if message.batch.is_none() || has_sent_later {
             self.require_clock(moved)?;
             self.take(sender, moved, message);
             return Ok(None);
@@ -98,7 +105,7 @@ impl Member {
         self.require_room()?;
         self.take(sender, moved + 1, message);
         let stamp = self.stamp();
-        self.sent.push(Message { stamp, call: None });
+        self.sent.push(Message { stamp, batch: None });
         Ok(Some(stamp))
     }
 
@@ -107,8 +114,8 @@ impl Member {
         let link = &mut self.links[sender];
         link.taken += 1;
         link.latest = Some(message.stamp);
-        if let Some(call) = message.call {
-            self.held.insert(message.stamp, call);
+        if let Some(batch) = message.batch {
+            self.hold(message.stamp, &batch);
         }
     }
 
@@ -124,13 +131,13 @@ impl Member {
         if !(1..).zip(&self.links).all(is_passed) {
             return None;
         }
-        let call = least.remove();
-        let answer = self.policy.apply(&call.command);
-        Some(Record { stamp, caller: call.caller, serial: call.serial, answer })
+        let batch = least.remove();
+        let answer = self.policy.apply(&batch.commands[stamp.place as usize]);
+        Some(Record { stamp, caller: batch.caller, serial: batch.serial + stamp.place, answer })
     }
 
     fn stamp(&self) -> Stamp {
-        Stamp { clock: self.clock, member: self.number }
+        Stamp { clock: self.clock, member: self.number, place: 0 }
     }
 
     fn require_clock(&self, clock: u64) -> Result<(), EventRefusal> {
