@@ -4,7 +4,7 @@ use crate::case::{Case, Played, lines_of};
 use crate::generate::{Choices, Members};
 use crate::group_run::{self, GroupRun};
 use crate::rows::{ENDS, GROUP_OUTCOMES, Group, LIMITED_ROWS, OUTCOMES, REFUSALS, VERSION_2_ENDS, row_of};
-use crate::text::text_between;
+use crate::text::{contains, count, objects_after, text_between};
 use std::collections::{BTreeMap, HashMap};
 
 #[derive(Default)]
@@ -46,7 +46,10 @@ impl Coverage {
                 self.count_other(word.to_owned());
             } else {
                 self.count_other("submitted".to_owned());
-                submitted.insert(stamp_of(&text).to_owned(), command_of(line, is_limited));
+                let stamp = stamp_of(&text);
+                let commands = commands_of(line, is_limited);
+                submitted
+                    .extend(commands.into_iter().enumerate().map(|(place, name)| (with_place(stamp, place), name)));
             }
         }
         if case.is_group {
@@ -147,7 +150,21 @@ fn word_of(answer: &str) -> &str {
         .unwrap_or("?")
 }
 
-/// The name of a line's command. Those of the hierarchy are counted by themselves where it is limited.
+/// The stamp of the command at this place of a message with this stamp.
+fn with_place(stamp: &str, place: usize) -> String {
+    if place == 0 { stamp.to_owned() } else { format!("{},{place}]", stamp.trim_end_matches(']')) }
+}
+
+/// The names of a line's commands, or none where it is not sure which ones they are.
+fn commands_of(line: &[u8], is_limited: bool) -> Vec<String> {
+    match objects_after(line, "commands") {
+        Some(_) if count(line, b"\"commands\"") > 1 || contains(line, b"\\") => Vec::new(),
+        Some(commands) => commands.iter().map(|command| command_of(command, is_limited)).collect(),
+        None => vec![command_of(line, is_limited)],
+    }
+}
+
+/// The name of a command. Those of the hierarchy are counted by themselves where it is limited.
 fn command_of(line: &[u8], is_limited: bool) -> String {
     let line = String::from_utf8_lossy(line);
     let name = text_between(&line, "\"name\":\"", "\"").unwrap_or_default();

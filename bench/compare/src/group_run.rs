@@ -2,13 +2,13 @@
 //! laws of the order hold.
 
 use crate::case::{Case, Played, lines_of};
-use crate::text::{number_after, text_between};
+use crate::text::{count_of_commands, number_after, objects_after, text_between};
 use std::collections::BTreeMap;
 
 const LAST_CLOCK: u64 = 9_007_199_254_740_991;
 
-/// A clock and a member's number, in the order of commands.
-type Stamp = (u64, u32);
+/// A clock, a member's number, and a command's place in its message, in the order of commands.
+type Stamp = (u64, u32, u32);
 
 /// Of which kinds the events of a run were, and the run itself.
 pub struct GroupRun {
@@ -16,12 +16,21 @@ pub struct GroupRun {
 }
 
 /// What occurs in groups: each of these has to occur.
-pub const KINDS: [&str; 32] = [
+pub const KINDS: [&str; 45] = [
     "submit taken",
     "submit UnknownMember",
     "submit ClockFull",
     "submit SentFull",
     "submit BadSerial",
+    "batch taken",
+    "batch of 64 commands taken",
+    "batch UnknownMember",
+    "batch BadBatch, no command",
+    "batch BadBatch, more than 64 commands",
+    "batch BadBatch, its last serial is too great",
+    "batch ClockFull",
+    "batch SentFull",
+    "batch BadSerial",
     "receive command, acknowledged",
     "receive command, something later was sent",
     "receive command, something later was sent and the sent list is full",
@@ -37,8 +46,12 @@ pub const KINDS: [&str; 32] = [
     "receive ClockFull for a command where something later was sent",
     "receive ClockFull for an acknowledgement",
     "receive SentFull",
+    "receive batch, acknowledged",
+    "receive batch, something later was sent",
     "deliver own command",
     "deliver command of another",
+    "deliver command of a batch that is not its first",
+    "deliver command of a batch before one of the same clock and a greater member",
     "deliver nothing, none held",
     "deliver nothing, none stable",
     "deliver UnknownMember",
@@ -54,8 +67,8 @@ pub const KINDS: [&str; 32] = [
 #[derive(Default)]
 struct Member {
     clock: u64,
-    /// The stamp of each message, and whether it is a command.
-    sent: Vec<(Stamp, bool)>,
+    /// The stamp of each message, and how many commands it has: an acknowledgement has none.
+    sent: Vec<(Stamp, u32)>,
     /// How many messages were taken of each sender.
     taken: BTreeMap<u32, u32>,
     /// How many commands it knows, delivered ones among them.
@@ -67,7 +80,7 @@ struct Member {
 }
 
 impl Member {
-    fn message(&self, number: u32) -> Option<(Stamp, bool)> {
+    fn message(&self, number: u32) -> Option<(Stamp, u32)> {
         self.sent.get((number as usize).checked_sub(1)?).copied()
     }
 
@@ -115,7 +128,7 @@ impl Run {
         let number = |key| number_after(line, key).map(|(_, number)| number);
         if output.contains("\"refused\":\"") {
             let word = text_between(output, "\"refused\":\"", "\"").unwrap_or_default();
-            self.take_refusal(word, number("at"), number("from"), number("number"), number("serial").is_some());
+            self.take_refusal(line, word);
             return Ok(());
         }
         let at = number("at").filter(|at| (1..=self.members.len()).contains(&(*at as usize)));
@@ -135,22 +148,32 @@ impl Run {
         } else {
             let stamp = stamp_behind(output, "\"stamp\":").ok_or("no stamp")?;
             let (caller, serial) = number("caller").zip(number("serial")).ok_or("no caller")?;
-            self.submitted.insert(stamp, (caller, serial));
-            self.send(at, stamp, true);
-            self.member(at).known += 1;
-            self.kinds.push("submit taken");
+            self.take_submit(at, stamp, caller, serial, line);
         }
         Ok(())
+    }
+
+    fn take_submit(&mut self, at: u32, stamp: Stamp, caller: u32, serial: u32, line: &[u8]) {
+        let commands = count_of_commands(line);
+        let stamps = (0..commands).map(|place| ((stamp.0, stamp.1, place), (caller, serial + place)));
+        self.submitted.extend(stamps);
+        self.send(at, stamp, commands);
+        self.member(at).known += commands as usize;
+        let is_batch = objects_after(line, "commands").is_some();
+        self.kinds.push(if is_batch { "batch taken" } else { "submit taken" });
+        if commands == 64 {
+            self.kinds.push("batch of 64 commands taken");
+        }
     }
 
     fn member(&mut self, number: u32) -> &mut Member {
         &mut self.members[number as usize - 1]
     }
 
-    fn send(&mut self, at: u32, stamp: Stamp, is_command: bool) {
+    fn send(&mut self, at: u32, stamp: Stamp, commands: u32) {
         let member = self.member(at);
         member.clock = stamp.0;
-        member.sent.push((stamp, is_command));
+        member.sent.push((stamp, commands));
         member.is_drained = false;
     }
 
@@ -159,25 +182,32 @@ impl Run {
         &mut self,
         at: u32,
         from: u32,
-        (stamp, is_command): (Stamp, bool),
+        (stamp, commands): (Stamp, u32),
         acknowledgement: Option<Stamp>,
     ) -> Result<(), String> {
         let sent_limit = self.sent_limit;
+        let is_command = commands > 0;
         let member = self.member(at);
         let is_due = is_command && !member.has_sent_later(stamp);
         if is_due != acknowledgement.is_some() {
             return Err("an acknowledgement that is needless, or none where one is due".to_owned());
         }
         *member.taken.entry(from).or_default() += 1;
-        member.known += usize::from(is_command);
+        member.known += commands as usize;
         member.is_drained = false;
         member.clock = member.clock.max(stamp.0) + 1;
         let (is_full, is_at_end) = (member.sent.len() == sent_limit, member.clock == LAST_CLOCK);
         if let Some(acknowledgement) = acknowledgement {
-            self.send(at, acknowledgement, false);
+            self.send(at, acknowledgement, 0);
             self.kinds.push("receive command, acknowledged");
+            if commands > 1 {
+                self.kinds.push("receive batch, acknowledged");
+            }
         } else if is_command {
             self.kinds.push("receive command, something later was sent");
+            if commands > 1 {
+                self.kinds.push("receive batch, something later was sent");
+            }
             if is_full {
                 self.kinds.push("receive command, something later was sent and the sent list is full");
             }
@@ -207,6 +237,13 @@ impl Run {
         let place = member.delivered;
         member.delivered += 1;
         self.kinds.push(if stamp.1 == at { "deliver own command" } else { "deliver command of another" });
+        if stamp.2 > 0 {
+            self.kinds.push("deliver command of a batch that is not its first");
+            let later = self.submitted.range((stamp.0, stamp.1 + 1, 0)..).next();
+            if later.is_some_and(|((clock, _, _), _)| *clock == stamp.0) {
+                self.kinds.push("deliver command of a batch before one of the same clock and a greater member");
+            }
+        }
         match self.order.get(place) {
             None => self.order.push((stamp, text)),
             Some((_, other)) if *other == text => {}
@@ -215,26 +252,35 @@ impl Run {
         Ok(())
     }
 
-    fn take_refusal(&mut self, word: &str, at: Option<u32>, from: Option<u32>, number: Option<u32>, is_submit: bool) {
+    fn take_refusal(&mut self, line: &[u8], word: &str) {
+        let number = |key| number_after(line, key).map(|(_, number)| number);
+        let (at, from, serial) = (number("at"), number("from"), number("serial"));
+        let batch = objects_after(line, "commands").map(|commands| commands.len());
         let member = |number: u32| self.members.get((number as usize).wrapping_sub(1));
         let is_member = |at: u32| (1..=self.members.len()).contains(&(at as usize));
         let refused = match (word, from) {
             ("ClockFull", Some(from)) => {
-                let message = member(from).and_then(|sender| sender.message(number.unwrap_or_default()));
+                let message = member(from).and_then(|sender| sender.message(number("number").unwrap_or_default()));
                 let receiver = at.and_then(member);
                 match message {
-                    Some((stamp, true)) if receiver.is_some_and(|at| at.has_sent_later(stamp)) => {
+                    Some((stamp, 1..)) if receiver.is_some_and(|at| at.has_sent_later(stamp)) => {
                         "receive ClockFull for a command where something later was sent"
                     }
-                    Some((_, true)) => "receive ClockFull for a command to acknowledge",
+                    Some((_, 1..)) => "receive ClockFull for a command to acknowledge",
                     _ => "receive ClockFull for an acknowledgement",
                 }
             }
             ("UnknownMember", Some(_)) if at.is_some_and(is_member) => "receive UnknownMember as sender",
             ("UnknownMember", Some(_)) => "receive UnknownMember as receiver",
-            ("UnknownMember", None) if !is_submit => "deliver UnknownMember",
+            ("UnknownMember", None) if serial.is_none() => "deliver UnknownMember",
+            ("BadBatch", _) => match batch {
+                Some(0) => "batch BadBatch, no command",
+                Some(..=64) => "batch BadBatch, its last serial is too great",
+                _ => "batch BadBatch, more than 64 commands",
+            },
             (_, from) => {
-                let event = if from.is_some() { "receive" } else { "submit" };
+                let of_caller = if batch.is_some() { "batch" } else { "submit" };
+                let event = if from.is_some() { "receive" } else { of_caller };
                 let kind = KINDS.iter().find(|kind| kind.strip_prefix(event).is_some_and(|rest| rest.trim() == word));
                 match kind {
                     Some(kind) => kind,
@@ -284,10 +330,11 @@ impl Run {
     }
 }
 
-/// The stamp behind a key, as `[3,1]`.
+/// The stamp behind a key, as `[3,1]`, or `[3,1,2]` where it has a place.
 fn stamp_behind(text: &str, key: &str) -> Option<Stamp> {
-    let (clock, member) = text_between(text, &format!("{key}["), "]")?.split_once(',')?;
-    Some((clock.parse().ok()?, member.parse().ok()?))
+    let (clock, rest) = text_between(text, &format!("{key}["), "]")?.split_once(',')?;
+    let (member, place) = rest.split_once(',').unwrap_or((rest, "0"));
+    Some((clock.parse().ok()?, member.parse().ok()?, place.parse().ok()?))
 }
 
 #[cfg(test)]

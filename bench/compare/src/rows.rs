@@ -123,7 +123,7 @@ pub const OUTCOMES: [&str; 3] = ["submitted", "delivered", "delivered nothing"];
 pub const GROUP_OUTCOMES: [&str; 5] = ["acknowledged", "read", "NotSent", "Repeat", "Gap"];
 
 /// The refusals of lines, and those of events that a member alone can meet.
-pub const REFUSALS: [&str; 13] = [
+pub const REFUSALS: [&str; 14] = [
     "TooLong",
     "NotJson",
     "NotObject",
@@ -134,6 +134,7 @@ pub const REFUSALS: [&str; 13] = [
     "ExtraField",
     "UnknownMember",
     "FromSelf",
+    "BadBatch",
     "ClockFull",
     "SentFull",
     "BadSerial",

@@ -2,7 +2,7 @@
 
 use crate::case::{Case, Played, lines_of};
 use crate::rows::REFUSALS;
-use crate::text::text_between;
+use crate::text::{number_after, objects_after, text_between};
 use std::collections::BTreeMap;
 
 /// A founding's clock above this is near the end: which member meets it first is not determined.
@@ -14,8 +14,8 @@ const ANSWERS: [&str; 6] = ["Done", "Granted", "Refused", "names", "permissions"
 const DENIALS: [&str; 1] = ["Limited"];
 const DESK_REFUSALS: [&str; 3] = ["UnknownMember", "ClockFull", "SentFull"];
 
-/// The schedules that are played from standard input, as client lines: submits lose what is not a client's, other events go. A line
-/// that is no event stays as it is.
+/// The schedules that are played from standard input, as client lines: submits lose what is not a client's, a batch becomes a line for
+/// each of its commands, other events go. A line that is no event stays as it is.
 pub fn cases_of(cases: &[Case]) -> Vec<Case> {
     let played = cases.iter().filter(|case| case.words.first().is_some_and(|word| word == "play"));
     played
@@ -41,7 +41,7 @@ fn number_of(founding: &str, key: &str) -> Option<u64> {
 
 fn client_case(case: &Case) -> Case {
     let lines = case.lines();
-    let text = lines.iter().filter_map(|line| client_line(line)).flat_map(|line| [line, b"\n".to_vec()].concat());
+    let text = lines.iter().flat_map(|line| client_lines(line)).flat_map(|line| [line, b"\n".to_vec()].concat());
     Case {
         words: vec!["serve".to_owned(), case.words[1].clone()],
         schedule: text.collect(),
@@ -50,20 +50,27 @@ fn client_case(case: &Case) -> Case {
     }
 }
 
-/// None is an event that is none of a client's.
-fn client_line(line: &[u8]) -> Option<Vec<u8>> {
+/// None for an event that is none of a client's.
+fn client_lines(line: &[u8]) -> Vec<Vec<u8>> {
     let Ok(text) = std::str::from_utf8(line) else {
-        return Some(line.to_vec());
+        return vec![line.to_vec()];
     };
     if text.starts_with("{\"do\":\"receive\"") || text.starts_with("{\"do\":\"deliver\"") {
-        return None;
+        return Vec::new();
+    }
+    if text.starts_with("{\"do\":\"batch\"")
+        && let Some((_, at)) = number_after(line, "at")
+        && let Some(commands) = objects_after(line, "commands")
+    {
+        let head = format!("{{\"at\":{at},\"command\":").into_bytes();
+        return commands.into_iter().map(|command| [&head, command, b"}"].concat()).collect();
     }
     let client = text.strip_prefix("{\"do\":\"submit\",").and_then(|rest| {
         let caller = rest.find("\"caller\":")?;
         let command = rest.find("\"command\":")?;
         (caller < command).then(|| format!("{{{}{}", &rest[..caller], &rest[command..]))
     });
-    Some(client.map_or_else(|| line.to_vec(), String::into_bytes))
+    vec![client.map_or_else(|| line.to_vec(), String::into_bytes)]
 }
 
 /// Counts what was answered.
@@ -88,7 +95,7 @@ impl Told {
 
     /// What can be answered and was not.
     pub fn missing(&self) -> Vec<&str> {
-        let schedules_alone = ["Repeat", "Gap", "BadSerial", "NotSent", "FromSelf", "UnknownWord"];
+        let schedules_alone = ["Repeat", "Gap", "BadSerial", "BadBatch", "NotSent", "FromSelf", "UnknownWord"];
         let refusals = REFUSALS.iter().filter(|word| !schedules_alone.contains(word));
         let wanted = ANSWERS.iter().chain(&DENIALS).chain(&DESK_REFUSALS).chain(refusals);
         wanted.filter(|word| !self.words.contains_key(**word)).copied().collect()

@@ -2,7 +2,7 @@
 
 use crate::case::{Case, Played, lines_of};
 use crate::players::Player;
-use crate::text::{contains, number_after};
+use crate::text::{contains, count_of_commands, number_after};
 use std::collections::HashMap;
 use std::ops::Range;
 use std::time::Instant;
@@ -165,7 +165,7 @@ fn with_lines(case: &Case, lines: &[Line]) -> Case {
                 let (key, first) = numbered.key();
                 let count = counts.entry(numbered).or_default();
                 schedule.extend(with_number(&line.text, key, first + *count));
-                *count += 1;
+                *count += count_of_commands(&line.text);
             }
             None => schedule.extend_from_slice(&line.text),
         }

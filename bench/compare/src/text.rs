@@ -11,10 +11,65 @@ pub fn number_after(line: &[u8], key: &str) -> Option<(Range<usize>, u32)> {
     Some((start..start + length, number))
 }
 
+/// The texts of the objects behind this key, which has an array of them. None is a line that has none, or a text that is cut off.
+pub fn objects_after<'a>(line: &'a [u8], key: &str) -> Option<Vec<&'a [u8]>> {
+    let key = format!("\"{key}\":").into_bytes();
+    let start = line.windows(key.len()).position(|window| window == key)? + key.len();
+    let array = line[start..].trim_ascii_start().strip_prefix(b"[")?;
+    let (mut objects, mut open, mut first, mut in_text, mut place) = (Vec::new(), 0, 0, false, 0);
+    while place < array.len() {
+        match array[place] {
+            b'\\' if in_text => place += 1,
+            b'"' => in_text = !in_text,
+            _ if in_text => {}
+            b']' if open == 0 => return Some(objects),
+            b'{' | b'[' => {
+                first = if open == 0 { place } else { first };
+                open += 1;
+            }
+            b'}' | b']' => {
+                open -= 1;
+                if open == 0 {
+                    objects.push(&array[first..=place]);
+                }
+            }
+            _ => {}
+        }
+        place += 1;
+    }
+    None
+}
+
+/// How many commands a line that is an event sends.
+pub fn count_of_commands(line: &[u8]) -> u32 {
+    objects_after(line, "commands").map_or(1, |commands| commands.len() as u32)
+}
+
 pub fn text_between<'a>(text: &'a str, before: &str, after: &str) -> Option<&'a str> {
     text.split_once(before)?.1.split_once(after).map(|(between, _)| between)
 }
 
+/// How often a part stands in a text.
+pub fn count(text: &[u8], part: &[u8]) -> usize {
+    text.windows(part.len()).filter(|window| *window == part).count()
+}
+
 pub fn contains(text: &[u8], part: &[u8]) -> bool {
     text.windows(part.len()).any(|window| window == part)
+}
+
+#[cfg(test)]
+mod tests {
+    use super::*;
+
+    #[test]
+    fn the_objects_of_an_array() {
+        let objects = |line: &'static str| objects_after(line.as_bytes(), "commands");
+        assert_eq!(objects(r#"{"commands":[]}"#), Some(vec![]));
+        let two: [&[u8]; 2] = [br#"{"a":"}]\"","b":["x"]}"#, b"{ }"];
+        assert_eq!(objects(r#"{"at":1,"commands": [{"a":"}]\"","b":["x"]} ,{ }],"n":[{}]}"#), Some(two.to_vec()));
+        assert_eq!(objects(r#"{"command":{}}"#), None);
+        assert_eq!(objects(r#"{"commands":[{"a":1}"#), None);
+        assert_eq!((count_of_commands(b"{\"commands\":[{},{}]}"), count_of_commands(b"{\"command\":{}}")), (2, 1));
+    }
 }

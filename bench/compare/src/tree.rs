@@ -43,11 +43,13 @@ impl Tree {
     }
 
     fn shuffle(&mut self, random: &mut Random) {
-        if let Tree::Object(entries) = self {
-            random.shuffle(entries);
-            for (_, value) in entries {
-                value.shuffle(random);
+        match self {
+            Tree::Object(entries) => {
+                random.shuffle(entries);
+                entries.iter_mut().for_each(|(_, value)| value.shuffle(random));
             }
+            Tree::List(items) => items.iter_mut().for_each(|item| item.shuffle(random)),
+            Tree::Text(_) | Tree::Raw(_) => {}
         }
     }
 
@@ -74,10 +76,15 @@ impl Tree {
                         value.write(written, &mut Style::Compact);
                         continue;
                     }
-                    style.blanks(written);
-                    style.text(written, key);
-                    style.blanks(written);
-                    written.push(':');
+                    if key == "commands" {
+                        // And so is this key, so that its commands are easily found.
+                        written.push_str("\"commands\":");
+                    } else {
+                        style.blanks(written);
+                        style.text(written, key);
+                        style.blanks(written);
+                        written.push(':');
+                    }
                     value.write(written, style);
                 }
                 written.push('}');

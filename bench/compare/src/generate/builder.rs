@@ -30,9 +30,16 @@ impl Builder {
         event
     }
 
-    pub fn next_submit_of_any(&mut self, random: &mut Random, command: Tree) -> Tree {
-        let caller = if random.chance(70) { 0 } else { random.pick(&CALLERS) };
-        self.next_submit(caller, command)
+    /// The next batch of a caller, whose commands are then counted as sent.
+    pub fn next_batch(&mut self, caller: u32, commands: Vec<Tree>) -> Tree {
+        let serial = self.serials.entry(caller).or_default();
+        let first = *serial;
+        *serial += commands.len() as u32;
+        batch(1, caller, first, commands)
+    }
+
+    pub fn any_caller(random: &mut Random) -> u32 {
+        if random.chance(70) { 0 } else { random.pick(&CALLERS) }
     }
 
     pub fn deliver(&mut self) {
@@ -60,6 +67,42 @@ pub fn submit(at: u32, caller: u32, serial: u32, command: Tree) -> Tree {
         ("caller", tree::number(caller)),
         ("serial", tree::number(serial)),
         ("command", command),
+    ])
+}
+
+pub fn batch(at: u32, caller: u32, serial: u32, commands: Vec<Tree>) -> Tree {
+    tree::object(&[
+        ("do", tree::text("batch")),
+        ("at", tree::number(at)),
+        ("caller", tree::number(caller)),
+        ("serial", tree::number(serial)),
+        ("commands", Tree::List(commands)),
+    ])
+}
+
+/// How many commands a message may have.
+pub const MOST_COMMANDS: usize = 64;
+
+/// How many commands a batch has that is taken: few most often, and now and then as many as there may be.
+pub fn any_count(random: &mut Random) -> usize {
+    match random.below(40) {
+        0 => MOST_COMMANDS,
+        1 => random.between(1, MOST_COMMANDS),
+        _ => random.pick(&[1, 2, 2, 2, 3, 3, 4, 6]),
+    }
+}
+
+/// A serial and a number of commands that make a bad batch, where this serial is the next one.
+pub fn bad_batch(random: &mut Random, next: u32) -> (u32, usize) {
+    const LAST: u32 = u32::MAX;
+    random.pick(&[
+        (next, 0),
+        (next, MOST_COMMANDS + 1),
+        (next, MOST_COMMANDS + 2),
+        (LAST, 0),
+        (LAST, 2),
+        (LAST - 62, MOST_COMMANDS),
+        (LAST, MOST_COMMANDS + 1),
     ])
 }
 

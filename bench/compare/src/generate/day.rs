@@ -140,7 +140,13 @@ impl<'a> Day<'a> {
                 self.survey(&mut builder);
             }
             if self.random.chance(habits.hostile) {
-                let event = builder::submit(1, self.random.next() as u32, 0, self.command(habits));
+                let caller = self.random.next() as u32;
+                let event = if self.random.chance(20) {
+                    let count = self.random.between(0, 3);
+                    builder::batch(1, caller, 0, self.commands(habits, count))
+                } else {
+                    builder::submit(1, caller, 0, self.command(habits))
+                };
                 builder.line(hostile::line(self.random, event));
             } else {
                 let event = self.event(habits, &mut builder);
@@ -191,12 +197,24 @@ impl<'a> Day<'a> {
             1 => builder::deliver(self.number()),
             2 => builder::submit(self.number(), 0, 0, self.command(habits)),
             3 => builder::submit(1, self.number(), self.number(), self.command(habits)),
-            4..51 => builder::deliver(1),
+            4 => {
+                let (serial, count) = builder::bad_batch(self.random, 0);
+                builder::batch(self.random.pick(&[1, 1, 1, 9]), self.number(), serial, self.commands(habits, count))
+            }
+            5..57 => builder::deliver(1),
+            57..60 => {
+                let (caller, count) = (Builder::any_caller(self.random), builder::any_count(self.random));
+                builder.next_batch(caller, self.commands(habits, count))
+            }
             _ => {
-                let command = self.command(habits);
-                builder.next_submit_of_any(self.random, command)
+                let (caller, command) = (Builder::any_caller(self.random), self.command(habits));
+                builder.next_submit(caller, command)
             }
         }
+    }
+
+    pub fn commands(&mut self, habits: &Habits, count: usize) -> Vec<Tree> {
+        (0..count).map(|_| self.command(habits)).collect()
     }
 
     /// A member, a caller, a serial or a message, most often not the one that there is.

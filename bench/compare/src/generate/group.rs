@@ -13,8 +13,11 @@ use crate::tree::Tree;
 const LAST_CLOCK: u64 = 9_007_199_254_740_991;
 
 /// Lines that are refused whatever the group.
-const BAD_LINES: [&str; 8] = [
+const BAD_LINES: [&str; 11] = [
     "",
+    "{\"do\":\"batch\",\"at\":1,\"caller\":0,\"serial\":0,\"commands\":{}}",
+    "{\"do\":\"batch\",\"at\":1,\"caller\":0,\"serial\":0,\"commands\":[1]}",
+    "{\"do\":\"batch\",\"at\":1,\"caller\":0,\"serial\":0,\"commands\":[{}]}",
     "{\"do\":\"receive\",\"at\":1,\"from\":2}",
     "{\"do\":\"receive\",\"at\":1,\"number\":1}",
     "{\"do\":\"receive\",\"from\":1,\"number\":1}",
@@ -115,9 +118,27 @@ impl Group<'_> {
         if !self.model.can_submit(at) && self.day.random.chance(80) {
             return self.refused_receipt(at);
         }
-        let (serial, command) = (self.model.next_serial(at, caller), self.day.command(&self.habits));
+        let serial = self.model.next_serial(at, caller);
+        if self.day.random.chance(20) {
+            let count = builder::any_count(self.day.random);
+            let commands = self.day.commands(&self.habits, count);
+            self.event(builder::batch(at, caller, serial, commands));
+            return self.model.submit(at, caller, count as u32);
+        }
+        let command = self.day.command(&self.habits);
         self.event(builder::submit(at, caller, serial, command));
-        self.model.submit(at, caller);
+        self.model.submit(at, caller, 1);
+    }
+
+    /// A batch that its member does not take, or that is nobody's.
+    fn odd_batch(&mut self, at: u32, stranger: u32) -> Tree {
+        let (serial, count) = builder::bad_batch(self.day.random, self.model.next_serial(at, 0));
+        let (at, serial, count) = match self.day.random.below(6) {
+            0 => (stranger, serial, count),
+            1 => (at, 3_000_000, 2),
+            _ => (at, serial, count),
+        };
+        builder::batch(at, 0, serial, self.day.commands(&self.habits, count))
     }
 
     fn deliver(&mut self) {
@@ -153,7 +174,7 @@ impl Group<'_> {
         let (at, members) = (self.any_awake(), self.model.members);
         let from = self.day.random.between(1, members as usize) as u32;
         let stranger = self.day.random.pick(&[0, members + 1, 9, u32::MAX]);
-        let event = match self.day.random.below(12) {
+        let event = match self.day.random.below(13) {
             0..7 => {
                 let number = self.odd_number(at, from);
                 // At a clock or a list that is full, and at a pair that is open, this may be the message in turn.
@@ -169,6 +190,7 @@ impl Group<'_> {
                 let (at, serial) = self.day.random.pick(&[(stranger, 0), (at, 3_000_000)]);
                 builder::submit(at, 0, serial, self.day.command(&self.habits))
             }
+            11 => self.odd_batch(at, stranger),
             _ => {
                 let line = self.day.random.pick(&BAD_LINES);
                 return self.line(line);

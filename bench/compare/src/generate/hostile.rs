@@ -21,7 +21,7 @@ pub fn line(random: &mut Random, event: Tree) -> Vec<u8> {
 
 /// Values of each kind, names that are none, and numbers at their limits.
 fn odd_value(random: &mut Random) -> Tree {
-    const RAW: [&str; 31] = [
+    const RAW: [&str; 34] = [
         "null",
         "true",
         "false",
@@ -53,6 +53,9 @@ fn odd_value(random: &mut Random) -> Tree {
         "[\"a\",\"\"]",
         "[[\"a\"]]",
         "{\"name\":\"AddUser\"}",
+        "[{}]",
+        "[{\"name\":\"SsdRoleSets\"}]",
+        "[{\"name\":\"SsdRoleSets\"},1]",
     ];
     const TEXTS: [&str; 12] =
         ["", "a b", "a/b", "a\u{e9}", "\u{1f600}", "\u{0}", "a\n", "a,b", "1", "ann", "submit", "AddRole"];
@@ -63,16 +66,23 @@ fn odd_value(random: &mut Random) -> Tree {
     }
 }
 
-/// Takes out, changes, renames, adds or doubles an entry of the event, or of the command in it.
+/// Takes out, changes, renames, adds or doubles an entry of the event, or of a command in it.
 fn damage(random: &mut Random, event: &mut Tree) {
     let Tree::Object(entries) = event else {
         return;
     };
-    let inner = entries.iter().position(|(_, value)| matches!(value, Tree::Object(_)));
-    if let Some(place) = inner
+    let inner = entries.iter_mut().find_map(|(_, value)| match value {
+        Tree::Object(_) => Some(value),
+        Tree::List(items) if matches!(items[..], [Tree::Object(_), ..]) => {
+            let place = random.below(items.len());
+            Some(&mut items[place])
+        }
+        _ => None,
+    });
+    if let Some(inner) = inner
         && random.chance(65)
     {
-        return damage(random, &mut entries[place].1);
+        return if random.chance(10) { *inner = odd_value(random) } else { damage(random, inner) };
     }
     let place = random.below(entries.len() + 1);
     if place == entries.len() {
@@ -102,7 +112,10 @@ fn misspelled(random: &mut Random, event: Tree) -> String {
     let words =
         ["AddUsers", "addUser", "", "Ssd", "SsdRoleSet", "CreateXSet", "CreateSsdDsdSet", "SetSsdCardinality", "Serve"];
     match random.below(3) {
-        0 => written.replacen("submit", random.pick(&["Submit", "batch", "", "deliver", "receive"]), 1),
+        0 => {
+            let word = if written.contains("\"do\":\"batch\"") { "batch" } else { "submit" };
+            written.replacen(word, random.pick(&["Submit", "submit", "batch", "Batch", "", "deliver", "receive"]), 1)
+        }
         1 => written.replacen("\"name\":\"", "\"name\":\"Xx", 1),
         _ => {
             let start = written.find("\"name\":\"").map_or(0, |place| place + 8);

@@ -22,6 +22,9 @@ pub fn cases(random: &mut Random) -> Vec<Case> {
         acknowledgements_at_a_limit("clock", "clock = 9007199254740988"),
         acknowledgements_at_a_limit("sent", "sent_limit = 2"),
         named("sessions", None, sessions()),
+        batches_at_two_members("", ""),
+        batches_at_two_members("-clock", "clock = 9007199254740986"),
+        batches_at_two_members("-sent", "sent_limit = 4"),
     ];
     for (number, left) in [0, 1, 20].into_iter().enumerate() {
         let clock = 9_007_199_254_740_991u64 - left;
@@ -71,7 +74,7 @@ fn users_at_two_members() -> Case {
     for user in 1..=USERS {
         let event = builder.next_submit(0, builder::command("AddUser", &[field("user", &format!("u{user}"))]));
         builder.line(event.compact());
-        model.submit(1, 0);
+        model.submit(1, 0, 1);
     }
     for (at, from) in [(2, 1), (1, 2)] {
         for _ in 0..model.sent(from) {
@@ -106,6 +109,43 @@ fn acknowledgements_at_a_limit(name: &str, limit: &str) -> Case {
     }
     let founding = format!("version = 1\nmembers = 2\n{limit}\n{VOCABULARY}");
     Case::of_group(format!("limit-acknowledgements-{name}"), founding.into_bytes(), builder.schedule)
+}
+
+/// Batches of each length about the limits and of serials about the last one, at two members that take what the other one sent, and
+/// deliver all that they can. Where a clock or a sent list comes to its end, bad batches are named before it.
+fn batches_at_two_members(name: &str, limit: &str) -> Case {
+    const LAST: u32 = u32::MAX;
+    let most = builder::MOST_COMMANDS;
+    let mut lines = Builder::new();
+    let mut next = 0;
+    for count in [0, 1, most + 1, 2, most, most - 1, most + 2, 0] {
+        for at in [1, 2] {
+            lines.line(builder::batch(at, 0, next, adding_users(count)).compact());
+        }
+        next += if (1..=most).contains(&count) { count as u32 } else { 0 };
+        // Out of turn, with a last serial that is the greatest, or too great.
+        for (serial, count) in [(LAST, 1), (LAST, 2), (LAST - 63, most), (LAST - 62, most), (next + 1, 2)] {
+            lines.line(builder::batch(1, 0, serial, adding_users(count)).compact());
+        }
+        lines.line(builder::batch(3, 0, next, adding_users(count)).compact());
+    }
+    for number in 1..=6 {
+        for (at, from) in [(1, 2), (2, 1)] {
+            lines.line(builder::receive(at, from, number).compact());
+        }
+    }
+    for at in [1, 2] {
+        for _ in 0..=2 * next {
+            lines.line(builder::deliver(at).compact());
+        }
+    }
+    let founding = format!("version = 1\nmembers = 2\n{limit}\n{VOCABULARY}");
+    Case::of_group(format!("limit-batches{name}"), founding.into_bytes(), lines.schedule)
+}
+
+fn adding_users(count: usize) -> Vec<Tree> {
+    let user = |number: usize| builder::command("AddUser", &[field("user", &format!("u{number}"))]);
+    (0..count).map(user).collect()
 }
 
 fn all_roles() -> Vec<u8> {

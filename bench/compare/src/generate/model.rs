@@ -6,8 +6,8 @@ use std::collections::{BTreeSet, HashMap};
 
 const LAST_CLOCK: u64 = 9_007_199_254_740_991;
 
-/// A clock and a member's number.
-type Stamp = (u64, u32);
+/// A clock, a member's number, and a command's place in its message.
+type Stamp = (u64, u32, u32);
 
 pub struct Model {
     pub members: u32,
@@ -18,17 +18,21 @@ pub struct Model {
 #[derive(Clone)]
 struct Member {
     clock: u64,
-    /// Stamps of messages, and whether they are commands.
-    sent: Vec<(Stamp, bool)>,
+    /// Stamps of messages, and how many commands they have: an acknowledgement has none.
+    sent: Vec<(Stamp, u32)>,
     taken: Vec<usize>,
     held: BTreeSet<Stamp>,
     serials: HashMap<u32, u32>,
 }
 
 impl Member {
-    /// Whether a message is acknowledged: a command is where nothing later was sent.
-    fn must_acknowledge(&self, stamp: Stamp, is_command: bool) -> bool {
-        is_command && self.sent.last().is_none_or(|(last, _)| *last < stamp)
+    /// Whether a message is acknowledged: one with commands is where nothing later was sent.
+    fn must_acknowledge(&self, stamp: Stamp, commands: u32) -> bool {
+        commands > 0 && self.sent.last().is_none_or(|(last, _)| *last < stamp)
+    }
+
+    fn hold(&mut self, (clock, member, _): Stamp, commands: u32) {
+        self.held.extend((0..commands).map(|place| (clock, member, place)));
     }
 }
 
@@ -71,14 +75,15 @@ impl Model {
         member.clock < LAST_CLOCK && member.sent.len() < self.sent_limit
     }
 
-    /// Counts a submit in turn, if there is room for it.
-    pub fn submit(&mut self, at: u32, caller: u32) {
+    /// Counts a submit in turn, or a batch of so many commands, if there is room for it.
+    pub fn submit(&mut self, at: u32, caller: u32, commands: u32) {
         if self.can_submit(at) {
             let member = self.member_mut(at);
             member.clock += 1;
-            member.sent.push(((member.clock, at), true));
-            member.held.insert((member.clock, at));
-            *member.serials.entry(caller).or_default() += 1;
+            let stamp = (member.clock, at, 0);
+            member.sent.push((stamp, commands));
+            member.hold(stamp, commands);
+            *member.serials.entry(caller).or_default() += commands;
         }
     }
 
@@ -97,8 +102,8 @@ impl Model {
     fn can_receive(&self, at: u32, from: u32) -> bool {
         let member = self.member(at);
         let next = self.member(from).sent.get(self.taken(at, from) as usize);
-        next.is_some_and(|(stamp, is_command)| {
-            let is_due = member.must_acknowledge(*stamp, *is_command);
+        next.is_some_and(|(stamp, commands)| {
+            let is_due = member.must_acknowledge(*stamp, *commands);
             let clock = member.clock.max(stamp.0) + 1 + u64::from(is_due);
             clock <= LAST_CLOCK && (!is_due || member.sent.len() < self.sent_limit)
         })
@@ -107,18 +112,16 @@ impl Model {
     /// Takes the next message of a pair that is open, and gives its number.
     pub fn receive(&mut self, at: u32, from: u32) -> u32 {
         let place = self.taken(at, from) as usize;
-        let (stamp, is_command) = self.member(from).sent[place];
+        let (stamp, commands) = self.member(from).sent[place];
         let member = self.member_mut(at);
         member.taken[from as usize - 1] += 1;
-        let is_due = member.must_acknowledge(stamp, is_command);
+        let is_due = member.must_acknowledge(stamp, commands);
         member.clock = member.clock.max(stamp.0) + 1;
         if is_due {
             member.clock += 1;
-            member.sent.push(((member.clock, at), false));
+            member.sent.push(((member.clock, at, 0), 0));
         }
-        if is_command {
-            member.held.insert(stamp);
-        }
+        member.hold(stamp, commands);
         place as u32 + 1
     }
 
