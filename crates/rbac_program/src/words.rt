@@ -39,8 +39,10 @@ Without words: the same as 'play - -'.
 A line of serve asks a member a command, and is answered in one line:
   {\"at\":1,\"command\":{\"name\":\"AddUser\",\"user\":\"ann\"}}
   {\"answer\":\"Done\",\"line\":1}
-A line of play is one of these; caller and serial are numbers, serials 0, 1, 2 and so on for each caller:
+A line of play is one of these; caller and serial are numbers, serials 0, 1, 2 and so on for each
+caller, one for each of the 1 to 64 commands of a batch:
   {\"do\":\"submit\",\"at\":1,\"caller\":0,\"serial\":0,\"command\":{\"name\":\"AddUser\",\"user\":\"ann\"}}
+  {\"do\":\"batch\",\"at\":1,\"caller\":0,\"serial\":1,\"commands\":[{\"name\":\"AddUser\",\"user\":\"bob\"}]}
   {\"do\":\"deliver\",\"at\":1}
   {\"do\":\"receive\",\"at\":1,\"from\":2,\"number\":1}
 An answer is \"Done\", \"Granted\" or \"Refused\", what a review lists, or {\"denied\":WORD,\"number\":N};
