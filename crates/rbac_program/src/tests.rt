@@ -291,7 +291,7 @@ permissions = [[\"read\", \"ledger\"], [\"read\", \"invoice\"]]
 fn tells_a_fault_in_one_line(rt: HostRuntime) -> Result<(), Fail> {
     let no_schedule = "no/schedule.jsonl";
     let no_founding = "no/founding.toml";
-    fs::write(&rt, "version_2.toml", b"version = 2\n")?;
+    fs::write(&rt, "version_3.toml", b"version = 3\n")?;
     fs::write(&rt, "unlisted_object.toml", UNLISTED_OBJECT)?;
     expect_fault(
         &rt,
@@ -302,7 +302,7 @@ fn tells_a_fault_in_one_line(rt: HostRuntime) -> Result<(), Fail> {
     expect_fault(&rt, "/", "-", "rbac_monitor: file: /\n");
     expect_fault(
         &rt,
-        "version_2.toml",
+        "version_3.toml",
         no_schedule,
         "rbac_monitor: founding: BadVersion\n",
     );
@@ -319,7 +319,7 @@ fn tells_a_fault_in_one_line(rt: HostRuntime) -> Result<(), Fail> {
         "rbac_monitor: file: no/schedule.jsonl\n",
     );
     expect_fault(&rt, "-", "/", "rbac_monitor: run: Read\n");
-    fs::remove_file(&rt, "version_2.toml")?;
+    fs::remove_file(&rt, "version_3.toml")?;
     fs::remove_file(&rt, "unlisted_object.toml")?;
     Ok(())
 }

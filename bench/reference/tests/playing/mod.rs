@@ -24,7 +24,7 @@ pub fn played(founding: &str, input: String) -> String {
 }
 
 /// A file of its own for each founding, since tests run at once.
-fn founding_file(text: &str) -> PathBuf {
+pub fn founding_file(text: &str) -> PathBuf {
     static FILES: AtomicU32 = AtomicU32::new(0);
     let number = FILES.fetch_add(1, Ordering::Relaxed);
     let name = format!("{}-{number}.toml", env!("CARGO_CRATE_NAME"));
