@@ -93,13 +93,18 @@ abbrev pub are_objects : Items → Bool
 are_objects no_items = true
 are_objects (item value rest) = is_some (as_object value) && are_objects rest
 
--- the array at a key, of which each element is an object
+-- an array of which each element is an object
+abbrev pub objects_of : Items → Reading Items
+objects_of array = do
+  provided (are_objects array) WrongKind
+  Ok array
+
+-- such an array at a key
 abbrev pub objects_in : List ℕ → Members → Reading Items
 objects_in key object = do
   value ← value_in key object
   array ← ok_or (as_array value) WrongKind
-  provided (are_objects array) WrongKind
-  Ok array
+  objects_of array
 
 -- ---- The whole object
 

@@ -1,5 +1,5 @@
 //! Lines as events.
-ghost use Rattle.std.specs.Prelude.{◌≡◌, ◌≢◌, IfOk, IfErr, Ok, Err};
+ghost use Rattle.std.specs.Prelude.{◌≡◌, ◌≢◌, ◌++◌, ◌∷◌, [], IfOk, IfErr, OnOk, Ok, Err};
 ghost use Rattle.serde_json.specs.View.{view, items_view, members_view};
 ghost use Rattle.rbac_lines.specs.Fields.{Reads};
 ghost use Rattle.rbac_lines.specs.Event.{event, event_of, value_of, command_in, commands_of, submit, batch, receive, deliver};
@@ -90,6 +90,17 @@ fn command_in(alloc: Global, value: &Value) -> Reading<Command>
     command_of(alloc, fields)
 }
 
+/// One command more.
+fn add(commands: &mut Vec<Command>, command: Command) -> Reading<()>
+    ensures added { OnOk result (commands.new.items ≡ commands.old.items ++ command ∷ []) }
+    ensures refused { IfErr result (λ refusal. refusal ≡ LineRefusal.NoMemory) }
+{
+    match commands.push(command) {
+        Ok(()) => Ok(()),
+        Err(_) => Err(LineRefusal::NoMemory),
+    }
+}
+
 /// The commands that the elements of an array stand for: the first refusal is that of the first element that is refused.
 fn commands_of(alloc: Global, array: &[Value]) -> Reading<Commands>
     ensures { Reads (commands_of (items_view array.now)) result }
@@ -97,9 +108,7 @@ fn commands_of(alloc: Global, array: &[Value]) -> Reading<Commands>
     let mut commands = Vec::new(alloc);
     for value in array {
         let command = command_in(alloc, value)?;
-        if commands.push(command).is_err() {
-            return Err(LineRefusal::NoMemory);
-        }
+        add(&mut commands, command)?;
     }
     Ok(Commands::of(commands))
 }

@@ -7,7 +7,7 @@ ghost use Rattle.std.specs.Str.{bytes_eq};
 ghost use Rattle.serde_json.specs.Find.{as_object, as_str};
 ghost use Rattle.serde_json.specs.View.{view, items_view, members_view};
 ghost use Rattle.rbac_founding.specs.Steps.{seen};
-ghost use Rattle.rbac_lines.specs.Fields.{Reads, value_in, whole_in, text_in, object_in, objects_in, name_of, name_in, names_of, names_in, only_keys};
+ghost use Rattle.rbac_lines.specs.Fields.{Reads, value_in, whole_in, text_in, object_in, objects_of, objects_in, name_of, name_in, names_of, names_in, only_keys};
 
 use crate::refusal::LineRefusal;
 use rbac_founding::keys::is_one_of;
@@ -114,16 +114,23 @@ fn are_objects(array: &[Value]) -> bool
     array.iter().all(|value| value.is_object())
 }
 
+/// The array, if each of its elements is an object.
+fn objects_of(array: &[Value]) -> Reading<&[Value]>
+    ensures { seen (λ kept. items_view kept.now) result ≡ objects_of (items_view array.now) }
+{
+    if !are_objects(array) {
+        return Err(LineRefusal::WrongKind);
+    }
+    Ok(array)
+}
+
 /// The array at a key, of which each element is an object.
 pub(crate) fn objects_in<'o>(object: &'o Object, key: &str) -> Reading<&'o [Value]>
     ensures { seen (λ array. items_view array.now) result ≡ objects_in key.now (members_view object.now.entries) }
 {
     let value = value_in(object, key)?;
     let array = value.as_array().ok_or(LineRefusal::WrongKind)?;
-    if !are_objects(array) {
-        return Err(LineRefusal::WrongKind);
-    }
-    Ok(array)
+    objects_of(array)
 }
 
 fn has_only(object: &Object, keys: &[&str]) -> bool
