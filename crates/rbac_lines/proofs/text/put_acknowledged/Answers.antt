@@ -1,11 +1,11 @@
-use Rattle.std.proofs.Common.{◌≡◌, ◌++◌, ℕ, List, [], codes, decimal, refl, sym, append-nil}
+use Rattle.std.proofs.Common.{◌≡◌, ◌++◌, ℕ, List, [], codes, decimal, sym, append-nil, append_assoc}
 use Rattle.rbac_lines.specs.Text.{stamp_text}
 use Rattle.rbac_lines.proofs.TextLemmas.{last_written}
 use Rattle.rbac_lines.proofs.text.put_acknowledged.Goals as goal
 
 -- stamp and line, each behind its own key
 grouped : (k stamp lk l n : List ℕ) → [] ++ (k ++ (stamp ++ (lk ++ (l ++ n)))) ≡ k ++ stamp ++ lk ++ l ++ n
-grouped k stamp lk l n = refl
+grouped k stamp lk l n = simp append_assoc
 
 pub returns : goal.returns
 returns c =
