@@ -1,5 +1,5 @@
 -- What each call of a node keeps.
-use Rattle.std.proofs.Common.{ℕ, Bool, true, false, cond, nat_le, ◌≡◌, ◌<◌, ◌≤◌, ◌-◌, ◌==◌, ◌&&◌, List, [], ◌∷◌, length, set, get_or, Option, None, Some, Result, Ok, Err, IfOk, OnOk, OnErr, refl, sym, ap, subst, ◌∙◌, arith}
+use Rattle.std.proofs.Common.{ℕ, Bool, true, false, cond, nat_le, ◌≡◌, ◌<◌, ◌≤◌, ◌-◌, ◌==◌, ◌&&◌, List, length, set, get_or, Option, None, Some, Result, Ok, Err, IfOk, OnOk, OnErr, refl, sym, ap, subst, ◌∙◌, arith}
 use Rattle.std.specs.List.{slice_get}
 use Rattle.std.proofs.lemmas.Bool.{eqb-true}
 use Rattle.std.proofs.lemmas.List.{get_or_past}
@@ -42,14 +42,14 @@ module _ {G : Type 0} (name : Ghosts G) (i : Inside G) where
   state = state_with i.member i.reads.items
 
   module _ (kept : Keeps i.member i.reads.items) where
-    pub kept_submitted : {T E : Type 0} (result : Result T E) (old : NodeState) (new : Member) (caller serial : ℕ) (command : Command) → state ≡ old → caller < old.next_caller
-        → OnOk result (new ≡ submitted i.member caller serial (command ∷ [])) → OnErr result (new ≡ i.member) → Keeps new i.reads.items
-    kept_submitted result old new caller serial command is below done refused =
-        on_both result (λ v. Keeps v i.reads.items) i.member new (submitted i.member caller serial (command ∷ [])) done refused kept
+    pub kept_submitted : {T E : Type 0} (result : Result T E) (old : NodeState) (new : Member) (caller serial : ℕ) (commands : List Command) → state ≡ old → caller < old.next_caller
+        → OnOk result (new ≡ submitted i.member caller serial commands) → OnErr result (new ≡ i.member) → Keeps new i.reads.items
+    kept_submitted result old new caller serial commands is below done refused =
+        on_both result (λ v. Keeps v i.reads.items) i.member new (submitted i.member caller serial commands) done refused kept
         (record {
           group = kept.group;
           vocabulary = kept.vocabulary;
-          shown = shown_submitted state caller serial command kept.shown (subst (λ (n : NodeState). caller < n.next_caller) (sym is) below);
+          shown = shown_submitted state caller serial commands kept.shown (subst (λ (n : NodeState). caller < n.next_caller) (sym is) below);
           sent = kept.sent;
           history = kept.history;
           reads = kept.reads;

@@ -1,10 +1,10 @@
 -- Each move of its member keeps what a node shows and sees.
-use Rattle.std.proofs.Common.{ℕ, ◌≡◌, ◌≤◌, ◌<◌, ◌-◌, ◌+◌, List, [], ◌∷◌, ◌++◌, length, get_or-set_other, append-nil, append_assoc, refl, sym, ap, subst, ◌∙◌, arith, Option, None, Some}
+use Rattle.std.proofs.Common.{ℕ, suc, ◌≡◌, ◌≤◌, ◌<◌, ◌-◌, ◌+◌, List, [], ◌∷◌, ◌++◌, length, get_or-set_other, append-nil, append_assoc, refl, sym, ap, subst, ◌∙◌, arith, Option, None, Some}
 use Rattle.std.specs.List.{AllByRecursion as Each, slice_get}
 use Rattle.std.proofs.lemmas.Option.{same_Some}
-use Rattle.rbac_words.specs.Message.{stamp_of, submissions}
+use Rattle.rbac_words.specs.Message.{stamp_of, next_place, in_turn, submissions}
 use Rattle.rbac_words.specs.Front.{is_of}
-use Rattle.rbac_words.specs.World.{read_of, acknowledgement, acks}
+use Rattle.rbac_words.specs.World.{read_of, stamp, acknowledgement, acks}
 use Rattle.rbac_words.specs.Play.{IsPrefixOf}
 use Rattle.rbac_words.specs.Keeping.Member.{Member, IsMember, IsNext, node_of, known, batch, submitted, received, due_at, delivery, delivered, deliver_due}
 use Rattle.rbac_words.specs.Keeping.Members.{HasReadOf}
@@ -46,14 +46,18 @@ shown_after n v more more_history s sent history reads callers = record {
 
 -- ---- A submit
 
-pub shown_submitted : (n : NodeState) (caller serial : ℕ) (command : Command) → IsShown n → caller < n.next_caller → IsShown (with_own_member n (submitted n.member caller serial (command ∷ [])))
-shown_submitted n caller serial command s below =
+pub shown_submitted : (n : NodeState) (caller serial : ℕ) (commands : List Command) → IsShown n → caller < n.next_caller → IsShown (with_own_member n (submitted n.member caller serial commands))
+shown_submitted n caller serial commands s below =
     let v : Member = n.member in
-    shown_after n (submitted v caller serial (command ∷ [])) (batch v caller serial (command ∷ []) ∷ []) [] s refl (sym (append-nil v.history))
+    shown_after n (submitted v caller serial commands) (batch v caller serial commands ∷ []) [] s refl (sym (append-nil v.history))
     (λ k another. let same : IsAnother v k = record { number = another.number; other = another.other } in
-    stays_read v (submitted v caller serial (command ∷ [])) k (seen_of n k) refl refl
-    (of-submitted_other v caller serial (command ∷ []) k another.other) (s.reads k same))
-    (below, tt)
+    stays_read v (submitted v caller serial commands) k (seen_of n k) refl refl
+    (of-submitted_other v caller serial commands k another.other) (s.reads k same))
+    (of_caller (stamp (v.clock + 1) v.number) serial commands)
+  where
+    of_caller : (s : Stamp) (k : ℕ) (cs : List Command) → Each (λ (x : Submission). x.caller < n.next_caller) (in_turn s caller k cs ++ [])
+    of_caller s k [] = tt
+    of_caller s k (c ∷ cs) = (below, of_caller (next_place s) (suc k) cs)
 
 -- ---- A delivery
 

@@ -6,8 +6,8 @@ use Rattle.rbac_words.specs.Front.{is_of}
 use Rattle.rbac_words.specs.Play.{IsPrefixOf}
 use Rattle.rbac_words.specs.World.{stamp, submit_refusal}
 use Rattle.rbac_words.specs.Keeping.Member.{Member, node_of}
-use Rattle.rbac_terms.specs.declared.command.Command.{Command}
 use Rattle.rbac_terms.specs.declared.answer.Answer.{Answer}
+use Rattle.rbac_terms.specs.declared.command.Command.{Command}
 use Rattle.rbac_words.specs.declared.message.Submission.{Submission}
 use Rattle.rbac_words.specs.declared.record.Record.{Record}
 use Rattle.rbac_node.specs.Node.{NodeState}

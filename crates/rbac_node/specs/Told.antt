@@ -5,8 +5,8 @@ use Rattle.rbac_words.specs.declared.event.Refusal.TheVariants as rule
 use Rattle.rbac_node.specs.declared.refusal.ServiceRefusal.{ServiceRefusal}
 use Rattle.rbac_node.specs.declared.refusal.ServiceRefusal.TheVariants as refused
 
--- a member's reason to refuse a submit, as a pass is told it: a serial that the member does not expect is that of another
--- service's pass, and so would be one that is too large
+-- a member's reason to refuse a submit, as a pass is told it: a serial that the member does not expect, or takes for too large,
+-- is that of another service's pass
 abbrev pub told : Refusal → ServiceRefusal
 told rule.UnknownMember = refused.Foreign
 told rule.BadBatch = refused.Foreign

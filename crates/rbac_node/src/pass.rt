@@ -1,5 +1,5 @@
 //! What a caller holds: its pass, its outstanding ticket, and the answer.
-ghost use Rattle.std.specs.Prelude.{ℕ, List, ◌≡◌, ◌≢◌, ◌≤◌, ◌<◌, ◌+◌, ◌↔◌, ◌⊎◌, true, false, None, Some, [], ◌∷◌, max, length, IsTrue, IfOk, IfErr, OnOk, OnErr, IfSome, MatchOption};
+ghost use Rattle.std.specs.Prelude.{ℕ, List, ◌≡◌, ◌≢◌, ◌≤◌, ◌<◌, ◌+◌, ◌∷◌, ◌↔◌, ◌⊎◌, true, false, None, Some, [], max, length, IsTrue, IfOk, IfErr, OnOk, OnErr, IfSome, MatchOption};
 ghost use Rattle.rbac_words.specs.Play.{IsPrefixOf};
 ghost use Rattle.rbac_board.specs.Known.{AreOfOneRow, IsOf};
 ghost use Rattle.rbac_node.specs.Cells.{history_cells};

@@ -45,7 +45,7 @@ pub enum ServiceRefusal {
     #[error("the member has sent as many messages as the founding allows")]
     SentFull,
     /// The pass is not of this service: its member or its caller's number is not the node's, both tried before the clock, or
-    /// its serial is not the one that the member expects.
+    /// its serial is not one that the member expects.
     #[error("the pass is of another service, another member or another caller")]
     Foreign,
     #[error("no memory")]
@@ -70,10 +70,9 @@ impl From<SubmitRefusal> for ServiceRefusal {
 
     fn from(refusal: SubmitRefusal) -> ServiceRefusal {
         match refusal {
-            SubmitRefusal::BadBatch => ServiceRefusal::Foreign,
             SubmitRefusal::ClockFull => ServiceRefusal::ClockFull,
             SubmitRefusal::SentFull => ServiceRefusal::SentFull,
-            SubmitRefusal::BadSerial { .. } => ServiceRefusal::Foreign,
+            SubmitRefusal::BadBatch | SubmitRefusal::BadSerial { .. } => ServiceRefusal::Foreign,
             SubmitRefusal::NoMemory => ServiceRefusal::NoMemory,
         }
     }

@@ -1,11 +1,11 @@
 //! Each public call of `rbac_holdback` with ample memory, and what is least and stable, for both forms. What is expected was written by hand.
-ghost use Rattle.std.specs.Prelude.{◌≡◌, ◌≤◌, length};
+ghost use Rattle.std.specs.Prelude.{◌≡◌, ◌≤◌, ◌∷◌, [], length};
 ghost use Rattle.rbac_words.specs.Message.{submitted_at};
-ghost use Rattle.rbac_words.specs.Stamp.{insert_by_stamp};
+ghost use Rattle.rbac_words.specs.Stamp.{insert_by_stamp, insert_all};
 ghost use Rattle.rbac_words.specs.World.{stamp as stamp_of};
-ghost use Rattle.rbac_holdback.specs.Holdback.{CanBeHeld};
+ghost use Rattle.rbac_holdback.specs.Holdback.{CanBeHeld, CanAllBeHeld};
 
-use crate::tests::stamps::stamp;
+use crate::tests::stamps::{placed, stamp};
 use rbac_holdback::{Held, HeldQueue, Holdback, ListHeld};
 use rbac_words::{Command, Name, Stamp};
 use std::alloc::Global;
@@ -30,6 +30,42 @@ fn put<Q: HeldQueue>(rt: &impl Abort, queue: &mut Q, clock: u64, member: u32, co
         command,
     };
     let kept = match queue.put(held) {
+        Ok(()) => true,
+        Err(_) => false,
+    };
+    assert!(rt; kept);
+}
+
+// Holds two commands of one message with this stamp.
+fn put_two<Q: HeldQueue>(
+    rt: &impl Abort,
+    alloc: Global,
+    queue: &mut Q,
+    clock: u64,
+    member: u32,
+    commands: (Command, Command),
+)
+    requires { CanAllBeHeld (Q.content queue.old) (record { stamp = stamp_of clock member; caller = 7; serial = 0; command = commands.0 } ∷ record { stamp = record { clock = clock; member = member; place = 1 }; caller = 7; serial = 1; command = commands.1 } ∷ []) }
+    ensures members { (Q.content queue.new).members ≡ (Q.content queue.old).members }
+    ensures held { (Q.content queue.new).held ≡ insert_all submitted_at (record { stamp = stamp_of clock member; caller = 7; serial = 0; command = commands.0 } ∷ record { stamp = record { clock = clock; member = member; place = 1 }; caller = 7; serial = 1; command = commands.1 } ∷ []) (Q.content queue.old).held }
+{
+    let (first, second) = commands;
+    let mut held = Vec::new(alloc);
+    let one = Held {
+        stamp: stamp(clock, member),
+        caller: 7,
+        serial: 0,
+        command: first,
+    };
+    let other = Held {
+        stamp: placed(clock, member, 1),
+        caller: 7,
+        serial: 1,
+        command: second,
+    };
+    held.push(one).expect(rt, "memory");
+    held.push(other).expect(rt, "memory");
+    let kept = match queue.put_all(held) {
         Ok(()) => true,
         Err(_) => false,
     };
@@ -91,6 +127,20 @@ fn play_two_members<Q: HeldQueue + Drop>(rt: &impl Abort, alloc: Global) {
     drop(queue);
 }
 
+// Commands of one message are held one after the other.
+fn play_together<Q: HeldQueue + Drop>(rt: &impl Abort, alloc: Global) {
+    let mut queue = Q::empty(alloc, 2);
+    put(rt, &mut queue, 5, 1, command(rt, alloc));
+    let commands = (command(rt, alloc), command(rt, alloc));
+    put_two(rt, alloc, &mut queue, 4, 2, commands);
+    assert_eq!(rt; queue.len(), 3);
+    expect_taken(rt, &mut queue, Some(stamp(4, 2)));
+    expect_taken(rt, &mut queue, Some(placed(4, 2, 1)));
+    expect_taken(rt, &mut queue, Some(stamp(5, 1)));
+    expect_taken(rt, &mut queue, None);
+    drop(queue);
+}
+
 // A command is stable once all others have passed it.
 fn play_passing<Q: HeldQueue + Drop>(rt: &impl Abort, alloc: Global) {
     let mut queue = Q::empty(alloc, 4);
@@ -114,6 +164,11 @@ fn a_list_gives_in_the_order_of_stamps(rt: HostRuntime) {
 }
 
 #[test]
+fn a_list_holds_commands_together(rt: HostRuntime) {
+    play_together::<ListHeld>(&rt, rt.alloc());
+}
+
+#[test]
 fn a_list_is_stable_once_all_have_passed(rt: HostRuntime) {
     play_passing::<ListHeld>(&rt, rt.alloc());
 }
@@ -128,6 +183,12 @@ fn queues_hold_nothing_at_first(rt: HostRuntime) {
 fn queues_give_in_the_order_of_stamps(rt: HostRuntime) {
     let alloc = rt.alloc();
     play_two_members::<Holdback>(&rt, alloc);
+}
+
+#[test]
+fn queues_hold_commands_together(rt: HostRuntime) {
+    let alloc = rt.alloc();
+    play_together::<Holdback>(&rt, alloc);
 }
 
 #[test]

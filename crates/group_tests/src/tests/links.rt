@@ -1,6 +1,6 @@
 //! Each public call of `rbac_links` with ample memory. What is expected was written by hand.
 
-use crate::tests::stamps::stamp;
+use crate::tests::stamps::{placed, stamp};
 use rbac_links::{Inlinks, LinkRefusal, Outbox, OutboxRefusal};
 use rbac_words::{Message, Stamp};
 use std::process::Abort;
@@ -119,6 +119,7 @@ fn stamps_are_the_senders_and_rise(rt: HostRuntime) {
     let mut links = links();
     let fallen = Err(LinkRefusal::StampNotRising);
     expect_answer(&rt, &mut links, 2, 1, stamp(5, 3), fallen);
+    expect_answer(&rt, &mut links, 2, 1, placed(5, 2, 1), fallen);
     expect_answer(&rt, &mut links, 2, 1, stamp(5, 2), Ok(()));
     expect_answer(&rt, &mut links, 2, 2, stamp(4, 2), fallen);
     expect_answer(&rt, &mut links, 2, 2, stamp(5, 2), fallen);

@@ -1,7 +1,7 @@
 //! Members of `rbac_member`: what is submitted, received and refused. Members and messages end in `drop`, since the proof of a value that
 //! goes out of scope writes its drop out in place, a case for each variant.
 
-use crate::tests::stamps::stamp;
+use crate::tests::stamps::{placed, stamp};
 use rbac_member::{FoundRefusal, Member, ReceiveRefusal, SubmitRefusal};
 use rbac_words::{Answer, Command, Commands, Denial, Group, Message, Name, Stamp, Vocabulary};
 use std::alloc::Global;
@@ -336,12 +336,7 @@ fn submits_a_batch(rt: HostRuntime) {
     }
     expect_record(&rt, &member, 0, stamp(1, 1), Answer::Done);
     let exists = Answer::Denied(Denial::UserExists);
-    let third = Stamp {
-        clock: 1,
-        member: 1,
-        place: 2,
-    };
-    expect_record(&rt, &member, 2, third, exists);
+    expect_record(&rt, &member, 2, placed(1, 1, 2), exists);
     drop(member);
 }
 
@@ -408,12 +403,7 @@ fn receives_nothing_that_is_no_batch(rt: HostRuntime) {
     expect_refused_receipt(&rt, alloc, 2, none, gap);
     let foreign = batch(&rt, alloc, stamp(4, 3), 9, 65);
     expect_refused_receipt(&rt, alloc, 1, foreign, ReceiveRefusal::StampNotRising);
-    let placed = Stamp {
-        clock: 4,
-        member: 2,
-        place: 1,
-    };
-    let later = batch(&rt, alloc, placed, 9, 65);
+    let later = batch(&rt, alloc, placed(4, 2, 1), 9, 65);
     expect_refused_receipt(&rt, alloc, 1, later, ReceiveRefusal::StampNotRising);
     for (serial, count) in [(9, 0), (9, 65), (4_294_967_295, 2)] {
         let bad = batch(&rt, alloc, stamp(4, 2), serial, count);

@@ -1,7 +1,7 @@
 //! Whole schedules through `play` of `rbac_world`, one event after the other: what each event answers, and its member's clock after
 //! it. What is expected was written by hand.
 
-use crate::tests::stamps::stamp;
+use crate::tests::stamps::{placed, stamp};
 use rbac_words::{Answer, Command, Commands, Denial, Group, Name, Stamp, Vocabulary};
 use rbac_world::{Event, Outcome, Refusal, World, play};
 use std::alloc::Global;
@@ -279,15 +279,6 @@ fn expect_three_roles(rt: &impl Abort, alloc: Global, world: &mut World) {
     expect(rt, alloc, world, event, wanted, 1, 1);
 }
 
-// The stamp of a command of the first message of member 1.
-fn at_place(place: u32) -> Stamp {
-    Stamp {
-        clock: 1,
-        member: 1,
-        place,
-    }
-}
-
 #[test]
 fn a_batch_is_delivered_command_by_command(rt: HostRuntime) {
     let alloc = rt.alloc();
@@ -299,9 +290,9 @@ fn a_batch_is_delivered_command_by_command(rt: HostRuntime) {
         expect_delivery(&rt, alloc, &mut world, 1, place, 3);
     }
     let denied = Answer::Denied(Denial::RoleExists);
-    expect_record(&rt, &world, 1, 0, at_place(0), Answer::Done);
-    expect_record(&rt, &world, 1, 1, at_place(1), denied);
-    expect_record(&rt, &world, 1, 2, at_place(2), Answer::Done);
+    expect_record(&rt, &world, 1, 0, stamp(1, 1), Answer::Done);
+    expect_record(&rt, &world, 1, 1, placed(1, 1, 1), denied);
+    expect_record(&rt, &world, 1, 2, placed(1, 1, 2), Answer::Done);
     let denied = Answer::Denied(Denial::RoleExists);
     expect_record(&rt, &world, 1, 3, stamp(1, 2), denied);
     expect_receipt(&rt, alloc, &mut world, (2, 1, 1), false, 2);

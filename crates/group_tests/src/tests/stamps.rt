@@ -9,3 +9,14 @@ pub(crate) fn stamp(clock: u64, member: u32) -> Stamp
 {
     Stamp::at(clock, member)
 }
+
+// The stamp of another command of a message than its first one.
+pub(crate) fn placed(clock: u64, member: u32, place: u32) -> Stamp
+    ensures { result ≡ record { clock = clock; member = member; place = place } }
+{
+    Stamp {
+        clock,
+        member,
+        place,
+    }
+}

@@ -2,9 +2,9 @@
 //! reviews of `rbac_terms`. Copies end in `drop`, since the proof of a value that goes out of scope writes its drop out in place, a
 //! case for each variant.
 
-use crate::tests::stamps::stamp;
+use crate::tests::stamps::{placed, stamp};
 use rbac_words::{
-    Answer, Command, Commands, Denial, Group, GroupRefusal, Message, Name, Record, Review, Stamp,
+    Answer, Command, Commands, Denial, Group, GroupRefusal, Message, Name, Record, Review,
 };
 use sorted_keys::Same;
 use std::alloc::Global;
@@ -181,11 +181,7 @@ fn a_message_of_several_commands_is_copied(rt: HostRuntime) {
 
 #[test]
 fn stamps_are_ordered_by_the_place_last(rt: HostRuntime) {
-    let second = Stamp {
-        clock: 7,
-        member: 2,
-        place: 1,
-    };
+    let second = placed(7, 2, 1);
     for (first, later) in [
         (stamp(7, 2), second),
         (stamp(7, 1), stamp(7, 2)),
