@@ -10,6 +10,7 @@ mod members;
 mod nodes;
 mod passes;
 mod plays;
+mod records;
 mod refusals;
 mod refused_growths;
 mod refused_passes;

@@ -1,7 +1,7 @@
 //! Conversations of `rbac_lines` with a desk in memory, which lists whom it was asked for.
 ghost use Rattle.std.specs.Prelude.{◌≡◌, ◌++◌, ◌∷◌, []};
 
-use crate::tests::failing::{FailingReader, FailingWriter, STEP, line_feeds, read_before};
+use crate::tests::failing::{FailingReader, FailingWriter, STEP, expect_whole_texts, read_before};
 use rbac_lines::{Desk, DeskRefusal, RunFault, Summary, converse, watch};
 use rbac_words::{Answer, Command, Denial};
 use std::alloc::{AllocError, Global};
@@ -209,12 +209,7 @@ fn expect_read_fault(rt: &impl Abort, alloc: Global, before: usize) {
     assert!(rt; ended == Err(RunFault::Read));
     assert!(rt; MEMBERS.starts_with(&desk.asked));
     drop(desk);
-    assert!(rt; OUTPUT.starts_with(&written));
-    assert!(rt; written.is_empty() || written.ends_with(b"\n"));
-    assert_eq!(rt;
-        line_feeds(&written),
-        line_feeds(read_before(INPUT, before))
-    );
+    expect_whole_texts(rt, &written, OUTPUT, read_before(INPUT, before));
     drop(written);
 }
 

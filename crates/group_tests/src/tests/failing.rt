@@ -3,6 +3,7 @@
 use std::alloc::Global;
 use std::io;
 use std::io::{Error, ErrorKind, Read, Write};
+use std::process::Abort;
 
 /// How many bytes a call gives or takes at most.
 pub(crate) const STEP: usize = 7;
@@ -75,7 +76,7 @@ impl Write for FailingWriter {
 }
 
 /// How many line feeds there are in these bytes.
-pub(crate) fn line_feeds(bytes: &[u8]) -> usize {
+fn line_feeds(bytes: &[u8]) -> usize {
     bytes.iter().filter(|byte| **byte == b'\n').count()
 }
 
@@ -83,4 +84,11 @@ pub(crate) fn line_feeds(bytes: &[u8]) -> usize {
 pub(crate) fn read_before(input: &'static [u8], calls: usize) -> &'static [u8] {
     let count = input.len().min(calls.saturating_mul(STEP));
     &input[..count]
+}
+
+/// Of the texts that are due, those were written whole whose lines had ended in what was read.
+pub(crate) fn expect_whole_texts(rt: &impl Abort, written: &[u8], texts: &[u8], read: &[u8]) {
+    assert!(rt; texts.starts_with(written));
+    assert!(rt; written.is_empty() || written.ends_with(b"\n"));
+    assert_eq!(rt; line_feeds(written), line_feeds(read));
 }

@@ -1,8 +1,9 @@
 //! Whole schedules through `play` of `rbac_world`, one event after the other: what each event answers, and its member's clock after
 //! it. What is expected was written by hand.
 
+use crate::tests::records::expect_record;
 use crate::tests::stamps::{placed, stamp};
-use rbac_words::{Answer, Command, Commands, Denial, Group, Name, Stamp, Vocabulary};
+use rbac_words::{Answer, Command, Commands, Denial, Group, Name, Vocabulary};
 use rbac_world::{Event, Outcome, Refusal, World, play};
 use std::alloc::Global;
 use std::process::Abort;
@@ -105,22 +106,6 @@ fn expect_two_deliveries(rt: &impl Abort, alloc: Global, world: &mut World, at: 
     expect_delivery(rt, alloc, world, at, Some(0), clock);
     expect_delivery(rt, alloc, world, at, Some(1), clock);
     expect_delivery(rt, alloc, world, at, None, clock);
-}
-
-// Compares a record of a member's history.
-fn expect_record(
-    rt: &impl Abort,
-    world: &World,
-    at: u32,
-    place: usize,
-    wanted: Stamp,
-    answer: Answer,
-) {
-    let member = world.member(at).expect(rt, "a member");
-    let record = member.history().get(place).expect(rt, "a record");
-    assert_eq!(rt; record.stamp, wanted);
-    assert!(rt; record.answer.same(&answer));
-    drop(answer);
 }
 
 // A member's history is the command of member 1, which is done, and that of member 2, which is denied.

@@ -1,6 +1,6 @@
 //! A whole run of `rbac_lines` with ample memory, and runs whose reader or writer fails once, at each of its calls in turn.
 
-use crate::tests::failing::{FailingReader, FailingWriter, STEP, line_feeds, read_before};
+use crate::tests::failing::{FailingReader, FailingWriter, STEP, expect_whole_texts, read_before};
 use rbac_lines::{RunFault, Summary, run, sample_founding, watch};
 use rbac_world::World;
 use std::alloc::Global;
@@ -66,12 +66,7 @@ fn expect_read_fault(rt: &impl Abort, alloc: Global, before: usize) {
     let ended = run(alloc, &mut reader, &mut watch(&mut written), &mut world);
     drop(world);
     assert!(rt; ended == Err(RunFault::Read));
-    assert!(rt; OUTPUT.starts_with(&written));
-    assert!(rt; written.is_empty() || written.ends_with(b"\n"));
-    assert_eq!(rt;
-        line_feeds(&written),
-        line_feeds(read_before(INPUT, before))
-    );
+    expect_whole_texts(rt, &written, OUTPUT, read_before(INPUT, before));
     drop(written);
 }
 

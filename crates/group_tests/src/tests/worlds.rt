@@ -1,6 +1,7 @@
 //! Worlds of `rbac_world`: what each event does, and what refused ones leave.
+use crate::tests::records::expect_record;
 use crate::tests::stamps::stamp;
-use rbac_words::{Answer, Command, Denial, Group, Name, Stamp, Vocabulary};
+use rbac_words::{Answer, Command, Denial, Group, Name, Vocabulary};
 use rbac_world::{Event, Outcome, Refusal, World, play};
 use std::alloc::Global;
 use std::process::Abort;
@@ -53,21 +54,6 @@ fn submit_at_both(rt: &impl Abort, alloc: Global, world: &mut World) {
         let wanted = Ok(Outcome::Submitted(stamp(1, at)));
         expect(rt, alloc, world, submit(rt, alloc, at, 0), wanted);
     }
-}
-
-// Compares a record of a member's history.
-fn expect_record(
-    rt: &impl Abort,
-    world: &World,
-    at: u32,
-    place: usize,
-    wanted: Stamp,
-    answer: Answer,
-) {
-    let member = world.member(at).expect(rt, "a member");
-    let record = member.history().get(place).expect(rt, "a record");
-    assert_eq!(rt; record.stamp, wanted);
-    assert!(rt; record.answer.same(&answer));
 }
 
 #[test]
