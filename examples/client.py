@@ -5,8 +5,12 @@
     examples/client.py [--journal FILE] PROGRAM play FOUNDING - < COMMANDS
 
 COMMANDS has one command a line, as {"name":"AddUser","user":"ann"}; with "at":2 in it, it is asked of member 2. PROGRAM is the monitor. By serve
-each command is one line and gets one answer. By play it is submitted and delivered at member 1, and the client keeps the serials. The monitor
-keeps nothing on disk: a journal gets each line that was accepted, and is sent again at the start, so that the next day goes on from there."""
+each command is one line and gets one answer. By play it is submitted and delivered at member 1, and the client keeps the serials. A line that is
+refused is told, and the next one is sent.
+
+The monitor keeps nothing on disk: a journal gets each command that was answered Done, which are the changes that were made, and no check, no review
+and nothing that was denied. So it is a file of COMMANDS too. At the start its commands are asked again, and the next day goes on from there; where one
+of them is not answered Done once more, as on another founding, the client ends and sends nothing else."""
 import json
 import os
 import subprocess
@@ -17,40 +21,30 @@ class Refused(Exception):
     """The monitor's answer to a line that it refused. Such a line has changed nothing."""
 
 
+class JournalFault(Exception):
+    """A command of the journal that is not answered as it was, or a line of it that is no command."""
+
+
+def compact(value):
+    return json.dumps(value, separators=(",", ":"))
+
+
 class Monitor:
-    """The program, which answers each line by one line, and a journal of the lines that it accepted."""
+    """The program, which answers each line by one line."""
 
-    def __init__(self, words, journal=None):
-        self.journal = None
+    def __init__(self, words):
         self.process = subprocess.Popen(words, stdin=subprocess.PIPE, stdout=subprocess.PIPE, text=True, bufsize=1)
-        if journal:
-            self.send_again(journal)
-            self.journal = open(journal, "a", encoding="utf-8")
-
-    def send_again(self, journal):
-        if os.path.exists(journal):
-            with open(journal, encoding="utf-8") as lines:
-                for line in map(json.loads, lines):
-                    self.send(line)
-                    self.was_sent_before(line)
-
-    def was_sent_before(self, line):
-        """What a client keeps of a line of the journal."""
 
     def send(self, value):
         """Sends one line, and gives its answer."""
-        line = json.dumps(value, separators=(",", ":")) + "\n"
-        self.process.stdin.write(line)
+        self.process.stdin.write(compact(value) + "\n")
         self.process.stdin.flush()
         text = self.process.stdout.readline()
         if not text:
             raise EOFError("the monitor has ended")
         answer = json.loads(text)
         if "refused" in answer:
-            raise Refused(answer)
-        if self.journal:
-            self.journal.write(line)
-            self.journal.flush()
+            raise Refused(answer["refused"])
         return answer
 
     def stop(self):
@@ -69,12 +63,7 @@ class Caller(Monitor):
 class Client(Monitor):
     """Caller 0 at member 1 of a schedule, whose serials are 0, 1, 2 and so on. Each command is delivered right after it was submitted."""
 
-    def __init__(self, words, journal=None):
-        self.serial = 0
-        super().__init__(words, journal)
-
-    def was_sent_before(self, line):
-        self.serial += line["do"] == "submit"
+    serial = 0
 
     def ask(self, name, **fields):
         """Submits a command and delivers it, and gives its answer."""
@@ -87,14 +76,73 @@ class Client(Monitor):
                 return delivered["answer"]
 
 
+class Journal:
+    """The commands that were answered Done, a line each."""
+
+    def __init__(self, path):
+        self.path = path
+        self.lines = open(path, "a+b")
+
+    def commands(self):
+        """The commands with the numbers of their lines. A last line without its end was never told to anybody as done: it is cut off."""
+        self.lines.seek(0)
+        begun = 0
+        for number, line in enumerate(self.lines, 1):
+            if not line.endswith(b"\n"):
+                print(f"{self.path}:{number}: a line without an end is cut off", file=sys.stderr)
+                self.lines.truncate(begun)
+                return
+            begun += len(line)
+            try:
+                yield number, dict(json.loads(line))
+            except (ValueError, TypeError):
+                raise JournalFault(f"{self.path}:{number}: no command") from None
+
+    def add(self, command):
+        """Returns once the disk has it."""
+        self.lines.write(compact(command).encode() + b"\n")
+        self.lines.flush()
+        os.fsync(self.lines.fileno())
+
+
+def go_on(monitor, journal):
+    """Asks the commands of the journal again."""
+    for number, command in journal.commands():
+        try:
+            answer = monitor.ask(**command)
+        except Refused as refused:
+            answer = f"refused: {refused}"
+        if answer != "Done":
+            raise JournalFault(f"{journal.path}:{number}: {compact(command)} -> {compact(answer)}, and it was done before: is this its founding?")
+
+
+def answered(monitor, journal, line):
+    """What a line of COMMANDS is answered, which the journal gets where it is a change that was made."""
+    try:
+        command = dict(json.loads(line))
+        answer = monitor.ask(**command)
+    except Refused as refused:
+        return f"refused: {refused}"
+    except (ValueError, TypeError):
+        return "no command"
+    if journal and answer == "Done":
+        journal.add(command)
+    return compact(answer)
+
+
 def main(words):
-    journal = words[1] if words[:1] == ["--journal"] else None
+    journal = Journal(words[1]) if words[:1] == ["--journal"] else None
     words = words[2:] if journal else words
-    client = (Client if words[1:2] == ["play"] else Caller)(words, journal)
-    for line in sys.stdin:
-        command = json.loads(line)
-        print(line.strip(), "->", json.dumps(client.ask(**command), separators=(",", ":")), flush=True)
-    return client.stop()
+    monitor = (Client if "play" in words else Caller)(words)
+    try:
+        if journal:
+            go_on(monitor, journal)
+        for line in sys.stdin:
+            print(line.strip(), "->", answered(monitor, journal, line), flush=True)
+    except (JournalFault, EOFError) as fault:
+        monitor.stop()
+        return f"client: {fault}"
+    return monitor.stop()
 
 
 if __name__ == "__main__":

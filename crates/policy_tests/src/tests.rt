@@ -1,5 +1,6 @@
 //! What each part of a policy, and the policy, shows its callers.
 
+mod dump;
 mod hierarchy;
 mod named;
 mod policy;

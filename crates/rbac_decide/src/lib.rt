@@ -9,3 +9,5 @@ mod policy;
 mod tables;
 
 pub use policy::Policy;
+pub use rbac_separation::RoleSet;
+pub use rbac_sessions::Session;

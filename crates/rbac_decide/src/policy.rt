@@ -15,6 +15,7 @@ mod broken_sets;
 mod denial;
 mod fresh_roles;
 mod hindrance;
+mod lists;
 mod review;
 mod separation;
 mod violation;
@@ -25,6 +26,7 @@ use crate::policy::hindrance::Hindrance;
 use crate::tables::Tables;
 use rbac_separation::Counts;
 use rbac_terms::{Answer, Command, Denial, Name, Vocabulary};
+use sorted_keys::Probe;
 use std::alloc::{AllocError, Global};
 use std::marker::Model;
 
@@ -107,15 +109,20 @@ impl Policy {
     }
 
     /// Whether the session may perform the operation on the object: the answer of CheckAccess, without a command. It may exactly
-    /// where the review of the session's permissions lists it.
+    /// where the review of the session's permissions lists it. What stands for a name is a name, or one whose bytes are lent.
     ///
     /// # Errors
     /// The first denial that applies: `NoSession`, `NoOperation`, `NoObject`.
-    pub fn check(&self, session: &Name, operation: &Name, object: &Name) -> Result<bool, Denial>
-        ensures denied { IfErr result (λ denial. first_denial (Command.CheckAccess session.now operation.now object.now) self.now ≡ Some denial) }
-        ensures held { IfOk result (λ granted. granted ≡ session_holds (find name_cmp session.now self.now.sessions) self.now (operation.now, object.now)) }
-        ensures allowed { OnOk result (first_denial (Command.CheckAccess session.now operation.now object.now) self.now ≡ None) }
-        ensures listed { IfOk result (λ granted. granted ≡ has pair_cmp (operation.now, object.now) (session_permissions self.now session.now)) }
+    pub fn check<S: Probe<Name>, O: Probe<Name>, B: Probe<Name>>(
+        &self,
+        session: &S,
+        operation: &O,
+        object: &B,
+    ) -> Result<bool, Denial>
+        ensures denied { IfErr result (λ denial. first_denial (Command.CheckAccess (S.sought session.now) (O.sought operation.now) (B.sought object.now)) self.now ≡ Some denial) }
+        ensures held { IfOk result (λ granted. granted ≡ session_holds (find name_cmp (S.sought session.now) self.now.sessions) self.now (O.sought operation.now, B.sought object.now)) }
+        ensures allowed { OnOk result (first_denial (Command.CheckAccess (S.sought session.now) (O.sought operation.now) (B.sought object.now)) self.now ≡ None) }
+        ensures listed { IfOk result (λ granted. granted ≡ has pair_cmp (O.sought operation.now, B.sought object.now) (session_permissions self.now (S.sought session.now))) }
     {
         self.invariants();
         let grants = self.tables.sets.grants_of(operation, object);

@@ -104,6 +104,10 @@ impl RoleOrder for BitOrder {
         has_descendant(&self.declared, role)
     }
 
+    fn declarations(&self) -> &[(Name, Name)] {
+        self.declared.keys()
+    }
+
     fn add_role(&mut self, alloc: Global, role: &Name) -> Result<(), AllocError> {
         self.put_role(alloc, role)
     }

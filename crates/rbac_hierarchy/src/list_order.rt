@@ -95,6 +95,10 @@ impl RoleOrder for ListOrder {
         has_descendant(&self.declared, role)
     }
 
+    fn declarations(&self) -> &[(Name, Name)] {
+        self.declared.keys()
+    }
+
     fn add_role(&mut self, alloc: Global, role: &Name) -> Result<(), AllocError> {
         if self.juniors.contains(role) {
             return Ok(());

@@ -35,6 +35,10 @@ pub trait RoleOrder: Sized {
     fn has_descendant(&self, role: &Name) -> bool
         ensures { result ≡ has_descendant role.now (content self.now).declared };
 
+    /// The declared pairs (RH), an ascendant and a descendant each, sorted by both.
+    fn declarations(&self) -> &[(Name, Name)]
+        ensures { result.now ≡ (content self.now).declared };
+
     /// Adds a role. Where it is there, nothing changes. What the other roles inherit is not computed anew.
     fn add_role(&mut self, alloc: Global, role: &Name) -> Result<(), AllocError>
         ensures added { let h = content self.old in OnOk result (content self.new ≡ record h { roles = with_key name_cmp role.now h.roles }) }

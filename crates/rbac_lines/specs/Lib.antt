@@ -1,5 +1,6 @@
 pub mod Client
 pub mod Command
+pub mod CommandText
 pub mod Conversation
 pub mod Event
 pub mod Fields

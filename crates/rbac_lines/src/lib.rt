@@ -14,6 +14,7 @@ pub use conversing::converse;
 pub use desk::Desk;
 pub use line_engine::{RunFault, Summary, Watched, watch};
 pub use rbac_founding::{Founding, FoundingRefusal, read_founding, sample_founding};
-pub use reading::{kept_line_asks_the_same, read_client, read_line};
+pub use reading::{kept_line_asks_the_same, read_client, read_command, read_line};
 pub use refusal::{DeskRefusal, LineRefusal};
 pub use running::run;
+pub use text::put_answer;

@@ -5,6 +5,7 @@ ghost use Rattle.rbac_lines.specs.Fields.{Reads};
 ghost use Rattle.rbac_lines.specs.Event.{event, event_of, value_of, command_in, commands_of, submit, batch, receive, deliver};
 
 mod client;
+mod command_text;
 mod commands;
 pub(crate) mod fields;
 
@@ -14,6 +15,7 @@ use crate::reading::fields::{
 };
 use crate::refusal::LineRefusal;
 pub use client::{kept_line_asks_the_same, read_client};
+pub use command_text::read_command;
 use line_engine::LONGEST_LINE;
 use rbac_words::{Command, Commands, Event};
 use serde_json::Value;

@@ -91,7 +91,11 @@ fn put_denial(text: &mut Vec<u8>, denial: Denial) -> Result<(), AllocError>
     )
 }
 
-fn put_answer(text: &mut Vec<u8>, answer: &Answer) -> Result<(), AllocError>
+/// An answer by itself, without a line feed.
+///
+/// # Errors
+/// `AllocError` where there is no memory for it.
+pub fn put_answer(text: &mut Vec<u8>, answer: &Answer) -> Result<(), AllocError>
     ensures { OnOk result (text.new.items ≡ text.old.items ++ answer_text answer.now) }
 {
     match answer {

@@ -279,20 +279,10 @@ fn expect_fault<T: Files + AllocGlobal + Threads + Wait + Clock + Abort + Copy +
     assert!(rt; errors.as_slice() == line.as_bytes());
 }
 
-// Its second permission speaks of an object that is not listed.
-const UNLISTED_OBJECT: &[u8] = b"version = 1
-members = 1
-operations = [\"read\"]
-objects = [\"ledger\"]
-permissions = [[\"read\", \"ledger\"], [\"read\", \"invoice\"]]
-";
-
 #[test]
-fn tells_a_fault_in_one_line(rt: HostRuntime) -> Result<(), Fail> {
+fn tells_a_fault_in_one_line(rt: HostRuntime) {
     let no_schedule = "no/schedule.jsonl";
     let no_founding = "no/founding.toml";
-    fs::write(&rt, "version_3.toml", b"version = 3\n")?;
-    fs::write(&rt, "unlisted_object.toml", UNLISTED_OBJECT)?;
     expect_fault(
         &rt,
         no_founding,
@@ -302,26 +292,59 @@ fn tells_a_fault_in_one_line(rt: HostRuntime) -> Result<(), Fail> {
     expect_fault(&rt, "/", "-", "rbac_monitor: file: /\n");
     expect_fault(
         &rt,
-        "version_3.toml",
-        no_schedule,
-        "rbac_monitor: founding: BadVersion\n",
-    );
-    expect_fault(
-        &rt,
-        "unlisted_object.toml",
-        no_schedule,
-        "rbac_monitor: founding: UnknownName\n",
-    );
-    expect_fault(
-        &rt,
         "-",
         no_schedule,
         "rbac_monitor: file: no/schedule.jsonl\n",
     );
     expect_fault(&rt, "-", "/", "rbac_monitor: run: Read\n");
-    fs::remove_file(&rt, "version_3.toml")?;
-    fs::remove_file(&rt, "unlisted_object.toml")?;
+}
+
+/// A file of these bytes is no founding, which this line tells before the schedule is looked for.
+fn expect_refused_founding<
+    T: Files + AllocGlobal + Threads + Wait + Clock + Abort + Copy + Send + Sync,
+>(rt: &T, file: &[u8], line: &str) -> Result<(), Fail> {
+    fs::write(rt, "refused.toml", file)?;
+    expect_fault(rt, "refused.toml", "no/schedule.jsonl", line);
+    fs::remove_file(rt, "refused.toml")?;
     Ok(())
+}
+
+#[test]
+fn tells_each_refusal_of_a_founding(rt: HostRuntime) -> Result<(), Fail> {
+    for (file, line) in [
+        ("version", "rbac_monitor: founding: NotToml\n"),
+        ("version = 3", "rbac_monitor: founding: BadVersion\n"),
+        (
+            "version = 1\nother = 1",
+            "rbac_monitor: founding: UnknownKey\n",
+        ),
+        ("version = 1", "rbac_monitor: founding: MissingKey\n"),
+        (
+            "version = 1\nmembers = '1'\noperations = []\nobjects = []\npermissions = []",
+            "rbac_monitor: founding: WrongKind\n",
+        ),
+        (
+            "version = 1\nmembers = 9\noperations = []\nobjects = []\npermissions = []",
+            "rbac_monitor: founding: OutOfRange\n",
+        ),
+        (
+            "version = 1\nmembers = 1\noperations = ['']\nobjects = []\npermissions = []",
+            "rbac_monitor: founding: BadName\n",
+        ),
+        (
+            "version = 1\nmembers = 1\noperations = ['a', 'a']\nobjects = []\npermissions = []",
+            "rbac_monitor: founding: Repeated\n",
+        ),
+        (
+            "version = 1\nmembers = 1\noperations = ['a']\nobjects = []\npermissions = [['a', 'b']]",
+            "rbac_monitor: founding: UnknownName\n",
+        ),
+    ] {
+        expect_refused_founding(&rt, file.as_bytes(), line)?;
+    }
+    let mut long = Vec::new(rt.alloc());
+    long.resize(1_048_577, b' ')?;
+    expect_refused_founding(&rt, &long, "rbac_monitor: founding: TooLong\n")
 }
 
 /// Fails at each call.
@@ -338,33 +361,33 @@ impl Write for Broken {
     }
 }
 
-/// Serving callers by the members of this founding ends with status 1 and this line.
-fn expect_serving_fault<
+/// A call with these words after the program's name ends with status 1 and this line.
+fn expect_run_fault<
     T: Files + AllocGlobal + Threads + Wait + Clock + Abort + Copy + Send + Sync,
     R: Read + Drop,
     W: Write + Drop,
->(rt: &T, founding: &str, reader: R, writer: W, line: &str) {
+>(rt: &T, words: &[&str], reader: R, writer: W, line: &str) {
     let mut errors = Vec::new(rt.alloc());
-    let words = ["rbac_monitor", "serve", founding];
-    let status = command(rt, &words, reader, writer, &mut errors);
+    let status = command(rt, words, reader, writer, &mut errors);
     assert_eq!(rt; status, 1);
     assert!(rt; errors.as_slice() == line.as_bytes());
 }
 
 #[test]
-fn tells_a_fault_of_serving_in_one_line(rt: HostRuntime) {
+fn tells_a_fault_of_a_stream_in_one_line(rt: HostRuntime) {
     let mut output = Vec::new(rt.alloc());
-    expect_serving_fault(
-        &rt,
-        "no/founding.toml",
-        SERVED,
-        &mut output,
-        "rbac_monitor: file: no/founding.toml\n",
-    );
+    let serve = ["rbac_monitor", "serve", "-"];
+    let read = "rbac_monitor: run: Read\n";
     let fails = Blanks { left: 10 };
-    expect_serving_fault(&rt, "-", fails, &mut output, "rbac_monitor: run: Read\n");
+    expect_run_fault(&rt, &serve, fails, &mut output, read);
+    let fails = Blanks { left: 10 };
+    expect_run_fault(&rt, &["rbac_monitor"], fails, &mut output, read);
+    let unread = ["rbac_monitor", "serve", "no/founding.toml"];
+    let file = "rbac_monitor: file: no/founding.toml\n";
+    expect_run_fault(&rt, &unread, SERVED, &mut output, file);
     assert!(rt; output.is_empty());
-    expect_serving_fault(&rt, "-", SERVED, Broken, "rbac_monitor: run: Write\n");
+    let write = "rbac_monitor: run: Write\n";
+    expect_run_fault(&rt, &serve, SERVED, Broken, write);
 }
 
 #[test]

@@ -30,8 +30,8 @@ const SAMPLE_AND_INPUT: Play<'static> = Play {
 const ABOUT: &str =
     "Takes commands of role-based access control, one JSON object a line, and answers each line";
 
-// The last founding format that is read, the date of this version, and the kit that it is proved with.
-const VERSION: &str = "2 (2026-11-26, rattle-kit-13f logic dac8208d650f15bf)";
+// The last founding format that is read, the date of this version, and the logic that it is proved in, which several kits have.
+const VERSION: &str = "2 (2026-11-26, rattle logic dac8208d650f15bf)";
 
 const AFTER_HELP: &str = "\
 Without words: the same as 'play - -'.

@@ -11,7 +11,7 @@ use crate::assigned::{RolesOf, UsersOf};
 use crate::change::{Change, Step};
 use crate::removal::{OtherRoles, OtherUsers};
 use rbac_terms::{Name, NameSet};
-use sorted_keys::{KeyTest, PairProbe, SortedSet};
+use sorted_keys::{KeyTest, PairProbe, Probe, SortedSet};
 use staged::Staged;
 use std::alloc::{AllocError, Global};
 use std::marker::Model;
@@ -69,6 +69,27 @@ impl RoleSets {
         self.users.keys()
     }
 
+    /// The roles, sorted by their bytes.
+    pub fn roles(&self) -> &[Name]
+        ensures { result.now ≡ self.now.content.roles }
+    {
+        self.roles.keys()
+    }
+
+    /// The pairs of UA, a user and a role each, sorted by user and role.
+    pub fn assignments(&self) -> &[(Name, Name)]
+        ensures { result.now ≡ self.now.content.assigned }
+    {
+        self.assigned.keys()
+    }
+
+    /// The pairs of PA, a permission and a role each, sorted by operation, object and role.
+    pub fn grants(&self) -> &[((Name, Name), Name)]
+        ensures { result.now ≡ self.now.content.granted }
+    {
+        self.granted.keys()
+    }
+
     /// How many roles there are.
     pub fn role_count(&self) -> usize
         ensures { result ≡ length self.now.content.roles }
@@ -112,8 +133,12 @@ impl RoleSets {
     }
 
     /// The grants of an operation on an object.
-    pub fn grants_of(&self, operation: &Name, object: &Name) -> &[((Name, Name), Name)]
-        ensures { result.now ≡ filter (λ grant. eq_by_cmp pair_cmp (operation.now, object.now) grant.0) self.now.content.granted }
+    pub fn grants_of<P: Probe<Name>, Q: Probe<Name>>(
+        &self,
+        operation: &P,
+        object: &Q,
+    ) -> &[((Name, Name), Name)]
+        ensures { result.now ≡ filter (λ grant. eq_by_cmp pair_cmp (P.sought operation.now, Q.sought object.now) grant.0) self.now.content.granted }
     {
         self.granted.beginning_with(&pair(operation, object))
     }

@@ -7,6 +7,7 @@ mod cells;
 mod helping;
 mod hints;
 mod nodes;
+mod refused_calls;
 
 use crate::{
     AuditRefusal, AwaitRefusal, CallRefusal, Courier, EnrollRefusal, Gate, GroupName, Hint,
@@ -50,8 +51,12 @@ impl Courier for Lost {
     }
 }
 
+// A name, which is read again where a growth is refused.
 pub(crate) fn name(rt: &impl Abort, alloc: Global, text: &str) -> Name {
-    Name::read(alloc, text.as_bytes()).expect(rt, "a name")
+    match Name::read(alloc, text.as_bytes()) {
+        Ok(name) => name,
+        Err(_) => Name::read(alloc, text.as_bytes()).expect(rt, "a name"),
+    }
 }
 
 // The command that adds ann.
@@ -74,7 +79,7 @@ pub(crate) struct Founding {
     pub(crate) rows: Rows,
 }
 
-// The founding of so many members with these words, who may send so much.
+// The founding of so many members with these words, who may send so much. Its rows are made again where a growth is refused.
 fn founding_with(
     rt: &impl Abort,
     alloc: Global,
@@ -86,7 +91,10 @@ fn founding_with(
     ensures rows { length result.rows.sent ≡ members }
 {
     let group = Group::build(members, 0, sent_limit).expect(rt, "a group");
-    let rows = Rows::found(alloc, group).expect(rt, "memory");
+    let rows = match Rows::found(alloc, group) {
+        Ok(rows) => rows,
+        Err(_) => Rows::found(alloc, group).expect(rt, "memory"),
+    };
     Founding { group, words, rows }
 }
 

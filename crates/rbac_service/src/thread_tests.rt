@@ -3,6 +3,7 @@ ghost use Rattle.std.specs.Prelude.{◌≡◌, length};
 
 mod serving;
 mod silent;
+mod stopping;
 
 use crate::tests::{Founding, founding_of};
 use crate::{
@@ -203,51 +204,7 @@ fn a_call_is_held_while_another_is_answered(rt: HostRuntime) {
     run_with_gate::<Brand, _>(&rt, rt.alloc(), founding);
 }
 
-// Loses every second hint, gives every third one twice where it is not lost, and sweeps in each tenth turn.
-#[derive(Drop)]
-struct Unreliable<R: Wait + Clock + Drop> {
-    courier: ChannelCourier<R>,
-    hints: AtomicU64,
-    turns: AtomicU64,
-}
-
-impl<R: Wait + Clock + Drop> Courier for Unreliable<R> {
-    fn tell(&self, to: u32, hint: Hint) {
-        let count = self.hints.fetch_add(1, Ordering::SeqCst);
-        if count % 2 == 1 {
-            return;
-        }
-        self.courier.tell(to, hint);
-        if count % 3 == 2 {
-            self.courier.tell(to, hint);
-        }
-    }
-
-    fn next(&self, at: u32) -> Wake {
-        let count = self.turns.fetch_add(1, Ordering::SeqCst);
-        if count % 10 == 9 {
-            return Wake::Sweep;
-        }
-        self.courier.next(at)
-    }
-}
-
-fn lossy_courier<R: Wait + Clock + Abort + Copy + Drop>(rt: &R, alloc: Global) -> Unreliable<R> {
-    Unreliable {
-        courier: ChannelCourier::found(*rt, alloc, 2).expect(rt, "memory"),
-        hints: AtomicU64::new(0),
-        turns: AtomicU64::new(0),
-    }
-}
-
-#[test]
-fn lost_and_repeated_hints_lose_no_answer(rt: HostRuntime) {
-    let alloc = rt.alloc();
-    let courier = lossy_courier(&rt, alloc);
-    run_with::<Brand, _, _>(&rt, alloc, small_founding(&rt, alloc), courier, 6, 12);
-}
-
-// Two channels. It waits for a hint, and never sweeps.
+// A channel for each of two members.
 #[derive(Drop)]
 struct Patient<R: Wait + Drop> {
     rt: R,
@@ -256,6 +213,15 @@ struct Patient<R: Wait + Drop> {
 }
 
 impl<R: Wait + Drop> Patient<R> {
+    fn found(rt: R, alloc: Global) -> Patient<R>
+    where
+        R: Abort,
+    {
+        let first = unbounded(alloc).expect(&rt, "memory");
+        let second = unbounded(alloc).expect(&rt, "memory");
+        Patient { rt, first, second }
+    }
+
     fn channel(&self, member: u32) -> &(Sender<Hint>, Receiver<Hint>) {
         if member == 1 {
             &self.first
@@ -265,6 +231,7 @@ impl<R: Wait + Drop> Patient<R> {
     }
 }
 
+// It waits for a hint, and never sweeps.
 impl<R: Wait + Drop> Courier for Patient<R> {
     fn tell(&self, to: u32, hint: Hint) {
         let _lost = self.channel(to).0.send(&self.rt, hint);
@@ -282,10 +249,104 @@ impl<R: Wait + Drop> Courier for Patient<R> {
 #[test]
 fn hints_alone_bring_answers_and_the_stop(rt: HostRuntime) {
     let alloc = rt.alloc();
-    let courier = Patient {
-        rt,
-        first: unbounded(alloc).expect(&rt, "memory"),
-        second: unbounded(alloc).expect(&rt, "memory"),
-    };
+    let courier = Patient::found(rt, alloc);
     run_with::<Brand, _, _>(&rt, alloc, small_founding(&rt, alloc), courier, 6, 12);
+}
+
+// Draws by a seed what comes of each hint: it is lost, given twice, kept back until a later one is, or given. A wake may be a sweep,
+// or tell of members that the group does not have, of the member itself, or of a number that was read.
+#[derive(Drop)]
+struct Hostile<R: Wait + Clock + Drop> {
+    channels: Patient<R>,
+    kept: (Sender<(u32, Hint)>, Receiver<(u32, Hint)>),
+    drawn: AtomicU64,
+}
+
+impl<R: Wait + Clock + Drop> Hostile<R> {
+    // The next one of eight.
+    fn draw(&self) -> u64 {
+        let drawn = self
+            .drawn
+            .fetch_add(0x9E37_79B9_7F4A_7C15, Ordering::SeqCst);
+        (drawn ^ drawn >> 31).wrapping_mul(0xBF58_476D_1CE4_E5B9) >> 61
+    }
+
+    // Keeps a hint back, and gives the one that was kept before it.
+    fn keep(&self, to: u32, hint: Hint) {
+        let before = self.kept.1.try_recv(&self.channels.rt);
+        let _lost = self.kept.0.send(&self.channels.rt, (to, hint));
+        if let Ok((to, hint)) = before {
+            self.channels.tell(to, hint);
+        }
+    }
+
+    // A hint, or a sweep where none comes for five milliseconds.
+    fn wait(&self, at: u32) -> Wake {
+        let channel = self.channels.channel(at);
+        match channel
+            .1
+            .recv_timeout(&self.channels.rt, Duration::from_millis(5))
+        {
+            Ok(hint) => Wake::Hint(hint),
+            Err(_) => Wake::Sweep,
+        }
+    }
+}
+
+impl<R: Wait + Clock + Drop> Courier for Hostile<R> {
+    fn tell(&self, to: u32, hint: Hint) {
+        match self.draw() {
+            0 | 1 => {}
+            2 | 3 => {
+                self.channels.tell(to, hint);
+                self.channels.tell(to, hint);
+            }
+            4 | 5 => self.keep(to, hint),
+            _ => self.channels.tell(to, hint),
+        }
+    }
+
+    fn next(&self, at: u32) -> Wake {
+        let (from, number) = match self.draw() {
+            0 => return Wake::Sweep,
+            1 => (0, 1),
+            2 => (3, usize::MAX),
+            3 => (u32::MAX, 1),
+            4 => (at, usize::MAX),
+            // the other one's first message
+            5 => (3 - at.min(3), 1),
+            _ => return self.wait(at),
+        };
+        Wake::Hint(Hint { from, number })
+    }
+}
+
+fn hostile_courier<R: Wait + Clock + Abort + Copy + Drop>(
+    rt: &R,
+    alloc: Global,
+    seed: u64,
+) -> Hostile<R> {
+    Hostile {
+        channels: Patient::found(*rt, alloc),
+        kept: unbounded(alloc).expect(rt, "memory"),
+        drawn: AtomicU64::new(seed),
+    }
+}
+
+// Two callers of six commands each, and the courier of a seed.
+fn run_seed<R: Threads + Wait + Clock + Abort + Copy + Drop + Send + Sync>(
+    rt: &R,
+    alloc: Global,
+    seed: u64,
+) {
+    let courier = hostile_courier(rt, alloc, seed);
+    let founding = small_founding(rt, alloc);
+    run_with::<Brand, _, _>(rt, alloc, founding, courier, 6, 12);
+}
+
+#[test]
+fn hostile_hints_lose_no_answer(rt: HostRuntime) {
+    for seed in 0..20 {
+        run_seed(&rt, rt.alloc(), seed);
+    }
 }

@@ -10,7 +10,7 @@ ghost use Rattle.rbac_terms.specs.Name.{Name as NameValue, name_cmp};
 use crate::change::{Activation, Deactivation};
 use crate::session::Session;
 use rbac_terms::{Name, NameSet};
-use sorted_keys::{EntryTest, SortedMap};
+use sorted_keys::{EntryTest, Probe, SortedMap};
 use std::alloc::{AllocError, Global};
 use std::marker::Model;
 
@@ -77,10 +77,17 @@ impl Sessions {
     }
 
     /// The session of this name.
-    pub fn get(&self, session: &Name) -> Option<&Session>
-        ensures { option_copied result ≡ find name_cmp session.now self.now.content }
+    pub fn get<P: Probe<Name>>(&self, session: &P) -> Option<&Session>
+        ensures { option_copied result ≡ find name_cmp (P.sought session.now) self.now.content }
     {
         self.sessions.get(session)
+    }
+
+    /// The sessions with their names, sorted by these.
+    pub fn entries(&self) -> &[(Name, Session)]
+        ensures { result.now ≡ self.now.content }
+    {
+        self.sessions.entries()
     }
 
     /// The owner of the session.

@@ -16,7 +16,7 @@ pub mod vocabulary;
 pub use answer::{Answer, Denial};
 pub use command::Command;
 pub use hierarchy_kind::HierarchyKind;
-pub use name::{Name, NameRefusal};
+pub use name::{LentName, Name, NameRefusal};
 pub use name_set::NameSet;
 pub use permission_set::PermissionSet;
 pub use review::Review;

@@ -4,7 +4,10 @@ ghost use Rattle.std.specs.List.{list_all};
 ghost use Rattle.rbac_terms.specs.Name.{is_name_byte as is_byte_of_a_name, is_name as is_a_name};
 ghost use Rattle.rbac_terms.specs.Keeping.Prefix.{first_bytes};
 
+mod lent;
+
 use crate::limits::LONGEST_NAME;
+pub use lent::LentName;
 use smallvec::SmallVec;
 use sorted_keys::{Duplicate, Exact, Same};
 use std::alloc::{AllocError, Global};

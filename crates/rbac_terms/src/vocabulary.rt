@@ -12,7 +12,7 @@ use crate::limits::{MOST_OBJECTS, MOST_OPERATIONS, MOST_PERMISSIONS};
 use crate::name::Name;
 use crate::name_set::NameSet;
 use crate::permission_set::PermissionSet;
-use sorted_keys::{Exact, KeyTest, PairProbe, SortedSet};
+use sorted_keys::{Exact, KeyTest, PairProbe, Probe, SortedSet};
 use std::alloc::{AllocError, Global};
 use std::marker::Model;
 use thiserror::Error;
@@ -132,15 +132,15 @@ impl Vocabulary {
     }
 
     /// Whether it is one of the operations.
-    pub fn has_operation(&self, operation: &Name) -> bool
-        ensures { result ≡ has name_cmp operation.now self.now.operations }
+    pub fn has_operation<P: Probe<Name>>(&self, operation: &P) -> bool
+        ensures { result ≡ has name_cmp (P.sought operation.now) self.now.operations }
     {
         self.operations.contains(operation)
     }
 
     /// Whether it is one of the objects.
-    pub fn has_object(&self, object: &Name) -> bool
-        ensures { result ≡ has name_cmp object.now self.now.objects }
+    pub fn has_object<P: Probe<Name>>(&self, object: &P) -> bool
+        ensures { result ≡ has name_cmp (P.sought object.now) self.now.objects }
     {
         self.objects.contains(object)
     }

@@ -5,10 +5,10 @@ ghost use Rattle.std.specs.Ordering.{eq_by_cmp};
 ghost use Rattle.rbac_terms.specs.Name.{name_cmp};
 
 use rbac_terms::{
-    Command, Denial, HierarchyKind, Name, NameRefusal, NameSet, PermissionSet, Vocabulary,
-    VocabularyRefusal,
+    Command, Denial, HierarchyKind, LentName, Name, NameRefusal, NameSet, PermissionSet,
+    Vocabulary, VocabularyRefusal,
 };
-use sorted_keys::{KeyTest, Same};
+use sorted_keys::{KeyTest, Probe, Same};
 use std::alloc::Global;
 use std::process::Abort;
 
@@ -70,8 +70,15 @@ fn expect_read(rt: &impl Abort, alloc: Global, good: &[u8]) {
     assert!(rt; copy == name);
 }
 
+// Neither a name of its own nor one that is lent.
 fn is_bad(alloc: Global, bad: &[u8]) -> bool {
-    matches!(Name::read(alloc, bad), Err(NameRefusal::BadName))
+    matches!(Name::read(alloc, bad), Err(NameRefusal::BadName)) && LentName::read(bad).is_none()
+}
+
+// How a name stands to another, and to the lent bytes of the other.
+fn expect_order(rt: &impl Abort, name: &Name, other: &Name) {
+    let lent = LentName::read(other.as_bytes()).expect(rt, "a name");
+    assert_eq!(rt; lent.compare(name), name.cmp(other));
 }
 
 #[test]
@@ -123,6 +130,9 @@ fn names_are_ordered_by_bytes(rt: HostRuntime) {
     );
     for (first, second) in rising.iter().zip(rising.iter().skip(1)) {
         assert!(rt; first < second && first != second);
+        expect_order(&rt, first, second);
+        expect_order(&rt, second, first);
+        expect_order(&rt, first, first);
     }
     drop(rising);
 }

@@ -1,7 +1,9 @@
 //! Conversations of `rbac_lines` with a desk in memory, which lists whom it was asked for.
 ghost use Rattle.std.specs.Prelude.{◌≡◌, ◌++◌, ◌∷◌, []};
 
-use crate::tests::failing::{FailingReader, FailingWriter, STEP, expect_whole_texts, read_before};
+use crate::tests::failing::{
+    FailingReader, FailingWriter, FullWriter, STEP, expect_whole_texts, read_before,
+};
 use rbac_lines::{Desk, DeskRefusal, RunFault, Summary, converse, watch};
 use rbac_words::{Answer, Command, Denial};
 use std::alloc::{AllocError, Global};
@@ -124,35 +126,9 @@ fn ends_without_memory(rt: HostRuntime) {
     }
 }
 
-/// Takes so many bytes, and fails after them.
-#[derive(Drop)]
-struct Full {
-    taken: Vec<u8>,
-    room: usize,
-}
-
-impl Write for Full {
-    fn write(&mut self, buf: &[u8]) -> io::Result<usize> {
-        let count = buf.len().min(self.room);
-        self.room -= count;
-        if count == 0 {
-            return Err(Error::from(ErrorKind::StorageFull));
-        }
-        self.taken.extend_from_slice(&buf[..count])?;
-        Ok(count)
-    }
-
-    fn flush(&mut self) -> io::Result<()> {
-        Ok(())
-    }
-}
-
 #[test]
 fn stops_where_the_writer_does(rt: HostRuntime) {
-    let mut full = Full {
-        taken: Vec::new(rt.alloc()),
-        room: 60,
-    };
+    let mut full = FullWriter::of(rt.alloc(), 60);
     let ended = Err(RunFault::Write);
     expect_conversation(&rt, rt.alloc(), INPUT, &mut full, 8, ended, &[2]);
     assert_eq!(rt;

@@ -1,4 +1,4 @@
-//! A reader and a writer that fail once, at a call that a test picks.
+//! A reader and a writer that fail once, at a call that a test picks, and a writer that is full after some bytes.
 
 use std::alloc::Global;
 use std::io;
@@ -66,6 +66,38 @@ impl Write for FailingWriter {
         }
         self.before = self.before.saturating_sub(1);
         let count = buf.len().min(STEP);
+        self.taken.extend_from_slice(&buf[..count])?;
+        Ok(count)
+    }
+
+    fn flush(&mut self) -> io::Result<()> {
+        Ok(())
+    }
+}
+
+/// Takes so many bytes, and fails after them.
+#[derive(Drop)]
+pub(crate) struct FullWriter {
+    pub(crate) taken: Vec<u8>,
+    room: usize,
+}
+
+impl FullWriter {
+    pub(crate) fn of(alloc: Global, room: usize) -> FullWriter {
+        FullWriter {
+            taken: Vec::new(alloc),
+            room,
+        }
+    }
+}
+
+impl Write for FullWriter {
+    fn write(&mut self, buf: &[u8]) -> io::Result<usize> {
+        let count = buf.len().min(self.room);
+        self.room -= count;
+        if count == 0 {
+            return Err(Error::from(ErrorKind::StorageFull));
+        }
         self.taken.extend_from_slice(&buf[..count])?;
         Ok(count)
     }

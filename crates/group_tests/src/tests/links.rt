@@ -128,6 +128,23 @@ fn stamps_are_the_senders_and_rise(rt: HostRuntime) {
     expect_latest(&rt, &links, [None, Some(stamp(u64::MAX, 2)), None]);
 }
 
+#[test]
+fn the_largest_number_and_stamp(rt: HostRuntime) {
+    let mut links = links();
+    let largest = placed(u64::MAX, u32::MAX, u32::MAX);
+    let unknown = Err(LinkRefusal::UnknownMember);
+    expect_answer(&rt, &mut links, u32::MAX, u32::MAX, largest, unknown);
+    let itself = Err(LinkRefusal::FromSelf);
+    expect_answer(&rt, &mut links, 1, u32::MAX, largest, itself);
+    let gap = Err(LinkRefusal::Gap { expected: 1 });
+    expect_answer(&rt, &mut links, 2, u32::MAX, largest, gap);
+    let fallen = Err(LinkRefusal::StampNotRising);
+    expect_answer(&rt, &mut links, 2, 1, largest, fallen);
+    expect_answer(&rt, &mut links, 2, 1, stamp(u64::MAX, 2), Ok(()));
+    let repeat = Err(LinkRefusal::Repeat { expected: 2 });
+    expect_answer(&rt, &mut links, 2, 1, largest, repeat);
+}
+
 // Sends an acknowledgement, and compares the number that it gets.
 fn expect_sent(rt: &impl Abort, outbox: &mut Outbox, wanted: u32) {
     let number = match outbox.push(Message::Ack {

@@ -2,10 +2,10 @@
 //! With ample memory each goes well at once; `bench/hostile/refuse_each_growth` runs these tests with each growth refused in turn.
 
 use crate::tests::stamps::stamp;
-use rbac_founding::{Founding, FoundingRefusal, read_founding};
+use rbac_founding::{Founding, FoundingRefusal, read_founding, sample_founding};
 use rbac_lines::{LineRefusal, RunFault, Summary, read_client, read_line, run, watch};
 use rbac_member::{Member, ReceiveRefusal, SubmitRefusal};
-use rbac_words::{Command, Commands, Group, Message, Name, Stamp, Vocabulary};
+use rbac_words::{Answer, Command, Commands, Group, Message, Name, Stamp, Vocabulary};
 use rbac_world::{Event, Outcome, Refusal, Stopped, World, play};
 use std::alloc::Global;
 use std::process::Abort;
@@ -294,6 +294,112 @@ fn a_day_that_is_gone_on_with(rt: HostRuntime) {
     drop(events);
     assert_eq!(rt; histories(&rt, &world), (2, 1));
     drop(world);
+}
+
+// The commands of the first day, as lines.
+const FIRST_DAY: [&str; 6] = [
+    r#"{"do":"submit","at":1,"caller":0,"serial":0,"command":{"name":"AddUser","user":"ann"}}"#,
+    r#"{"do":"submit","at":1,"caller":0,"serial":1,"command":{"name":"AddRole","role":"clerk"}}"#,
+    r#"{"do":"submit","at":1,"caller":0,"serial":2,"command":{"name":"AssignUser","user":"ann","role":"clerk"}}"#,
+    r#"{"do":"submit","at":1,"caller":0,"serial":3,"command":{"name":"GrantPermission","operation":"read","object":"ledger","role":"clerk"}}"#,
+    r#"{"do":"submit","at":1,"caller":0,"serial":4,"command":{"name":"CreateSession","user":"ann","session":"s1","roles":["clerk"]}}"#,
+    r#"{"do":"submit","at":1,"caller":0,"serial":5,"command":{"name":"CheckAccess","session":"s1","operation":"read","object":"ledger"}}"#,
+];
+
+fn event(rt: &impl Abort, alloc: Global, line: &str) -> Event {
+    let event = match read_line(alloc, line.as_bytes()) {
+        Ok(event) => Ok(event),
+        Err(_) => read_line(alloc, line.as_bytes()),
+    };
+    event.ok().expect(rt, "an event")
+}
+
+// The day's twelve events: each command is submitted and delivered.
+fn first_day(rt: &impl Abort, alloc: Global) -> Vec<Event> {
+    let mut events = match Vec::with_capacity(alloc, 12) {
+        Ok(room) => room,
+        Err(_) => Vec::with_capacity(alloc, 12).expect(rt, "memory"),
+    };
+    for line in FIRST_DAY {
+        events.push(event(rt, alloc, line)).expect(rt, "memory");
+        let deliver = Event::Deliver { at: 1 };
+        events.push(deliver).expect(rt, "memory");
+    }
+    events
+}
+
+// Whether it is the outcome of the day's event at this place.
+fn is_of_the_day(outcome: &Result<Outcome, Refusal>, place: usize) -> bool {
+    let command = place / 2;
+    let wanted = if place % 2 == 0 {
+        Outcome::Submitted(stamp(command as u64 + 1, 1))
+    } else {
+        Outcome::Delivered(Some(command))
+    };
+    *outcome == Ok(wanted)
+}
+
+// Whether these are the outcomes of the day from a place on, to its end.
+fn are_of_the_day(outcomes: &[Result<Outcome, Refusal>], from: usize) -> bool {
+    let places = from..12;
+    places.len() == outcomes.len()
+        && outcomes
+            .iter()
+            .zip(places)
+            .all(|(outcome, place)| is_of_the_day(outcome, place))
+}
+
+// The world of the sample founding after the day, which is gone on with where a growth is refused.
+fn after_the_day(rt: &impl Abort, alloc: Global, events: &[Event]) -> World {
+    let mut world = sample_world(rt, alloc);
+    match play(&mut world, alloc, events) {
+        Ok(outcomes) => assert!(rt; are_of_the_day(outcomes.as_slice(), 0)),
+        Err(Stopped { done }) => {
+            assert!(rt; done <= events.len());
+            let rest = play(&mut world, alloc, &events[done..]).expect(rt, "memory");
+            assert!(rt; are_of_the_day(rest.as_slice(), done));
+        }
+    }
+    world
+}
+
+fn sample_world(rt: &impl Abort, alloc: Global) -> World {
+    let founded = match sample_founding(alloc) {
+        Ok(founding) => World::found(alloc, founding.group, founding.vocabulary).ok(),
+        Err(_) => None,
+    };
+    match founded {
+        Some(world) => world,
+        None => {
+            let founding = sample_founding(alloc).ok().expect(rt, "a founding");
+            World::found(alloc, founding.group, founding.vocabulary).expect(rt, "memory")
+        }
+    }
+}
+
+fn have_the_same_policy(rt: &impl Abort, world: &World, other: &World) -> bool {
+    let one = world.member(1).expect(rt, "a member");
+    let other = other.member(1).expect(rt, "a member");
+    one.policy().same(other.policy())
+}
+
+// Whether the check at the end of the day was granted.
+fn is_granted(rt: &impl Abort, world: &World) -> bool {
+    let member = world.member(1).expect(rt, "a member");
+    let last = member.history().last().expect(rt, "a record");
+    matches!(last.answer, Answer::Granted)
+}
+
+#[test]
+fn a_first_day_that_is_gone_on_with(rt: HostRuntime) {
+    let alloc = rt.alloc();
+    let events = first_day(&rt, alloc);
+    let world = after_the_day(&rt, alloc, events.as_slice());
+    let other = after_the_day(&rt, alloc, events.as_slice());
+    drop(events);
+    assert!(rt; have_the_same_policy(&rt, &world, &other) && is_granted(&rt, &world));
+    drop(world);
+    drop(other);
 }
 
 const LINE: &[u8] =

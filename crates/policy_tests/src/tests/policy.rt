@@ -1,8 +1,10 @@
 //! Each public call of `rbac_decide` with ample memory, and the limits of roles and sets. What commands answer is played by the goldens.
 
-use super::named::{name, name_set, names};
-use rbac_decide::Policy;
-use rbac_terms::{Answer, Command, Denial, HierarchyKind, Review, Separation, Vocabulary};
+use super::named::{assert_called, name, name_set, names};
+use rbac_decide::{Policy, Session};
+use rbac_terms::{
+    Answer, Command, Denial, HierarchyKind, LentName, Name, Review, Separation, Vocabulary,
+};
 use std::alloc::Global;
 use std::process::Abort;
 
@@ -19,7 +21,7 @@ fn words(rt: &impl Abort, alloc: Global) -> Vocabulary {
     .expect(rt, "a vocabulary")
 }
 
-fn founded(rt: &impl Abort, alloc: Global) -> Policy {
+pub(super) fn founded(rt: &impl Abort, alloc: Global) -> Policy {
     Policy::found(alloc, words(rt, alloc))
 }
 
@@ -35,7 +37,7 @@ fn expect_answer(
     assert!(rt; answer.same(&wanted));
 }
 
-fn expect_done(rt: &impl Abort, alloc: Global, policy: &mut Policy, command: Command) {
+pub(super) fn expect_done(rt: &impl Abort, alloc: Global, policy: &mut Policy, command: Command) {
     expect_answer(rt, alloc, policy, command, Answer::Done);
 }
 
@@ -54,7 +56,7 @@ fn assign(rt: &impl Abort, alloc: Global, policy: &mut Policy, user: &str, role:
     expect_done(rt, alloc, policy, Command::AssignUser { user, role });
 }
 
-fn grant(rt: &impl Abort, alloc: Global, policy: &mut Policy, role: &str) {
+pub(super) fn grant(rt: &impl Abort, alloc: Global, policy: &mut Policy, role: &str) {
     let command = Command::GrantPermission {
         operation: name(rt, alloc, "read"),
         object: name(rt, alloc, "ledger"),
@@ -63,7 +65,7 @@ fn grant(rt: &impl Abort, alloc: Global, policy: &mut Policy, role: &str) {
     expect_done(rt, alloc, policy, command);
 }
 
-fn open_session(
+pub(super) fn open_session(
     rt: &impl Abort,
     alloc: Global,
     policy: &mut Policy,
@@ -155,6 +157,11 @@ fn is_answered(answer: Result<bool, Denial>, wanted: Result<bool, u32>) -> bool 
     }
 }
 
+fn lent<'a>(rt: &impl Abort, text: &'a str) -> LentName<'a> {
+    LentName::read(text.as_bytes()).expect(rt, "a name")
+}
+
+// By names, and by names whose bytes are lent.
 fn expect_check(
     rt: &impl Abort,
     alloc: Global,
@@ -166,6 +173,10 @@ fn expect_check(
     let operation = name(rt, alloc, words[1]);
     let object = name(rt, alloc, words[2]);
     let answer = policy.check(&session, &operation, &object);
+    assert!(rt; is_answered(answer, wanted));
+    let [session, operation, object] = words;
+    let (session, operation) = (lent(rt, session), lent(rt, operation));
+    let answer = policy.check(&session, &operation, &lent(rt, object));
     assert!(rt; is_answered(answer, wanted));
 }
 
@@ -185,6 +196,80 @@ fn checks_without_a_command(rt: HostRuntime) {
     }
     drop(policy);
     drop(copy);
+}
+
+fn declare_boss(rt: &impl Abort, alloc: Global, policy: &mut Policy) {
+    let command = Command::AddAscendant {
+        ascendant: name(rt, alloc, "boss"),
+        descendant: name(rt, alloc, "clerk"),
+    };
+    expect_done(rt, alloc, policy, command);
+}
+
+fn expect_pairs(rt: &impl Abort, pairs: &[(Name, Name)], wanted: (&str, &str)) {
+    assert_eq!(rt; pairs.len(), 1);
+    for (first, second) in pairs {
+        assert_eq!(rt; first.as_bytes(), wanted.0.as_bytes());
+        assert_eq!(rt; second.as_bytes(), wanted.1.as_bytes());
+    }
+}
+
+// The one grant, to clerks.
+fn expect_grant(rt: &impl Abort, grants: &[((Name, Name), Name)]) {
+    assert_eq!(rt; grants.len(), 1);
+    for ((operation, object), role) in grants {
+        assert_eq!(rt; operation.as_bytes(), "read".as_bytes());
+        assert_eq!(rt; object.as_bytes(), "ledger".as_bytes());
+        assert_eq!(rt; role.as_bytes(), "clerk".as_bytes());
+    }
+}
+
+// The names of the sessions, and the roles that are active in the first.
+fn expect_sessions(rt: &impl Abort, sessions: &[(Name, Session)]) {
+    assert_eq!(rt; sessions.len(), 2);
+    for ((session, state), wanted) in sessions.iter().zip([("s1", 1), ("s2", 0)]) {
+        assert_eq!(rt; session.as_bytes(), wanted.0.as_bytes());
+        assert_eq!(rt; state.owner.as_bytes(), "ann".as_bytes());
+        assert_eq!(rt; state.active.len(), wanted.1);
+    }
+}
+
+#[test]
+fn lends_what_it_holds(rt: HostRuntime) {
+    let mut policy = a_clerk(&rt, rt.alloc());
+    declare_boss(&rt, rt.alloc(), &mut policy);
+    assert_called(&rt, policy.users(), &["ann"]);
+    assert_called(&rt, policy.roles(), &["boss", "clerk"]);
+    expect_pairs(&rt, policy.assignments(), ("ann", "clerk"));
+    expect_pairs(&rt, policy.declarations(), ("boss", "clerk"));
+    expect_grant(&rt, policy.grants());
+    expect_sessions(&rt, policy.sessions());
+    let read = lent(&rt, "read");
+    assert!(rt; policy.vocabulary().has_operation(&read));
+    assert_eq!(rt; policy.separation_sets(Separation::Static).len(), 0);
+    drop(policy);
+}
+
+#[test]
+fn lends_sets_of_each_kind(rt: HostRuntime) {
+    let mut policy = a_clerk(&rt, rt.alloc());
+    declare_boss(&rt, rt.alloc(), &mut policy);
+    let command = Command::CreateSet {
+        kind: Separation::Dynamic,
+        set: name(&rt, rt.alloc(), "d"),
+        roles: name_set(&rt, rt.alloc(), &["boss", "clerk"]),
+        n: 2,
+    };
+    expect_done(&rt, rt.alloc(), &mut policy, command);
+    assert_eq!(rt; policy.separation_sets(Separation::Static).len(), 0);
+    let sets = policy.separation_sets(Separation::Dynamic);
+    assert_eq!(rt; sets.len(), 1);
+    for (set, roles) in sets {
+        assert_eq!(rt; set.as_bytes(), "d".as_bytes());
+        assert_called(&rt, roles.roles.names(), &["boss", "clerk"]);
+        assert_eq!(rt; roles.cardinality, 2);
+    }
+    drop(policy);
 }
 
 #[test]
@@ -255,7 +340,7 @@ fn stops_at_the_limit_of_sets_of_each_kind(rt: HostRuntime) {
 }
 
 // The static set d of three of a, b and c, and ann, who is assigned a.
-fn a_static_set(rt: &impl Abort, alloc: Global) -> Policy {
+pub(super) fn a_static_set(rt: &impl Abort, alloc: Global) -> Policy {
     let mut policy = founded(rt, alloc);
     add_user(rt, alloc, &mut policy, "ann");
     add_role(rt, alloc, &mut policy, "a");
@@ -272,7 +357,13 @@ fn a_static_set(rt: &impl Abort, alloc: Global) -> Policy {
     policy
 }
 
-fn inherit(rt: &impl Abort, alloc: Global, policy: &mut Policy, ascendant: &str, descendant: &str) {
+pub(super) fn inherit(
+    rt: &impl Abort,
+    alloc: Global,
+    policy: &mut Policy,
+    ascendant: &str,
+    descendant: &str,
+) {
     let command = Command::AddInheritance {
         ascendant: name(rt, alloc, ascendant),
         descendant: name(rt, alloc, descendant),

@@ -2,6 +2,7 @@
 //! goes well at once; `bench/hostile/refuse_each_growth` runs these tests with each growth refused in turn.
 
 use rbac_decide::Policy;
+use rbac_dump::commands_of;
 use rbac_terms::{
     Answer, Command, Denial, Name, NameSet, Review, Separation, Vocabulary, VocabularyRefusal,
 };
@@ -165,6 +166,23 @@ fn users_roles_and_permissions(rt: HostRuntime) {
     let empty = founded(&rt, alloc);
     assert!(rt; policy.same(&empty));
     drop(empty);
+    drop(policy);
+}
+
+fn dumped(rt: &impl Abort, alloc: Global, policy: &Policy) -> Vec<Command> {
+    match commands_of(alloc, policy) {
+        Ok(commands) => commands,
+        Err(_) => commands_of(alloc, policy).expect(rt, "memory"),
+    }
+}
+
+#[test]
+fn dumps(rt: HostRuntime) {
+    let alloc = rt.alloc();
+    let policy = a_clerk(&rt, alloc);
+    let commands = dumped(&rt, alloc, &policy);
+    assert_eq!(rt; commands.len(), 4);
+    drop(commands);
     drop(policy);
 }
 

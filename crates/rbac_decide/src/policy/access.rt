@@ -15,6 +15,7 @@ use crate::policy::Policy;
 use rbac_hierarchy::RoleOrder;
 use rbac_sessions::Session;
 use rbac_terms::{Answer, Name};
+use sorted_keys::Probe;
 
 impl Policy {
     /// Whether it is one of the roles.
@@ -73,8 +74,8 @@ impl Policy {
     }
 
     /// The session of this name.
-    pub(crate) fn session(&self, session: &Name) -> Option<&Session>
-        ensures { option_copied result ≡ find name_cmp session.now self.now.sessions }
+    pub(crate) fn session<P: Probe<Name>>(&self, session: &P) -> Option<&Session>
+        ensures { option_copied result ≡ find name_cmp (P.sought session.now) self.now.sessions }
     {
         self.tables.sessions.get(session)
     }

@@ -1,20 +1,58 @@
-//! Six commands at member 1 of two, whose hints are lost, given twice, and made up for by sweeps.
+//! Six commands at member 1 of two, whose hints are lost, given twice or too late, and made up for by sweeps.
 ghost use Rattle.std.specs.Prelude.{◌≡◌, length};
 
-use super::{Unreliable, lossy_courier};
+use super::hostile_courier;
 use crate::tests::{
     Founding, add_ann, check, expect_audit, expect_confirmed, founded, name, new_pass,
     sample_founding,
 };
-use crate::{Courier, GroupName, NoGate, Pass, PumpEnd, Service};
+use crate::{ChannelCourier, Courier, GroupName, Hint, NoGate, Pass, PumpEnd, Service, Wake};
 use rbac_words::{Answer, Command, NameSet};
 use std::alloc::Global;
 use std::marker::Brand;
 use std::process::Abort;
 use std::sync::Wait;
+use std::sync::atomic::{AtomicU64, Ordering};
 use std::thread;
 use std::thread::Threads;
 use std::time::Clock;
+
+// Loses every second hint, gives every third one twice where it is not lost, and sweeps in each tenth turn.
+#[derive(Drop)]
+struct Unreliable<R: Wait + Clock + Drop> {
+    courier: ChannelCourier<R>,
+    hints: AtomicU64,
+    turns: AtomicU64,
+}
+
+impl<R: Wait + Clock + Drop> Courier for Unreliable<R> {
+    fn tell(&self, to: u32, hint: Hint) {
+        let count = self.hints.fetch_add(1, Ordering::SeqCst);
+        if count % 2 == 1 {
+            return;
+        }
+        self.courier.tell(to, hint);
+        if count % 3 == 2 {
+            self.courier.tell(to, hint);
+        }
+    }
+
+    fn next(&self, at: u32) -> Wake {
+        let count = self.turns.fetch_add(1, Ordering::SeqCst);
+        if count % 10 == 9 {
+            return Wake::Sweep;
+        }
+        self.courier.next(at)
+    }
+}
+
+fn lossy_courier<R: Wait + Clock + Abort + Copy + Drop>(rt: &R, alloc: Global) -> Unreliable<R> {
+    Unreliable {
+        courier: ChannelCourier::found(*rt, alloc, 2).expect(rt, "memory"),
+        hints: AtomicU64::new(0),
+        turns: AtomicU64::new(0),
+    }
+}
 
 fn add_clerk(rt: &impl Abort, alloc: Global) -> Command {
     let role = name(rt, alloc, "clerk");
@@ -106,16 +144,15 @@ fn talk_beside<
     })
 }
 
-fn run<G: GroupName + Send + Sync, R: Threads + Wait + Clock + Abort + Copy + Drop + Send + Sync>(
-    rt: &R,
-    alloc: Global,
-    founding: Founding,
-)
+fn run<
+    G: GroupName + Send + Sync,
+    C: Courier + Drop + Send + Sync,
+    R: Threads + Wait + Abort + Send + Sync,
+>(rt: &R, alloc: Global, founding: Founding, courier: C)
     requires names { (founding.group ≡ G.group) × (founding.words ≡ G.vocabulary) × (founding.rows ≡ G.cells) }
     requires members { length founding.rows.sent ≡ founding.group.members }
 {
-    let courier = lossy_courier(rt, alloc);
-    let service: Service<G, NoGate, Unreliable<R>> = founded(rt, alloc, founding, courier);
+    let service: Service<G, NoGate, C> = founded(rt, alloc, founding, courier);
     let mut pass = new_pass(rt, &service, 1);
     assert!(rt; talk_beside(rt, alloc, &service, &mut pass));
     let mut nodes = service.take_nodes();
@@ -128,5 +165,24 @@ fn run<G: GroupName + Send + Sync, R: Threads + Wait + Clock + Abort + Copy + Dr
 #[test]
 fn six_commands_are_answered_by_lossy_hints(rt: HostRuntime) {
     let founding = sample_founding(&rt, rt.alloc(), 2);
-    run::<Brand, _>(&rt, rt.alloc(), founding);
+    let courier = lossy_courier(&rt, rt.alloc());
+    run::<Brand, _, _>(&rt, rt.alloc(), founding, courier);
+}
+
+// The courier of a seed.
+fn run_seed<R: Threads + Wait + Clock + Abort + Copy + Drop + Send + Sync>(
+    rt: &R,
+    alloc: Global,
+    seed: u64,
+) {
+    let founding = sample_founding(rt, alloc, 2);
+    let courier = hostile_courier(rt, alloc, seed);
+    run::<Brand, _, _>(rt, alloc, founding, courier);
+}
+
+#[test]
+fn six_commands_are_answered_by_hostile_hints(rt: HostRuntime) {
+    for seed in 0..20 {
+        run_seed(&rt, rt.alloc(), seed);
+    }
 }

@@ -14,6 +14,7 @@ use crate::policy::hindrance::Hindrance;
 use rbac_sessions::Session;
 use rbac_terms::limits::MOST_SESSIONS;
 use rbac_terms::{Denial, Name, NameSet};
+use sorted_keys::Probe;
 
 impl Policy {
     pub(crate) fn may_create_session(
@@ -89,14 +90,14 @@ impl Policy {
 
     // Denies where the operation or the object is not known. Both are where something is granted of them, since what is granted is a
     // permission: then neither is looked up.
-    fn deny_unknown(
+    fn deny_unknown<O: Probe<Name>, B: Probe<Name>>(
         &self,
-        operation: &Name,
-        object: &Name,
+        operation: &O,
+        object: &B,
         grants: &[((Name, Name), Name)],
     ) -> Result<(), Denial>
-        requires { grants.now ≡ filter (λ grant. eq_by_cmp pair_cmp (operation.now, object.now) grant.0) self.now.granted }
-        ensures { result ≡ (if not (has name_cmp operation.now self.now.vocabulary.operations) then Err Denial.NoOperation else if not (has name_cmp object.now self.now.vocabulary.objects) then Err Denial.NoObject else Ok tt) }
+        requires { grants.now ≡ filter (λ grant. eq_by_cmp pair_cmp (O.sought operation.now, B.sought object.now) grant.0) self.now.granted }
+        ensures { result ≡ (if not (has name_cmp (O.sought operation.now) self.now.vocabulary.operations) then Err Denial.NoOperation else if not (has name_cmp (B.sought object.now) self.now.vocabulary.objects) then Err Denial.NoObject else Ok tt) }
     {
         if !grants.is_empty() {
             self.invariants();
@@ -110,17 +111,17 @@ impl Policy {
     }
 
     /// The session that a check asks of, or the check's first failing precondition. It takes the grants of the operation on the object.
-    pub(crate) fn checked_session(
+    pub(crate) fn checked_session<S: Probe<Name>, O: Probe<Name>, B: Probe<Name>>(
         &self,
-        session: &Name,
-        operation: &Name,
-        object: &Name,
+        session: &S,
+        operation: &O,
+        object: &B,
         grants: &[((Name, Name), Name)],
     ) -> Result<&Session, Denial>
-        requires { grants.now ≡ filter (λ grant. eq_by_cmp pair_cmp (operation.now, object.now) grant.0) self.now.granted }
-        ensures denied { IfErr result (λ denial. first_denial (CheckAccess session.now operation.now object.now) self.now ≡ Some denial) }
-        ensures allowed { OnOk result (first_denial (CheckAccess session.now operation.now object.now) self.now ≡ None) }
-        ensures found { IfOk result (λ found. find name_cmp session.now self.now.sessions ≡ Some found.now) }
+        requires { grants.now ≡ filter (λ grant. eq_by_cmp pair_cmp (O.sought operation.now, B.sought object.now) grant.0) self.now.granted }
+        ensures denied { IfErr result (λ denial. first_denial (CheckAccess (S.sought session.now) (O.sought operation.now) (B.sought object.now)) self.now ≡ Some denial) }
+        ensures allowed { OnOk result (first_denial (CheckAccess (S.sought session.now) (O.sought operation.now) (B.sought object.now)) self.now ≡ None) }
+        ensures found { IfOk result (λ found. find name_cmp (S.sought session.now) self.now.sessions ≡ Some found.now) }
     {
         let Some(found) = self.session(session) else {
             return Err(Denial::NoSession);

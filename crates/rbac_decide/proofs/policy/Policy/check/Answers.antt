@@ -9,8 +9,8 @@ use Rattle.rbac_decide.proofs.CheckLemmas.{has_by_grants}
 use Rattle.rbac_decide.proofs.policy.Policy.check.Goals as goal
 
 pub returns-clause-held : goal.returns-clause-held
-returns-clause-held c =
-    let asked : Permission = (c.args.operation.now, c.args.object.now) in
+returns-clause-held g c =
+    let asked : Permission = (g.O.Probe.sought c.args.operation.now, g.B.Probe.sought c.args.object.now) in
     let s : State = state_of c.self.inside.tables c.self.inside.vocabulary in
     rw c.in_ok-session.ensures.found
     (c.some_inherits_some.ensures
@@ -20,4 +20,4 @@ returns-clause-held c =
     ∙ ap (λ roles. list_any (has_permission c.args.self.now asked) roles) (c.names.ensures.names ∙ ap (λ session. session.active) c.session.view_is))
 
 pub returns-clause-listed : goal.returns-clause-listed
-returns-clause-listed c = returns-clause-held c ∙ holds_what_is_listed c.args.self.now c.args.session.now (c.args.operation.now, c.args.object.now) c.invariants.ensures
+returns-clause-listed g c = returns-clause-held g c ∙ holds_what_is_listed c.args.self.now (g.S.Probe.sought c.args.session.now) (g.O.Probe.sought c.args.operation.now, g.B.Probe.sought c.args.object.now) c.invariants.ensures

@@ -1,4 +1,4 @@
-use Rattle.rbac_service.proofs.thread_tests.lost_and_repeated_hints_lose_no_answer.Given as goal
+use Rattle.rbac_service.proofs.thread_tests.run_seed.Given as goal
 
 -- the founding that was just made
 abbrev pub ghosts-run_with : goal.ghosts-run_with

@@ -1,0 +1,111 @@
+//! The binding by what a caller sees.
+use fochillun::{ApplyError, CheckError, Monitor, OpenError};
+use std::error::Error;
+
+const HEAD: &str = "version = 1\nmembers = 1\n";
+const LISTS: &str = "operations = [\"pay\", \"read\"]\nobjects = [\"ledger\"]\npermissions = [[\"read\", \"ledger\"]]\n";
+
+fn clerk() -> Monitor {
+    let mut monitor = Monitor::open(format!("{HEAD}{LISTS}").as_bytes()).unwrap();
+    for command in [
+        r#"{"name":"AddUser","user":"ann"}"#,
+        r#"{"name":"AddRole","role":"clerk"}"#,
+        r#"{"name":"GrantPermission","operation":"read","object":"ledger","role":"clerk"}"#,
+        r#"{"name":"AssignUser","user":"ann","role":"clerk"}"#,
+        r#"{"name":"CreateSession","user":"ann","session":"s1","roles":["clerk"]}"#,
+    ] {
+        assert_eq!(monitor.apply(command), Ok("\"Done\""));
+    }
+    monitor
+}
+
+#[test]
+fn a_check_is_granted_refused_or_denied() {
+    let mut monitor = clerk();
+    assert_eq!(monitor.check("s1", "read", "ledger"), Ok(true));
+    assert_eq!(monitor.check("s1", "pay", "ledger"), Ok(false));
+    assert_eq!(
+        monitor.check("s2", "read", "ledger"),
+        Err(CheckError::NoSession)
+    );
+    assert_eq!(
+        monitor.check("s1", "fly", "ledger"),
+        Err(CheckError::NoOperation)
+    );
+    assert_eq!(
+        monitor.check("s1", "read", "moon"),
+        Err(CheckError::NoObject)
+    );
+    assert_eq!(
+        monitor.check("s1", "read", ""),
+        Err(CheckError::BadName)
+    );
+}
+
+#[test]
+fn a_denial_is_an_answer_and_a_bad_text_an_error() {
+    let mut monitor = clerk();
+    assert_eq!(
+        monitor.apply(r#"{"name":"AddUser","user":"ann"}"#),
+        Ok(r#"{"denied":"UserExists","number":1}"#)
+    );
+    assert_eq!(monitor.apply("{"), Err(ApplyError::NotJson));
+    assert_eq!(
+        monitor.apply(r#"{"name":"AddUser","user":"an n"}"#),
+        Err(ApplyError::BadName)
+    );
+}
+
+#[test]
+fn a_founding_is_refused_for_its_first_reason() {
+    let refused = Monitor::open(LISTS.as_bytes()).unwrap_err();
+    assert_eq!(refused, OpenError::BadVersion);
+    assert_eq!(refused.number(), 103);
+    let told: Box<dyn Error> = refused.into();
+    assert_eq!(
+        told.to_string(),
+        "`version` is not there, or is not the whole number 1 or 2"
+    );
+    assert_eq!(
+        Monitor::open(b"").unwrap_err(),
+        OpenError::BadVersion
+    );
+}
+
+#[test]
+fn a_long_answer_is_whole_and_its_command_applied_once() {
+    let mut monitor = clerk();
+    let names: Vec<String> = (0..100)
+        .map(|i| format!("user_of_a_rather_long_name_{i:03}"))
+        .collect();
+    for name in &names {
+        monitor
+            .apply(&format!(r#"{{"name":"AddUser","user":"{name}"}}"#))
+            .unwrap();
+        monitor
+            .apply(&format!(
+                r#"{{"name":"AssignUser","user":"{name}","role":"clerk"}}"#
+            ))
+            .unwrap();
+    }
+    let wanted = format!("{{\"names\":[\"ann\",\"{}\"]}}", names.join("\",\""));
+    assert_eq!(
+        monitor.apply(r#"{"name":"AssignedUsers","role":"clerk"}"#),
+        Ok(wanted.as_str())
+    );
+}
+
+#[test]
+fn a_monitor_goes_to_another_thread_and_comes_back() {
+    let mut monitor = clerk();
+    let mut monitor = std::thread::spawn(move || {
+        monitor.apply(r#"{"name":"AddUser","user":"bob"}"#).unwrap();
+        monitor
+    })
+    .join()
+    .unwrap();
+    assert_eq!(
+        monitor.apply(r#"{"name":"AddUser","user":"bob"}"#),
+        Ok(r#"{"denied":"UserExists","number":1}"#)
+    );
+}

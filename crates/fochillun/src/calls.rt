@@ -1,0 +1,93 @@
+//! The calls of other languages: each takes the policy out of its place, calls what is proved, and puts it back.
+ghost use Rattle.std.specs.Prelude.{◌≡◌, ◌≢◌, None};
+ghost use Rattle.rbac_embedded.specs.Holding.{answer_buffer, answer_length, answer_status, apply_buffer, apply_kept, apply_length, apply_status, check_status, close_status, open_status, opened};
+ghost use Rattle.rbac_embedded.specs.Status.{no_memory, status_number};
+
+use crate::place::Place;
+use rbac_embedded::Holder;
+use std::alloc::Global;
+
+/// Founds a policy in an empty place with what a founding file says.
+#[unsafe(no_mangle)]
+pub extern "C" fn policy_open(place: &mut Place, alloc: Global, founding: &[u8]) -> u32
+    ensures told { result ≢ no_memory → result ≡ status_number (open_status founding.now place.old.slot.kept) }
+    ensures opened { result ≢ no_memory → place.new.slot.kept ≡ opened founding.now place.old.slot.kept }
+    ensures unchanged { result ≡ no_memory → place.new.slot.kept ≡ place.old.slot.kept }
+{
+    let mut holder = Holder::of(place.take(alloc));
+    let status = holder.open(alloc, founding);
+    place.put(holder.into_monitor());
+    status.number()
+}
+
+/// Applies the command of a JSON object, and puts its answer's text into the buffer.
+#[unsafe(no_mangle)]
+pub extern "C" fn policy_apply(
+    place: &mut Place,
+    alloc: Global,
+    command: &[u8],
+    out: &mut [u8],
+    written: &mut usize,
+) -> u32
+    ensures told { result ≢ no_memory → result ≡ status_number (apply_status command.now out.old place.old.slot.kept) }
+    ensures kept { result ≢ no_memory → place.new.slot.kept ≡ apply_kept command.now place.old.slot.kept }
+    ensures buffer { result ≢ no_memory → out.new ≡ apply_buffer command.now out.old place.old.slot.kept }
+    ensures length { result ≢ no_memory → written.new ≡ apply_length command.now place.old.slot.kept }
+    ensures unchanged { result ≡ no_memory → place.new.slot.kept ≡ place.old.slot.kept }
+    ensures buffer_unchanged { result ≡ no_memory → out.new ≡ out.old }
+    ensures no_length { result ≡ no_memory → written.new ≡ 0 }
+{
+    let mut holder = Holder::of(place.take(alloc));
+    let status = holder.apply(alloc, command, out, written);
+    place.put(holder.into_monitor());
+    status.number()
+}
+
+/// Puts the text of the last answer into the buffer again.
+#[unsafe(no_mangle)]
+pub extern "C" fn policy_answer(
+    place: &mut Place,
+    alloc: Global,
+    out: &mut [u8],
+    written: &mut usize,
+) -> u32
+    ensures told { result ≡ status_number (answer_status out.old place.old.slot.kept) }
+    ensures buffer { out.new ≡ answer_buffer out.old place.old.slot.kept }
+    ensures length { written.new ≡ answer_length place.old.slot.kept }
+    ensures unchanged { place.new.slot.kept ≡ place.old.slot.kept }
+{
+    let holder = Holder::of(place.take(alloc));
+    let status = holder.answer(out, written);
+    place.put(holder.into_monitor());
+    status.number()
+}
+
+/// Whether the session may perform the operation on the object.
+#[unsafe(no_mangle)]
+pub extern "C" fn policy_check(
+    place: &mut Place,
+    alloc: Global,
+    session: &[u8],
+    operation: &[u8],
+    object: &[u8],
+) -> u32
+    ensures told { result ≡ status_number (check_status session.now operation.now object.now place.old.slot.kept) }
+    ensures unchanged { place.new.slot.kept ≡ place.old.slot.kept }
+{
+    let holder = Holder::of(place.take(alloc));
+    let status = holder.check(session, operation, object);
+    place.put(holder.into_monitor());
+    status.number()
+}
+
+/// Ends the policy of a place, and gives back all its memory.
+#[unsafe(no_mangle)]
+pub extern "C" fn policy_close(place: &mut Place, alloc: Global) -> u32
+    ensures told { result ≡ status_number (close_status place.old.slot.kept) }
+    ensures closed { place.new.slot.kept ≡ None }
+{
+    let mut holder = Holder::of(place.take(alloc));
+    let status = holder.close();
+    place.put(holder.into_monitor());
+    status.number()
+}

@@ -1,0 +1,70 @@
+//! What a policy holds, lent in order.
+ghost use Rattle.std.specs.Prelude.{◌≡◌};
+ghost use Rattle.rbac_terms.specs.Constraints.{sets_of};
+
+use crate::policy::Policy;
+use rbac_hierarchy::RoleOrder;
+use rbac_separation::RoleSet;
+use rbac_sessions::Session;
+use rbac_terms::{Name, Separation, Vocabulary};
+
+impl Policy {
+    /// The users, sorted by their bytes.
+    pub fn users(&self) -> &[Name]
+        ensures { result.now ≡ self.now.users }
+    {
+        self.tables.sets.users()
+    }
+
+    /// The roles, sorted by their bytes.
+    pub fn roles(&self) -> &[Name]
+        ensures { result.now ≡ self.now.roles }
+    {
+        self.tables.sets.roles()
+    }
+
+    /// The assignments (UA), a user and a role each, sorted by both.
+    pub fn assignments(&self) -> &[(Name, Name)]
+        ensures { result.now ≡ self.now.assigned }
+    {
+        self.tables.sets.assignments()
+    }
+
+    /// The grants (PA), a permission and a role each, sorted by operation, object and role.
+    pub fn grants(&self) -> &[((Name, Name), Name)]
+        ensures { result.now ≡ self.now.granted }
+    {
+        self.tables.sets.grants()
+    }
+
+    /// The declared pairs of roles (RH), an ascendant and a descendant each, sorted by both.
+    pub fn declarations(&self) -> &[(Name, Name)]
+        ensures { result.now ≡ self.now.declared }
+    {
+        self.tables.hierarchy.declarations()
+    }
+
+    /// The sets of separation of a kind with their names, sorted by these.
+    pub fn separation_sets(&self, kind: Separation) -> &[(Name, RoleSet)]
+        ensures { result.now ≡ sets_of kind self.now }
+    {
+        match kind {
+            Separation::Static => self.tables.static_sets.entries(),
+            Separation::Dynamic => self.tables.dynamic_sets.entries(),
+        }
+    }
+
+    /// The sessions with their names, sorted by these.
+    pub fn sessions(&self) -> &[(Name, Session)]
+        ensures { result.now ≡ self.now.sessions }
+    {
+        self.tables.sessions.entries()
+    }
+
+    /// The vocabulary that the policy was founded with.
+    pub fn vocabulary(&self) -> &Vocabulary
+        ensures { result.now ≡ self.now.vocabulary }
+    {
+        &self.vocabulary
+    }
+}

@@ -1,0 +1,4 @@
+pub mod Leading
+pub mod Next
+pub mod Steps
+pub mod DumpLemmas

@@ -1,0 +1,9 @@
+//! A policy told as commands: its dump, as the commands are called that make what a database holds again. A restart that plays
+//! them forgets nothing, without the history that led to the policy.
+#![tactic(auto)]
+
+mod dump;
+pub mod laws;
+mod telling;
+
+pub use dump::commands_of;

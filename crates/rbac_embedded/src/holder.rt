@@ -1,0 +1,154 @@
+//! A place for one monitor: the calls that another language makes, over values.
+ghost use Rattle.std.specs.Prelude.{◌≡◌, ◌≢◌, None, length, option_map};
+ghost use Rattle.rbac_embedded.specs.Holding.{answer_buffer, answer_length, answer_status, apply_buffer, apply_kept, apply_length, apply_status, check_status, close_status, open_status, opened, room_status, with_text};
+ghost use Rattle.rbac_embedded.specs.Status.{no_memory, status_number};
+
+use crate::monitor::Monitor;
+use crate::status::Status;
+use std::alloc::Global;
+use std::marker::Model;
+
+/// A monitor, or none.
+#[derive(Drop)]
+pub struct Holder {
+    monitor: Option<Box<Monitor>>,
+}
+
+impl Model for Holder {
+    ghost use Rattle.std.specs.Prelude.{Option, option_map};
+    ghost use Rattle.rbac_embedded.specs.Kept.{Kept};
+
+    ghost Value = { Option Kept };
+
+    ghost view = { λ h. option_map (λ b. b.value) h.monitor };
+}
+
+/// Puts a text at the front of a buffer that has room for it.
+fn put_text(text: &[u8], out: &mut [u8]) -> Status
+    ensures status { result ≡ room_status text.now out.old }
+    ensures buffer { out.new ≡ with_text text.now out.old }
+{
+    if out.len() < text.len() {
+        return Status::ShortBuffer;
+    }
+    out[..text.len()].copy_from_slice(text);
+    Status::Done
+}
+
+// The text of a monitor's last answer, and its length.
+fn tell(monitor: &Monitor, out: &mut [u8], written: &mut usize) -> Status
+    ensures status { result ≡ room_status monitor.now.answer out.old }
+    ensures buffer { out.new ≡ with_text monitor.now.answer out.old }
+    ensures length { written.new ≡ length monitor.now.answer }
+{
+    let text = monitor.answer();
+    *written = text.len();
+    put_text(text, out)
+}
+
+impl Holder {
+    /// None.
+    pub fn empty() -> Holder
+        ensures { result ≡ None }
+    {
+        Holder { monitor: None }
+    }
+
+    /// What a place had.
+    pub fn of(monitor: Option<Box<Monitor>>) -> Holder
+        ensures { result ≡ option_map (λ b. b.value) monitor }
+    {
+        Holder { monitor }
+    }
+
+    /// What a place is to have.
+    pub fn into_monitor(self) -> Option<Box<Monitor>>
+        ensures { option_map (λ b. b.value) result ≡ self }
+    {
+        let Holder { monitor } = self;
+        monitor
+    }
+
+    /// Founds a policy with what a founding file says.
+    pub fn open(&mut self, alloc: Global, file: &[u8]) -> Status
+        ensures told { status_number result ≢ no_memory → result ≡ open_status file.now self.old }
+        ensures opened { status_number result ≢ no_memory → self.new ≡ opened file.now self.old }
+        ensures unchanged { status_number result ≡ no_memory → self.new ≡ self.old }
+    {
+        if self.monitor.is_some() {
+            return Status::FullPlace;
+        }
+        match Monitor::found(alloc, file) {
+            Ok(monitor) => match Box::new(alloc, monitor) {
+                Ok(monitor) => {
+                    self.monitor = Some(monitor);
+                    Status::Done
+                }
+                Err(_) => Status::NoMemory,
+            },
+            Err(refusal) => Status::BadFounding(refusal),
+        }
+    }
+
+    /// Applies the command that a text stands for, and puts its answer's text into the buffer, where that has room for all of it. Its
+    /// length is written in each case. Where the buffer is too short, the command was applied nevertheless, once, and `answer` gives the
+    /// text.
+    pub fn apply(
+        &mut self,
+        alloc: Global,
+        text: &[u8],
+        out: &mut [u8],
+        written: &mut usize,
+    ) -> Status
+        ensures told { status_number result ≢ no_memory → result ≡ apply_status text.now out.old self.old }
+        ensures kept { status_number result ≢ no_memory → self.new ≡ apply_kept text.now self.old }
+        ensures buffer { status_number result ≢ no_memory → out.new ≡ apply_buffer text.now out.old self.old }
+        ensures length { status_number result ≢ no_memory → written.new ≡ apply_length text.now self.old }
+        ensures unchanged { status_number result ≡ no_memory → self.new ≡ self.old }
+        ensures buffer_unchanged { status_number result ≡ no_memory → out.new ≡ out.old }
+        ensures no_length { status_number result ≡ no_memory → written.new ≡ 0 }
+    {
+        *written = 0;
+        match &mut self.monitor {
+            Some(monitor) => match monitor.apply(alloc, text) {
+                Ok(()) => tell(monitor, out, written),
+                Err(refusal) => Status::BadCommand(refusal),
+            },
+            None => Status::EmptyPlace,
+        }
+    }
+
+    /// The text of the last answer again, as `apply` puts it; empty before the first one.
+    pub fn answer(&self, out: &mut [u8], written: &mut usize) -> Status
+        ensures told { result ≡ answer_status out.old self.now }
+        ensures buffer { out.new ≡ answer_buffer out.old self.now }
+        ensures length { written.new ≡ answer_length self.now }
+    {
+        *written = 0;
+        match &self.monitor {
+            Some(monitor) => tell(monitor, out, written),
+            None => Status::EmptyPlace,
+        }
+    }
+
+    /// Whether the session may perform the operation on the object. It takes no memory.
+    pub fn check(&self, session: &[u8], operation: &[u8], object: &[u8]) -> Status
+        ensures { result ≡ check_status session.now operation.now object.now self.now }
+    {
+        match &self.monitor {
+            Some(monitor) => Status::Checked(monitor.check(session, operation, object)),
+            None => Status::EmptyPlace,
+        }
+    }
+
+    /// Ends the policy.
+    pub fn close(&mut self) -> Status
+        ensures told { result ≡ close_status self.old }
+        ensures closed { self.new ≡ None }
+    {
+        match self.monitor.take() {
+            Some(_monitor) => Status::Done,
+            None => Status::EmptyPlace,
+        }
+    }
+}

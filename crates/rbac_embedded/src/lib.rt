@@ -1,0 +1,12 @@
+//! A policy for a program that calls it in its own process: opened, changed and asked by bytes, and answered by texts and numbers.
+#![tactic(auto)]
+
+mod holder;
+mod monitor;
+pub mod status;
+pub mod verdict;
+
+pub use holder::Holder;
+pub use monitor::Monitor;
+pub use status::Status;
+pub use verdict::Verdict;

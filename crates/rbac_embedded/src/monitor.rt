@@ -1,0 +1,117 @@
+//! One policy, opened from a founding file, changed by the texts of commands, and asked by bytes.
+ghost use Rattle.std.specs.Prelude.{◌≡◌, ◌≢◌, IfOk, IfErr, OnOk, OnErr, Ok, Err, IsTrue};
+ghost use Rattle.sorted_keys.specs.Keys.{has};
+ghost use Rattle.rbac_terms.specs.Name.{pair_cmp};
+ghost use Rattle.rbac_terms.specs.Reviews.{session_permissions};
+ghost use Rattle.rbac_lines.specs.Text.{answer_text};
+ghost use Rattle.rbac_embedded.specs.Calls.{after, applied, founded, verdict};
+
+use crate::verdict::Verdict;
+use rbac_decide::Policy;
+use rbac_founding::{FoundingRefusal, read_founding};
+use rbac_lines::{LineRefusal, put_answer, read_command};
+use rbac_terms::{Answer, Command, LentName};
+use std::alloc::{AllocError, Global};
+use std::marker::Model;
+
+/// A policy, and the text of the answer to the last command.
+#[derive(Drop)]
+pub struct Monitor {
+    policy: Policy,
+    answer: Vec<u8>,
+}
+
+impl Model for Monitor {
+    ghost use Rattle.rbac_embedded.specs.Kept.{Kept};
+
+    ghost Value = { Kept };
+
+    ghost view = { λ m. record { state = m.policy; answer = m.answer.items } };
+}
+
+/// The text of an answer.
+fn text_of(alloc: Global, answer: &Answer) -> Result<Vec<u8>, AllocError>
+    ensures { IfOk result (λ text. text.items ≡ answer_text answer.now) }
+{
+    let mut text = Vec::new(alloc);
+    put_answer(&mut text, answer)?;
+    Ok(text)
+}
+
+impl Monitor {
+    /// Reads a founding file, and founds a policy with its vocabulary. No command was answered yet. The file's group is read, and not
+    /// used.
+    ///
+    /// # Errors
+    /// Why the file is refused, and `NoMemory` where memory ends.
+    pub fn found(alloc: Global, file: &[u8]) -> Result<Monitor, FoundingRefusal>
+        ensures founded { IfOk result (λ monitor. founded file.now ≡ Ok monitor) }
+        ensures first_refusal { IfErr result (λ refusal. refusal ≢ FoundingRefusal.NoMemory → founded file.now ≡ Err refusal) }
+    {
+        let founding = read_founding(alloc, file)?;
+        Ok(Monitor {
+            policy: Policy::found(alloc, founding.vocabulary),
+            answer: Vec::new(alloc),
+        })
+    }
+
+    /// Applies a command. The text for what changes something is made before the change; what is answered otherwise changes nothing, so
+    /// that its text may be refused memory after it.
+    fn answer_command(&mut self, alloc: Global, command: &Command) -> Result<(), AllocError>
+        ensures after { OnOk result (self.new ≡ after command.now self.old) }
+        ensures unchanged { OnErr result (self.new ≡ self.old) }
+    {
+        let done = text_of(alloc, &Answer::Done)?;
+        let text = match self.policy.apply(alloc, command)? {
+            Answer::Done => done,
+            other => text_of(alloc, &other)?,
+        };
+        self.answer = text;
+        Ok(())
+    }
+
+    /// Applies the command that a text stands for, and keeps the text of its answer. A command that is denied is applied too: it changes
+    /// nothing, and its answer is the denial.
+    ///
+    /// # Errors
+    /// Why the text is refused, and `NoMemory` where memory ends. Nothing has changed then, the last answer's text neither.
+    pub fn apply(&mut self, alloc: Global, text: &[u8]) -> Result<(), LineRefusal>
+        ensures applied { OnOk result (applied text.now self.old ≡ Ok self.new) }
+        ensures first_refusal { IfErr result (λ refusal. refusal ≢ LineRefusal.NoMemory → applied text.now self.old ≡ Err refusal) }
+        ensures unchanged { OnErr result (self.new ≡ self.old) }
+    {
+        let command = read_command(alloc, text)?;
+        match self.answer_command(alloc, &command) {
+            Ok(()) => Ok(()),
+            Err(_) => Err(LineRefusal::NoMemory),
+        }
+    }
+
+    /// Whether the session of this name may perform the operation on the object. It takes no memory.
+    pub fn check(&self, session: &[u8], operation: &[u8], object: &[u8]) -> Verdict
+        ensures told { result ≡ verdict session.now operation.now object.now self.now.state }
+        ensures listed { result ≡ Verdict.Granted → IsTrue (has pair_cmp (operation.now, object.now) (session_permissions self.now.state session.now)) }
+    {
+        let Some(session) = LentName::read(session) else {
+            return Verdict::BadName;
+        };
+        let Some(operation) = LentName::read(operation) else {
+            return Verdict::BadName;
+        };
+        let Some(object) = LentName::read(object) else {
+            return Verdict::BadName;
+        };
+        match self.policy.check(&session, &operation, &object) {
+            Ok(true) => Verdict::Granted,
+            Ok(false) => Verdict::Refused,
+            Err(denial) => Verdict::Denied(denial),
+        }
+    }
+
+    /// The text of the answer to the last command that was applied; empty before the first one.
+    pub fn answer(&self) -> &[u8]
+        ensures { result.now ≡ self.now.answer }
+    {
+        self.answer.as_slice()
+    }
+}
