@@ -1,0 +1,3 @@
+pub mod Faults
+pub mod Applying
+pub mod Tracing
