@@ -5,7 +5,7 @@ use Rattle.line_engine.specs.Lines.{longest_line}
 use Rattle.rbac_terms.specs.State.{State}
 use Rattle.rbac_terms.specs.declared.command.Command.{Command}
 use Rattle.rbac_dump.specs.Dump.{dump_of}
-use Rattle.rbac_dump_lines.specs.CommandText.{command_text}
+use Rattle.rbac_command_text.specs.CommandText.{command_text}
 
 -- {"at":1,"command":{"name":"AddUser","user":"ann"}}: member 1 is asked the command. Each group has that member
 abbrev pub asking : Command → List ℕ

@@ -1,2 +1,1 @@
-pub mod CommandText
 pub mod DumpText

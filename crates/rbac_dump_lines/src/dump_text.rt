@@ -9,9 +9,9 @@ ghost use Rattle.rbac_dump.specs.Dump.{dump_of};
 ghost use Rattle.rbac_lines.specs.Client.{client};
 ghost use Rattle.rbac_dump_lines.specs.DumpText.{asking, line_text, lines_text, dump_text, is_too_long};
 
-use crate::command_text::put_command;
 use line_engine::LONGEST_LINE;
 use rbac_decide::Policy;
+use rbac_command_text::put_command;
 use rbac_dump::commands_of;
 use rbac_terms::Command;
 use std::alloc::{AllocError, Global};

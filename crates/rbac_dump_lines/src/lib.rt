@@ -2,9 +2,6 @@
 //! them makes the policy again.
 #![tactic(auto)]
 
-mod command_text;
 mod dump_text;
-mod fields;
 
-pub use command_text::{command_word, put_command};
 pub use dump_text::{DumpRefusal, dump_lines};

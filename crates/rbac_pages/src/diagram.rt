@@ -7,7 +7,7 @@ use crate::diagram::marks::{Place, put_arrow, put_cross, put_dot, put_label, put
 use crate::held::{awaited_of, held_of, put_stamp};
 use crate::text::put;
 use crate::trace::member_of;
-use rbac_dump_lines::command_word;
+use rbac_command_text::command_word;
 use rbac_member::Member;
 use rbac_terms::Answer;
 use rbac_words::limits::MOST_MEMBERS;
@@ -281,7 +281,7 @@ fn put_head(text: &mut Vec<u8>, width: u64, height: u64) -> Result<(), AllocErro
     text.extend_from_slice(b"<title>The schedule as a space-time diagram</title>\n")?;
     text.extend_from_slice(STYLE)?;
     text.extend_from_slice(
-        b"<text x=\"24\" y=\"26\" class=\"name\">Time runs down, a row for each line; an arrow is a message, from where it was sent to where it was taken.</text>\n",
+        b"<text x=\"24\" y=\"26\" class=\"small\">Time runs down, a row for each line. An arrow is a message, from where it was sent to where it was taken.</text>\n",
     )?;
     for (x, class, words) in [
         (30, "sends", "a command is submitted, and sent at its stamp"),
@@ -294,7 +294,7 @@ fn put_head(text: &mut Vec<u8>, width: u64, height: u64) -> Result<(), AllocErro
     }
     put_ring(text, Place { x: 30, y: 64 })?;
     put_label(text, Place { x: 30, y: 64 })?;
-    text.extend_from_slice(b"nothing is delivered, and whom the least one waits for</text>\n")?;
+    text.extend_from_slice(b"nothing is delivered: whom the least held command waits for</text>\n")?;
     put_cross(text, Place { x: 450, y: 64 })?;
     put_label(text, Place { x: 450, y: 64 })?;
     text.extend_from_slice(b"refused</text>\n")

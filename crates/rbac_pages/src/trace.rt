@@ -2,7 +2,7 @@
 
 use crate::held::{Awaited, awaited_of, held_of, put_stamp};
 use crate::text::put;
-use rbac_dump_lines::put_command;
+use rbac_command_text::put_command;
 use rbac_lines::{LineRefusal, put_answer};
 use rbac_member::Member;
 use rbac_words::limits::MOST_MEMBERS;

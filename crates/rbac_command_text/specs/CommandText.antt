@@ -1,6 +1,6 @@
 -- The text of a command: a compact JSON object, its name first, and then its fields in the order in which they are read.
 use Rattle.std.specs.Prelude.{ℕ, ◌^◌, ◌<◌, List, [], ◌∷◌, ◌++◌, codes, decimal, IsTrue}
-use Rattle.std.specs.List.{flat_map, AllByRecursion as Each}
+use Rattle.std.specs.List.{flat_map, join_by, list_all, AllByRecursion as Each}
 use Rattle.std.specs.List.Sorted.{IsStrictlySortedBy}
 use Rattle.rbac_terms.specs.Name.{Name, is_name, name_cmp}
 use Rattle.rbac_terms.specs.declared.separation.Separation.{Separation}
@@ -9,7 +9,6 @@ use Rattle.rbac_terms.specs.declared.review.Review.{Review}
 use Rattle.rbac_terms.specs.declared.review.Review.TheVariants.{AssignedUsers, AssignedRoles, AuthorizedUsers, AuthorizedRoles, RolePermissions, UserPermissions, SessionRoles, SessionPermissions, RoleOperationsOnObject, UserOperationsOnObject, RoleSets, RoleSetRoles, RoleSetCardinality}
 use Rattle.rbac_terms.specs.declared.command.Command.{Command}
 use Rattle.rbac_terms.specs.declared.command.Command.TheVariants.{AddUser, DeleteUser, AddRole, DeleteRole, AssignUser, DeassignUser, GrantPermission, RevokePermission, AddInheritance, DeleteInheritance, AddAscendant, AddDescendant, CreateSet, DeleteSet, AddRoleMember, DeleteRoleMember, SetCardinality, CreateSession, DeleteSession, AddActiveRole, DropActiveRole, CheckAccess, Review as ReviewCommand}
-use Rattle.rbac_lines.specs.Text.{name_text, array_text}
 
 -- ---- The name of a command
 
@@ -111,10 +110,18 @@ command_fields (ReviewCommand review) = review_fields review
 
 -- ---- Their text
 
+-- "ann": nothing that stands here has to be escaped
+abbrev pub in_quotes : List ℕ → List ℕ
+in_quotes text = codes "\"" ++ text ++ codes "\""
+
+-- ["boss","payer"]
+abbrev pub array_text : List Name → List ℕ
+array_text names = codes "[" ++ join_by in_quotes (codes ",") names ++ codes "]"
+
 -- "ann", ["boss","payer"], 2
 abbrev pub value_text : Field → List ℕ
-value_text (one_name name) = name_text name
-value_text (some_names names) = array_text name_text names
+value_text (one_name name) = in_quotes name
+value_text (some_names names) = array_text names
 value_text (whole n) = decimal n
 
 -- ,"user":"ann"
@@ -130,12 +137,9 @@ command_text command = object_text (command_word command) (command_fields comman
 
 -- ---- What a field has to be, so that a reader takes it: names, a set of names, a number of 32 bits
 
-abbrev pub IsNamed : Name → Type 0
-IsNamed name = IsTrue (is_name name)
-
 abbrev pub IsField : List ℕ × Field → Type 0
-IsField (key, one_name name) = IsNamed name
-IsField (key, some_names names) = Each IsNamed names × IsStrictlySortedBy name_cmp names
+IsField (key, one_name name) = IsTrue (is_name name)
+IsField (key, some_names names) = IsTrue (list_all is_name names) × IsStrictlySortedBy name_cmp names
 IsField (key, whole n) = n < 2 ^ 32
 
 abbrev pub AreFields : Fields → Type 0

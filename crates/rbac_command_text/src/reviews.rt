@@ -1,9 +1,9 @@
 //! The name and the fields of a review.
 ghost use Rattle.std.specs.Prelude.{◌≡◌, ◌++◌, OnOk};
 ghost use Rattle.std.specs.List.{flat_map};
-ghost use Rattle.rbac_dump_lines.specs.CommandText.{review_word, review_fields, field_text, AreFields};
+ghost use Rattle.rbac_command_text.specs.CommandText.{review_word, review_fields, field_text, AreFields};
 
-use crate::command_text::by_kind;
+use crate::by_kind::by_kind;
 use crate::fields::{put_name, put_two};
 use rbac_terms::Review;
 use std::alloc::AllocError;

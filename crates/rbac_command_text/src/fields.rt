@@ -1,8 +1,8 @@
 //! The fields of a command, each behind a comma and its key. Each call puts one text behind what the buffer has.
-ghost use Rattle.std.specs.Prelude.{◌≡◌, ◌++◌, ◌∷◌, [], codes, decimal, OnOk};
-ghost use Rattle.std.specs.List.{flat_map, join_by, AllByRecursion as Each};
-ghost use Rattle.rbac_lines.specs.Text.{name_text, array_text};
-ghost use Rattle.rbac_dump_lines.specs.CommandText.{field_text, one_name, some_names, whole, AreFields, IsField, IsNamed};
+ghost use Rattle.std.specs.Prelude.{◌≡◌, ◌++◌, ◌∷◌, [], codes, IsTrue, OnOk};
+ghost use Rattle.std.specs.List.{flat_map, join_by, list_all};
+ghost use Rattle.rbac_terms.specs.Name.{is_name};
+ghost use Rattle.rbac_command_text.specs.CommandText.{array_text, field_text, in_quotes, one_name, some_names, whole, AreFields, IsField};
 
 use rbac_terms::{Name, NameSet};
 use std::alloc::AllocError;
@@ -19,8 +19,8 @@ fn put_key(text: &mut Vec<u8>, key: &str) -> Result<(), AllocError>
 
 // A name in its quotes. None of its bytes has to be escaped.
 fn put_quoted(text: &mut Vec<u8>, name: &Name) -> Result<(), AllocError>
-    ensures text { OnOk result (text.new.items ≡ text.old.items ++ name_text name.now) }
-    ensures named { IsNamed name.now }
+    ensures text { OnOk result (text.new.items ≡ text.old.items ++ in_quotes name.now) }
+    ensures named { OnOk result (IsTrue (is_name name.now)) }
 {
     text.extend_from_slice(b"\"")?;
     text.extend_from_slice(name.as_bytes())?;
@@ -29,8 +29,8 @@ fn put_quoted(text: &mut Vec<u8>, name: &Name) -> Result<(), AllocError>
 
 // The names after the first, each behind a comma.
 fn put_others(text: &mut Vec<u8>, others: &[Name]) -> Result<(), AllocError>
-    ensures text { OnOk result (text.new.items ≡ text.old.items ++ flat_map (λ name. codes "," ++ name_text name) others.now) }
-    ensures named { OnOk result (Each IsNamed others.now) }
+    ensures text { OnOk result (text.new.items ≡ text.old.items ++ flat_map (λ name. codes "," ++ in_quotes name) others.now) }
+    ensures named { OnOk result (IsTrue (list_all is_name others.now)) }
 {
     for name in others {
         text.extend_from_slice(b",")?;
@@ -41,8 +41,8 @@ fn put_others(text: &mut Vec<u8>, others: &[Name]) -> Result<(), AllocError>
 
 // The names, with commas between.
 fn put_listed(text: &mut Vec<u8>, names: &[Name]) -> Result<(), AllocError>
-    ensures text { OnOk result (text.new.items ≡ text.old.items ++ join_by name_text (codes ",") names.now) }
-    ensures named { OnOk result (Each IsNamed names.now) }
+    ensures text { OnOk result (text.new.items ≡ text.old.items ++ join_by in_quotes (codes ",") names.now) }
+    ensures named { OnOk result (IsTrue (list_all is_name names.now)) }
 {
     match names {
         [] => Ok(()),
@@ -55,8 +55,8 @@ fn put_listed(text: &mut Vec<u8>, names: &[Name]) -> Result<(), AllocError>
 
 // The names in brackets.
 fn put_array(text: &mut Vec<u8>, names: &[Name]) -> Result<(), AllocError>
-    ensures text { OnOk result (text.new.items ≡ text.old.items ++ array_text name_text names.now) }
-    ensures named { OnOk result (Each IsNamed names.now) }
+    ensures text { OnOk result (text.new.items ≡ text.old.items ++ array_text names.now) }
+    ensures named { OnOk result (IsTrue (list_all is_name names.now)) }
 {
     text.extend_from_slice(b"[")?;
     put_listed(text, names)?;
@@ -91,6 +91,7 @@ pub(crate) fn put_whole(text: &mut Vec<u8>, key: &str, n: u32) -> Result<(), All
 }
 
 /// Two names, each at its key.
+#[tactic(auto, using(crate::proofs::TextLemmas::two_fields))]
 pub(crate) fn put_two(
     text: &mut Vec<u8>,
     first: &str,
@@ -106,6 +107,7 @@ pub(crate) fn put_two(
 }
 
 /// Three names, each at its key.
+#[tactic(auto, using(crate::proofs::TextLemmas::third_field))]
 pub(crate) fn put_three(
     text: &mut Vec<u8>,
     first: &str,

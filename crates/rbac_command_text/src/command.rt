@@ -1,30 +1,16 @@
 //! A command as the text of its JSON object.
-ghost use Rattle.std.specs.Prelude.{◌≡◌, ◌≤◌, ◌++◌, length, OnOk, Ok, codes};
+ghost use Rattle.std.specs.Prelude.{◌≡◌, ◌++◌, Some, codes, OnOk};
 ghost use Rattle.std.specs.List.{flat_map};
-ghost use Rattle.line_engine.specs.Lines.{longest_line};
-ghost use Rattle.rbac_lines.specs.CommandText.{command as command_read};
-ghost use Rattle.rbac_dump_lines.specs.CommandText.{by_kind, command_word, command_fields, command_text, field_text, AreFields};
+ghost use Rattle.serde_json.specs.Data.{object};
+ghost use Rattle.serde_json.specs.Read.{read};
+ghost use Rattle.rbac_command_text.specs.CommandText.{command_fields, command_text, command_word, field_text, AreFields};
+ghost use Rattle.rbac_command_text.specs.CommandObject.{command_object};
 
-mod reviews;
-
-use crate::command_text::reviews::{put_review_fields, review_word};
+use crate::by_kind::by_kind;
 use crate::fields::{put_name, put_names, put_three, put_two, put_whole};
-use rbac_terms::{Command, Separation};
+use crate::reviews::{put_review_fields, review_word};
+use rbac_terms::Command;
 use std::alloc::AllocError;
-
-// The one of two words that is of the kind.
-fn by_kind(
-    kind: Separation,
-    static_word: &'static str,
-    dynamic_word: &'static str,
-) -> &'static str
-    ensures { result.now ≡ by_kind kind static_word.now dynamic_word.now }
-{
-    match kind {
-        Separation::Static => static_word,
-        Separation::Dynamic => dynamic_word,
-    }
-}
 
 /// The name of a command, as LINES has it.
 pub fn command_word(command: &Command) -> &'static str
@@ -147,19 +133,28 @@ fn put_fields(text: &mut Vec<u8>, command: &Command) -> Result<(), AllocError>
             session,
             operation,
             object,
-        } => put_three(text, "session", session, "operation", operation, "object", object),
+        } => put_three(
+            text,
+            "session",
+            session,
+            "operation",
+            operation,
+            "object",
+            object,
+        ),
         Command::Review(review) => put_review_fields(text, review),
     }
 }
 
 /// A command as the text of its JSON object: compact, its name first, and then its fields in the order in which they are read. The
-/// text stands behind what the buffer has. Where it is no longer than a line may be, reading it gives the command.
+/// text stands behind what the buffer has, and reads as just that object.
 ///
 /// # Errors
 /// `AllocError` where there is no memory for it. The buffer may have a part of the text then.
 pub fn put_command(text: &mut Vec<u8>, command: &Command) -> Result<(), AllocError>
     ensures text { OnOk result (text.new.items ≡ text.old.items ++ command_text command.now) }
-    ensures reads_back { OnOk result (length (command_text command.now) ≤ longest_line → command_read (command_text command.now) ≡ Ok command.now) }
+    ensures fit { OnOk result (AreFields (command_fields command.now)) }
+    ensures reads_back { OnOk result (read (command_text command.now) ≡ Some (object (command_object command.now))) }
 {
     put_word(text, command)?;
     put_fields(text, command)?;
