@@ -47,17 +47,17 @@ no_control : (x : ℕ) → x < 32 → is_name_byte x ≡ false
 no_control x low = rw (lt-leb 65 x (omega arith), lt-leb 97 x (omega arith), lt-leb 48 x (omega arith), ne_eqb x 95 (λ e. omega arith), ne_eqb x 45 (λ e. omega arith), ne_eqb x 46 (λ e. omega arith))
 
 plain_byte : (x : ℕ) → is_name_byte x ≡ true → escape_byte x ≡ x ∷ []
-plain_byte x h = escape_byte_plain x (λ e. absurd (cc (h, subst (λ y. is_name_byte y ≡ true) e h))) (λ e. absurd (cc (h, subst (λ y. is_name_byte y ≡ true) e h))) (go (cases_lt x 32))
+plain_byte x h = escape_byte_plain x (λ e. absurd (cc h)) (λ e. absurd (cc h)) (go (cases_lt x 32))
   where
     go : (x < 32) ⊎ (32 ≤ x) → 32 ≤ x
     go (inl low) = absurd (cc (no_control x low, h))
     go (inr high) = high
 
-escape_plain : (s : List ℕ) → list_all is_name_byte s ≡ true → escape s ≡ s
+pub escape_plain : (s : List ℕ) → list_all is_name_byte s ≡ true → escape s ≡ s
 escape_plain [] h = refl
 escape_plain (x ∷ s) h = let both = and_parts (is_name_byte x) _ h in λ i. plain_byte x both.0 i ++ escape_plain s both.1 i
 
-quoted_name : (name : Name) → is_name name ≡ true → quoted name ≡ in_quotes name
+pub quoted_name : (name : Name) → is_name name ≡ true → quoted name ≡ in_quotes name
 quoted_name name h = ap (λ s. 34 ∷ (s ++ 34 ∷ [])) (escape_plain name (and_parts _ _ h).1)
 
 -- ---- The text of that JSON
@@ -109,17 +109,17 @@ print_fields (field ∷ fields) ts keyed h =
     grouped : (key value others end : List ℕ) → 44 ∷ ((in_quotes key ++ 58 ∷ []) ++ (value ++ (others ++ end))) ≡ ((codes ",\"" ++ key ++ codes "\":" ++ value) ++ others) ++ end
     grouped key value others end = simp append_assoc
 
-pub object_printed : (word : List ℕ) (fields : Fields) → is_name word ≡ true → AreKeyed fields → AreFields fields → print (tree.json_tokens (json_object word fields)) ≡ object_text word fields
+pub object_printed : (word : List ℕ) (fields : Fields) (ts : List Token) → is_name word ≡ true → AreKeyed fields → AreFields fields
+    → print_from false (tree.json_tokens (json_object word fields) ++ ts) ≡ object_text word fields ++ print_from true ts
 unfolding print_from escape_byte
-object_printed word fields named keyed h =
+object_printed word fields ts named keyed h =
     let rest = tree.members_tokens (json_members fields) in
-    ap (λ s. codes "{\"name\":" ++ (s ++ print_from true rest)) (quoted_name word named)
-    ∙ ap (λ l. codes "{\"name\":" ++ (in_quotes word ++ print_from true l)) (sym (append-nil rest))
-    ∙ ap (λ s. codes "{\"name\":" ++ (in_quotes word ++ s)) (print_fields fields [] keyed h)
-    ∙ grouped word (flat_map field_text fields)
+    ap (λ s. codes "{\"name\":" ++ (s ++ print_from true (rest ++ ts))) (quoted_name word named)
+    ∙ ap (λ s. codes "{\"name\":" ++ (in_quotes word ++ s)) (print_fields fields ts keyed h)
+    ∙ grouped word (flat_map field_text fields) (print_from true ts)
   where
-    grouped : (word others : List ℕ) → codes "{\"name\":" ++ (in_quotes word ++ (others ++ 125 ∷ [])) ≡ codes "{\"name\":\"" ++ word ++ codes "\"" ++ others ++ codes "}"
-    grouped word others = simp append_assoc
+    grouped : (word others end : List ℕ) → codes "{\"name\":" ++ (in_quotes word ++ (others ++ 125 ∷ end)) ≡ (codes "{\"name\":\"" ++ word ++ codes "\"" ++ others ++ codes "}") ++ end
+    grouped word others end = simp append_assoc
 
 -- ---- What that JSON reads as
 
@@ -169,23 +169,7 @@ fields_flat : (fields : Fields) → tree.members_depth (json_members fields) ≤
 fields_flat [] = omega arith
 fields_flat (field ∷ fields) = omega (arith, value_flat field.1, fields_flat fields)
 
-object_flat : (word : List ℕ) (fields : Fields) → tree.depth (json_object word fields) ≤ max_depth
-object_flat word fields = omega (arith, fields_flat fields)
-
--- ---- Together
-
-json_read : (j : json.Json) → tree.HasNumbers j → tree.depth j ≤ max_depth → read (print (tree.json_tokens j)) ≡ of_json j
-json_read j numbers shallow =
-    ap (λ o. option_and_then of_json (option_and_then (λ p. json.if_last p.0 p.1) o))
-    (ap (json.value max_depth) (tokens-print (tree.json_tokens j) (ArePrintable-json_tokens j numbers) ∙ sym (append-nil (tree.json_tokens j))) ∙ value-json_tokens j max_depth [] shallow)
-
-pub object_reads : (word : List ℕ) (fields : Fields) → is_name word ≡ true → AreKeyed fields → AreFields fields
-    → read (object_text word fields) ≡ Some (object (with_fields fields (put (codes "name") (string word) no_members)))
-object_reads word fields named keyed h =
-    let j = json_object word fields in
-    ap read (sym (object_printed word fields named keyed h)) ∙ json_read j (tt, fields_numbered fields h) (object_flat word fields) ∙ object_read word fields h
-
--- ---- The names of commands and their keys have nothing to escape
+-- ---- A command
 
 kind_named : (kind : Separation) (one other : List ℕ) → is_name one ≡ true → is_name other ≡ true → is_name (by_kind kind one other) ≡ true
 kind_named Static one other h k = h
@@ -206,7 +190,7 @@ review_named (RoleSets kind) = kind_named kind _ _ refl refl
 review_named (RoleSetRoles kind set) = kind_named kind _ _ refl refl
 review_named (RoleSetCardinality kind set) = kind_named kind _ _ refl refl
 
-command_named : (x : Command) → is_name (command_word x) ≡ true
+pub command_named : (x : Command) → is_name (command_word x) ≡ true
 command_named (AddUser user) = refl
 command_named (DeleteUser user) = refl
 command_named (AddRole role) = refl
@@ -246,7 +230,7 @@ review_keyed (RoleSets kind) = tt
 review_keyed (RoleSetRoles kind set) = (refl, tt)
 review_keyed (RoleSetCardinality kind set) = (refl, tt)
 
-command_keyed : (x : Command) → AreKeyed (command_fields x)
+pub command_keyed : (x : Command) → AreKeyed (command_fields x)
 command_keyed (AddUser user) = (refl, tt)
 command_keyed (DeleteUser user) = (refl, tt)
 command_keyed (AddRole role) = (refl, tt)
@@ -271,9 +255,35 @@ command_keyed (DropActiveRole user session role) = (refl, (refl, (refl, tt)))
 command_keyed (CheckAccess session operation thing) = (refl, (refl, (refl, tt)))
 command_keyed (ReviewCommand review) = review_keyed review
 
+-- the JSON of a command
+abbrev pub command_json : Command → json.Json
+command_json c = json_object (command_word c) (command_fields c)
+
+pub command_printed : (c : Command) (ts : List Token) → AreFields (command_fields c) → print_from false (tree.json_tokens (command_json c) ++ ts) ≡ command_text c ++ print_from true ts
+command_printed c ts h = object_printed (command_word c) (command_fields c) ts (command_named c) (command_keyed c) h
+
+pub command_numbered : (c : Command) → AreFields (command_fields c) → tree.HasNumbers (command_json c)
+command_numbered c h = (tt, fields_numbered (command_fields c) h)
+
+pub command_flat : (c : Command) → tree.depth (command_json c) ≤ 2
+command_flat c = omega (arith, fields_flat (command_fields c))
+
+pub command_data : (c : Command) → AreFields (command_fields c) → of_json (command_json c) ≡ Some (object (command_object c))
+command_data c h = object_read (command_word c) (command_fields c) h
+
+-- what is printed for some JSON reads as that JSON
+pub json_read : (j : json.Json) → tree.HasNumbers j → tree.depth j ≤ max_depth → read (print (tree.json_tokens j)) ≡ of_json j
+json_read j numbers shallow =
+    ap (λ o. option_and_then of_json (option_and_then (λ p. json.if_last p.0 p.1) o))
+    (ap (json.value max_depth) (tokens-print (tree.json_tokens j) (ArePrintable-json_tokens j numbers) ∙ sym (append-nil (tree.json_tokens j))) ∙ value-json_tokens j max_depth [] shallow)
+
 -- the text of a command reads as its object
 pub command_reads : (c : Command) → AreFields (command_fields c) → read (command_text c) ≡ Some (object (command_object c))
-command_reads c h = object_reads (command_word c) (command_fields c) (command_named c) (command_keyed c) h
+unfolding print_from
+command_reads c h =
+    let j = command_json c in
+    let printed : print (tree.json_tokens j) ≡ command_text c = ap print (sym (append-nil (tree.json_tokens j))) ∙ command_printed c [] h ∙ append-nil (command_text c) in
+    ap read (sym printed) ∙ json_read j (command_numbered c h) (omega (arith, command_flat c)) ∙ command_data c h
 
 pub command_reads_if : {T E : Type 0} (r : Result T E) (c : Command) → AreFields (command_fields c) → OnOk r (read (command_text c) ≡ Some (object (command_object c)))
 command_reads_if (Ok v) c h = command_reads c h

@@ -1,17 +1,18 @@
 //! The lines of a dump.
-ghost use Rattle.std.specs.Prelude.{◌≡◌, ◌≤◌, ◌++◌, true, length, map, nat_lt, IfOk, IfErr, OnOk, OnErr, Ok};
+ghost use Rattle.std.specs.Prelude.{◌≡◌, ◌++◌, true, map, IfOk, IfErr, OnOk, Ok};
 ghost use Rattle.std.specs.List.{list_any, AllByRecursion as Each};
-ghost use Rattle.line_engine.specs.Lines.{lines, longest_line};
+ghost use Rattle.line_engine.specs.Lines.{lines};
 ghost use Rattle.rbac_terms.specs.Replay.{state_after, replies};
 ghost use Rattle.rbac_terms.specs.State.{founding_state};
 ghost use Rattle.rbac_terms.specs.declared.answer.Answer.TheVariants.{Done};
 ghost use Rattle.rbac_dump.specs.Dump.{dump_of};
 ghost use Rattle.rbac_lines.specs.Client.{client};
-ghost use Rattle.rbac_dump_lines.specs.DumpText.{asking, line_text, lines_text, dump_text, is_too_long};
+ghost use Rattle.rbac_command_text.specs.CommandText.{command_fields, AreFields};
+ghost use Rattle.rbac_dump_lines.specs.DumpText.{asking, line_text, lines_text, dump_text, is_too_long, IsAsked};
 
 use line_engine::LONGEST_LINE;
-use rbac_decide::Policy;
 use rbac_command_text::put_command;
+use rbac_decide::Policy;
 use rbac_dump::commands_of;
 use rbac_terms::Command;
 use std::alloc::{AllocError, Global};
@@ -41,7 +42,7 @@ impl From<AllocError> for DumpRefusal {
 // The line by which member 1 is asked a command, without its line feed.
 fn put_asking(text: &mut Vec<u8>, command: &Command) -> Result<(), AllocError>
     ensures text { OnOk result (text.new.items ≡ text.old.items ++ asking command.now) }
-    ensures asks { OnOk result (length (asking command.now) ≤ longest_line → client (asking command.now) ≡ Ok (1, command.now)) }
+    ensures fit { OnOk result (AreFields (command_fields command.now)) }
 {
     text.extend_from_slice(b"{\"at\":1,\"command\":")?;
     put_command(text, command)?;
@@ -51,7 +52,7 @@ fn put_asking(text: &mut Vec<u8>, command: &Command) -> Result<(), AllocError>
 // The same with its line feed. Refused where it is too long to be read.
 fn put_line(text: &mut Vec<u8>, command: &Command) -> Result<(), DumpRefusal>
     ensures text { OnOk result (text.new.items ≡ text.old.items ++ line_text command.now) }
-    ensures asks { OnOk result (client (asking command.now) ≡ Ok (1, command.now)) }
+    ensures asked { OnOk result (IsAsked command.now) }
     ensures too_long { IfErr result (λ refusal. refusal ≡ DumpRefusal.LineTooLong → is_too_long command.now ≡ true) }
 {
     let before = text.len();
@@ -60,6 +61,18 @@ fn put_line(text: &mut Vec<u8>, command: &Command) -> Result<(), DumpRefusal>
         return Err(DumpRefusal::LineTooLong);
     }
     text.extend_from_slice(b"\n")?;
+    Ok(())
+}
+
+// The lines of these commands, in order. Refused where one is too long.
+fn put_lines(text: &mut Vec<u8>, commands: &[Command]) -> Result<(), DumpRefusal>
+    ensures text { OnOk result (text.new.items ≡ text.old.items ++ lines_text commands.now) }
+    ensures asked { OnOk result (Each IsAsked commands.now) }
+    ensures too_long { IfErr result (λ refusal. refusal ≡ DumpRefusal.LineTooLong → list_any is_too_long commands.now ≡ true) }
+{
+    for command in commands {
+        put_line(text, command)?;
+    }
     Ok(())
 }
 
@@ -79,8 +92,6 @@ pub fn dump_lines(alloc: Global, policy: &Policy) -> Result<Vec<u8>, DumpRefusal
     policy.invariants();
     let commands = commands_of(alloc, policy)?;
     let mut text = Vec::new(alloc);
-    for command in &commands {
-        put_line(&mut text, command)?;
-    }
+    put_lines(&mut text, &commands)?;
     Ok(text)
 }
