@@ -1,0 +1,8 @@
+//! Why a policy answers as it does: what grants an access, and what stands in the way of a command.
+#![tactic(auto)]
+
+mod chain;
+mod sorted;
+mod walk;
+
+pub use chain::Chain;
