@@ -11,7 +11,7 @@ use Rattle.sorted_keys.proofs.Ties.{one_key, ties_itself}
 use Rattle.rbac_terms.specs.Name.{Name, name_cmp, pair_cmp}
 use Rattle.rbac_terms.specs.Inheritance.{IsChain}
 use Rattle.rbac_terms.proofs.NameLemmas.{names_total, names_exact, pairs_total, pairs_exact}
-use Rattle.rbac_reasons.specs.Path.{IsPath, LeadsFrom, NoneLeads}
+use Rattle.rbac_reasons.specs.Path.{IsPath, LeadsFrom, NoneLeads, Reaches, AreReached}
 use Rattle.rbac_reasons.specs.declared.chain.Chain.{Chain}
 use Rattle.rbac_reasons.specs.Walk.{Walk, begun_at, first_of, after_first, next_of, after_next, visited, all_visited, found_by, IsTrail}
 
@@ -241,16 +241,36 @@ module _ (starts goals : List Name) (declared : List (Name × Name)) where
   begun [] q m = m
   begun (p ∷ older) q m = or_right _ _ (begun older q m)
 
-  pub walk_ends : (w : Walk) → next_of w ≡ None → IsWalk w → NoneLeads declared starts goals
-  walk_ends w none h = λ r rest q m path. go r rest q (h.members r ∙ begun w.trail r m) path
-    where
-      no_more : (xs : List Name) → first_of xs ≡ None → (q : Name) → has name_cmp q xs ≡ true → ⊥
-      no_more [] e q m = false≢true m
-      no_more (x ∷ xs) e q m = cc
+  no_more : (xs : List Name) → first_of xs ≡ None → (q : Name) → has name_cmp q xs ≡ true → ⊥
+  no_more [] e q m = false≢true m
+  no_more (x ∷ xs) e q m = cc
 
-      go : (r : Name) (rest : List Name) (q : Name) → has name_cmp r w.found ≡ true → IsPath declared r rest q → has name_cmp q goals ≡ false
-      go r [] q m path = subst (λ z. has name_cmp z goals ≡ false) path (⊎_elim (λ p. absurd (no_more w.pending none r p)) (λ f. f) (h.failed r m))
+  -- where nothing is pending, all that a chain leads to is found
+  walk_finds : (w : Walk) → next_of w ≡ None → IsWalk w → (r : Name) (rest : List Name) (q : Name) → has name_cmp r starts ≡ true → IsPath declared r rest q → has name_cmp q w.found ≡ true
+  walk_finds w none h r rest q m path = go r rest q (h.members r ∙ begun w.trail r m) path
+    where
+      go : (r : Name) (rest : List Name) (q : Name) → has name_cmp r w.found ≡ true → IsPath declared r rest q → has name_cmp q w.found ≡ true
+      go r [] q m path = subst (λ z. has name_cmp z w.found ≡ true) path m
       go r (p ∷ rest) q m path = go p rest q (⊎_elim (λ k. absurd (no_more w.pending none r k)) (λ f. f) (h.closed r p path.0 m)) path.1
+
+  pub walk_ends : (w : Walk) → next_of w ≡ None → IsWalk w → NoneLeads declared starts goals
+  walk_ends w none h = λ r rest q m path. ⊎_elim (λ p. absurd (no_more w.pending none q p)) (λ f. f) (h.failed q (walk_finds w none h r rest q m path))
+
+  path_on : (r : Name) (rest : List Name) (p q : Name) → IsPath declared r rest p → has pair_cmp (p, q) declared ≡ true → IsPath declared r (rest ++ q ∷ []) q
+  path_on r [] p q path pair = (subst (λ z. has pair_cmp (z, q) declared ≡ true) (sym path) pair, refl)
+  path_on r (x ∷ rest) p q path pair = (path.0, path_on x rest p q path.1 pair)
+
+  trail_reaches : (trail : List (Name × Name)) → IsTrail starts declared trail → (q : Name) → has name_cmp q (found_by starts trail) ≡ true → Reaches declared starts q
+  trail_reaches [] t q m = (q, [], m, refl)
+  trail_reaches (p ∷ older) t q m = ⊎_elim
+      (λ e.
+      let before = trail_reaches older t.2 p.0 t.1 in
+      subst (Reaches declared starts) (sym e) (before.0, before.1 ++ p.1 ∷ [], before.2, path_on before.0 before.1 p.0 p.1 before.3 t.0))
+      (λ there. trail_reaches older t.2 q there)
+      (head_or_rest (found_by starts older) p.1 q m)
+
+  pub walk_reaches : (w : Walk) → next_of w ≡ None → IsWalk w → AreReached declared starts w.found
+  walk_reaches w none h = λ q. (λ m. trail_reaches w.trail h.trail q (sym (h.members q) ∙ m), λ r. walk_finds w none h r.0 r.1 q r.2 r.3)
 
 -- ---- The trail back
 

@@ -1,5 +1,5 @@
 -- Chains of declared pairs between roles.
-use Rattle.std.specs.Prelude.{◌≡◌, false, List, [], ◌∷◌, IsTrue}
+use Rattle.std.specs.Prelude.{◌≡◌, ◌↔◌, false, List, [], ◌∷◌, IsTrue}
 use Rattle.sorted_keys.specs.Keys.{has}
 use Rattle.rbac_terms.specs.Name.{Name, name_cmp, pair_cmp}
 use Rattle.rbac_reasons.specs.declared.chain.Chain.{Chain}
@@ -24,3 +24,11 @@ pub record LeadsTo (declared : List (Name × Name)) (starts goals : List Name) (
 -- no chain leads from one of some names to one of others
 abbrev pub NoneLeads : List (Name × Name) → List Name → List Name → Type 0
 NoneLeads declared starts goals = (r : Name) (rest : List Name) (q : Name) → IsTrue (has name_cmp r starts) → IsPath declared r rest q → has name_cmp q goals ≡ false
+
+-- a chain leads to the name from one of some names
+abbrev pub Reaches : List (Name × Name) → List Name → Name → Type 0
+Reaches declared starts q = (r : Name) × (rest : List Name) × IsTrue (has name_cmp r starts) × IsPath declared r rest q
+
+-- these are the names to which one leads
+abbrev pub AreReached : List (Name × Name) → List Name → List Name → Type 0
+AreReached declared starts names = (q : Name) → IsTrue (has name_cmp q names) ↔ Reaches declared starts q

@@ -2,7 +2,9 @@
 #![tactic(auto)]
 
 mod chain;
+mod granted;
 mod sorted;
 mod walk;
 
 pub use chain::Chain;
+pub use granted::{Reason, reason};

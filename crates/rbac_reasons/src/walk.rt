@@ -3,7 +3,7 @@ ghost use Rattle.std.specs.Prelude.{◌≡◌, IfOk, OnOk, IfSome, IsNone, List,
 ghost use Rattle.std.specs.List.Sorted.{IsStrictlySortedBy};
 ghost use Rattle.sorted_keys.specs.Keys.{has};
 ghost use Rattle.rbac_terms.specs.Name.{Name as NameValue, name_cmp, pair_cmp};
-ghost use Rattle.rbac_reasons.specs.Path.{LeadsFrom, LeadsTo, NoneLeads};
+ghost use Rattle.rbac_reasons.specs.Path.{LeadsFrom, LeadsTo, NoneLeads, AreReached};
 ghost use Rattle.rbac_reasons.specs.Walk.{IsTrail, found_by};
 
 use crate::chain::Chain;
@@ -78,6 +78,13 @@ impl Walk {
         Ok(())
     }
 
+    // The roles that were found.
+    fn into_found(self) -> NameSet
+        ensures { result ≡ self.found }
+    {
+        self.found
+    }
+
     // The pairs by which roles were found.
     fn into_pairs(self) -> Vec<(Name, Name)>
         ensures { reverse result.items ≡ self.trail }
@@ -121,4 +128,20 @@ pub(crate) fn find_chain(
         walk.visit_all(beginning_with(declared, &role))?;
     }
     Ok(None)
+}
+
+/// The roles to which a chain leads from one of these.
+pub(crate) fn reached(
+    alloc: Global,
+    declared: &[(Name, Name)],
+    starts: &NameSet,
+) -> Result<NameSet, AllocError>
+    requires { IsStrictlySortedBy pair_cmp declared.now }
+    ensures { IfOk result (AreReached declared.now starts.now) }
+{
+    let mut walk = Walk::begin(alloc, starts)?;
+    while let Some(role) = walk.next() {
+        walk.visit_all(beginning_with(declared, &role))?;
+    }
+    Ok(walk.into_found())
 }
