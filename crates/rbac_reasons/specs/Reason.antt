@@ -5,7 +5,7 @@ use Rattle.rbac_terms.specs.Name.{Name, Permission, name_cmp, grant_cmp}
 use Rattle.rbac_terms.specs.State.{State}
 use Rattle.rbac_terms.specs.Inheritance.{IsChain}
 use Rattle.rbac_terms.specs.Reviews.{active_roles}
-use Rattle.rbac_reasons.specs.declared.granted.Reason.{Reason}
+use Rattle.rbac_reasons.specs.declared.told.Reason.{Reason}
 
 -- a role that is active in the session inherits, by the roles between, one that is granted the permission (ANSI INCITS 359-2004,
 -- 5.2: authorized_permissions, and 6.1.2: CheckAccess)

@@ -11,23 +11,12 @@ ghost use Rattle.rbac_terms.specs.declared.command.Command.TheVariants.{CheckAcc
 ghost use Rattle.rbac_reasons.specs.Reason.{IsReason};
 
 use crate::sorted::{seconds, value_at};
+use crate::told::Reason;
 use crate::walk::find_chain;
 use rbac_decide::Policy;
 use rbac_terms::Name;
 use sorted_keys::PairProbe;
 use std::alloc::{AllocError, Global};
-
-/// Why a session may perform an operation on an object.
-#[derive(Drop)]
-pub struct Reason {
-    /// A role that is active in the session.
-    pub active: Name,
-    /// The roles after it, of which each is a declared descendant of the one before it, down to the one that the permission is
-    /// granted to. Empty where that is the active role.
-    pub inherited: Vec<Name>,
-    /// The role that the permission is granted to.
-    pub granted: Name,
-}
 
 // Whether a check is answered Granted.
 fn is_granted(policy: &Policy, session: &Name, operation: &Name, object: &Name) -> bool

@@ -4,7 +4,9 @@
 mod chain;
 mod granted;
 mod sorted;
+mod told;
 mod walk;
 
 pub use chain::Chain;
-pub use granted::{Reason, reason};
+pub use granted::reason;
+pub use told::Reason;
