@@ -1,3 +1,3 @@
-pub mod Faults
+pub mod Failures
 pub mod Applying
 pub mod Tracing

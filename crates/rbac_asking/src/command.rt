@@ -1,17 +1,18 @@
 //! The whole program but for the standard streams.
 ghost use Rattle.std.specs.Prelude.{◌≡◌, ◌≤◌, if◌then◌else◌, is_ok};
 
-use crate::fault::Fault;
+use crate::failure::Failure;
 use crate::founding_file::founding_of;
 use crate::input::{Made, play, serve};
 use crate::tracing::{picture, tell, write_whole};
-use crate::words::{Asked, Lines, read_words};
+use crate::words::{Asked, Check, Lines, read_words};
 use clap::Error;
 use rbac_decide::Policy;
 use rbac_dump_lines::dump_lines;
 use rbac_founding::Founding;
 use rbac_lines::RunFault;
-use rbac_pages::{graph, page};
+use rbac_pages::{graph, page, why};
+use rbac_terms::{Name, NameRefusal};
 use std::alloc::{AllocError, Global};
 use std::convert::AsStr;
 use std::fmt::Display;
@@ -35,7 +36,7 @@ fn made_of<'w, R: Read + Drop, E: Write>(
     founding: Founding,
     reader: R,
     errors: &mut E,
-) -> Result<Made, Fault<'w>> {
+) -> Result<Made, Failure<'w>> {
     if lines.are_client_lines {
         Ok(Made::Served(serve(alloc, founding, reader, errors)?))
     } else {
@@ -44,12 +45,30 @@ fn made_of<'w, R: Read + Drop, E: Write>(
 }
 
 // What is told of a policy.
-fn text_of<'w>(alloc: Global, asked: Asked<'w>, policy: &Policy) -> Result<Vec<u8>, Fault<'w>> {
+fn text_of<'w>(alloc: Global, asked: Asked<'w>, policy: &Policy) -> Result<Vec<u8>, Failure<'w>> {
     match asked {
         Asked::Dump(_) => Ok(dump_lines(alloc, policy)?),
         Asked::Graph(_) => Ok(graph(alloc, policy)?),
+        Asked::Why(_, check) => why_text(alloc, check, policy),
         _ => Ok(page(alloc, policy)?),
     }
+}
+
+// The name that a word is.
+fn name_of<'w>(alloc: Global, word: &'w str) -> Result<Name, Failure<'w>> {
+    match Name::read(alloc, word.as_bytes()) {
+        Ok(name) => Ok(name),
+        Err(NameRefusal::BadName) => Err(Failure::BadName(word)),
+        Err(NameRefusal::NoMemory) => Err(Failure::from(AllocError)),
+    }
+}
+
+// Why a check is answered as it is.
+fn why_text<'w>(alloc: Global, check: Check<'w>, policy: &Policy) -> Result<Vec<u8>, Failure<'w>> {
+    let session = name_of(alloc, check.session)?;
+    let operation = name_of(alloc, check.operation)?;
+    let object = name_of(alloc, check.object)?;
+    Ok(why(alloc, policy, &session, &operation, &object)?)
 }
 
 // Reads the lines, and writes what is asked of them.
@@ -60,11 +79,14 @@ fn answer<'w, R: Read + Drop, W: Write, E: Write>(
     reader: R,
     writer: &mut W,
     errors: &mut E,
-) -> Result<(), Fault<'w>> {
+) -> Result<(), Failure<'w>> {
     match asked {
         Asked::Trace(_) => tell(alloc, founding, reader, writer),
         Asked::Diagram(_) => picture(alloc, founding, reader, writer),
-        Asked::Dump(lines) | Asked::Page(lines) | Asked::Graph(lines) => {
+        Asked::Dump(lines)
+        | Asked::Page(lines)
+        | Asked::Graph(lines)
+        | Asked::Why(lines, _) => {
             let made = made_of(alloc, lines, founding, reader, errors)?;
             write_whole(writer, &text_of(alloc, asked, made.policy())?)
         }
@@ -77,7 +99,8 @@ fn lines_of(asked: Asked<'_>) -> Lines<'_> {
         | Asked::Page(lines)
         | Asked::Graph(lines)
         | Asked::Trace(lines)
-        | Asked::Diagram(lines) => lines,
+        | Asked::Diagram(lines)
+        | Asked::Why(lines, _) => lines,
     }
 }
 
@@ -88,7 +111,7 @@ fn answer_files<'w, T: Files + AllocGlobal, R: Read + Drop, W: Write, E: Write>(
     reader: R,
     writer: &mut W,
     errors: &mut E,
-) -> Result<(), Fault<'w>> {
+) -> Result<(), Failure<'w>> {
     let lines = lines_of(asked);
     let founding = founding_of(rt, lines.founding)?;
     if lines.path == "-" {
@@ -96,7 +119,7 @@ fn answer_files<'w, T: Files + AllocGlobal, R: Read + Drop, W: Write, E: Write>(
     }
     match fs::open(rt, lines.path) {
         Ok(file) => answer(rt.alloc(), asked, founding, file, writer, errors),
-        Err(_) => Err(Fault::File(lines.path)),
+        Err(_) => Err(Failure::File(lines.path)),
     }
 }
 
@@ -114,7 +137,7 @@ pub fn command<T: Files + AllocGlobal, S: AsStr, R: Read + Drop, W: Write, E: Wr
     match read_words(rt.alloc(), words) {
         Ok(asked) => status_of(answer_files(rt, asked, reader, writer, errors), errors),
         Err(error) if error.kind() == clap::error::ErrorKind::OutOfMemory => {
-            tell_fault(errors, Fault::from(AllocError))
+            tell_failure(errors, Failure::from(AllocError))
         }
         Err(error) if error.use_stderr() => {
             put(errors, &error);
@@ -125,12 +148,12 @@ pub fn command<T: Files + AllocGlobal, S: AsStr, R: Read + Drop, W: Write, E: Wr
 }
 
 // The status of what was done. A fault of it is told.
-fn status_of<E: Write>(done: Result<(), Fault<'_>>, errors: &mut E) -> u8
+fn status_of<E: Write>(done: Result<(), Failure<'_>>, errors: &mut E) -> u8
     ensures { result ≡ (if is_ok done.entry then 0 else 1) }
 {
     match done {
         Ok(()) => DONE,
-        Err(fault) => tell_fault(errors, fault),
+        Err(fault) => tell_failure(errors, fault),
     }
 }
 
@@ -151,7 +174,7 @@ pub fn program<T: Files + Env + AllocGlobal, R: Read + Drop, W: Write, E: Write>
     match words_of(rt) {
         Ok(words) => command(rt, &words, reader, writer, errors),
         Err(error) if error.kind() == ErrorKind::OutOfMemory => {
-            tell_fault(errors, Fault::from(AllocError))
+            tell_failure(errors, Failure::from(AllocError))
         }
         Err(_) => {
             put(errors, &"error: a word of the command line is not text\n");
@@ -165,7 +188,7 @@ fn show<W: Write, D: Display, E: Write>(stream: &mut W, text: &D, errors: &mut E
     ensures { result ≤ 1 }
 {
     if write!(stream, "{text}").is_err() || stream.flush().is_err() {
-        return tell_fault(errors, Fault::Run(RunFault::Write));
+        return tell_failure(errors, Failure::Run(RunFault::Write));
     }
     DONE
 }
@@ -176,7 +199,7 @@ fn put<W: Write, D: Display>(stream: &mut W, text: &D) {
 }
 
 // Tells a fault, and answers its status.
-fn tell_fault<E: Write>(errors: &mut E, fault: Fault<'_>) -> u8
+fn tell_failure<E: Write>(errors: &mut E, fault: Failure<'_>) -> u8
     ensures { result ≡ 1 }
 {
     let _ = writeln!(errors, "{fault}");

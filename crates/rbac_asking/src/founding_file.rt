@@ -2,7 +2,7 @@
 ghost use Rattle.std.specs.Prelude.{◌≡◌, IfOk, codes};
 ghost use Rattle.rbac_founding.specs.Sample.{sample_group, sample_vocabulary};
 
-use crate::fault::Fault;
+use crate::failure::Failure;
 use rbac_founding::limits::LONGEST_FILE;
 use rbac_founding::{Founding, FoundingRefusal, read_founding, sample_founding};
 use std::alloc::Global;
@@ -23,7 +23,7 @@ fn bytes_of<T: Files + AllocGlobal>(rt: &T, path: &str) -> io::Result<Vec<u8>> {
 pub(crate) fn founding_of<'w, T: Files + AllocGlobal>(
     rt: &T,
     path: &'w str,
-) -> Result<Founding, Fault<'w>>
+) -> Result<Founding, Failure<'w>>
     ensures sample_group { path.now ≡ codes "-" → IfOk result (λ founding. founding.group ≡ sample_group) }
     ensures sample_vocabulary { path.now ≡ codes "-" → IfOk result (λ founding. founding.vocabulary ≡ sample_vocabulary) }
 {
@@ -33,8 +33,8 @@ pub(crate) fn founding_of<'w, T: Files + AllocGlobal>(
     match bytes_of(rt, path) {
         Ok(bytes) => Ok(read_founding(rt.alloc(), &bytes)?),
         Err(error) if error.kind() == ErrorKind::OutOfMemory => {
-            Err(Fault::Founding(FoundingRefusal::NoMemory))
+            Err(Failure::Founding(FoundingRefusal::NoMemory))
         }
-        Err(_) => Err(Fault::File(path)),
+        Err(_) => Err(Failure::File(path)),
     }
 }

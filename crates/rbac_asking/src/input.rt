@@ -3,7 +3,7 @@ ghost use Rattle.std.specs.Prelude.{◌≡◌, false};
 ghost use Rattle.line_engine.specs.Watched.{failed_of};
 
 use crate::applying::{Applying, Served};
-use crate::fault::Fault;
+use crate::failure::Failure;
 use line_engine::run_lines;
 use rbac_decide::Policy;
 use rbac_founding::Founding;
@@ -44,7 +44,7 @@ pub(crate) fn play<'w, R: Read + Drop, E: Write>(
     founding: Founding,
     reader: R,
     errors: &mut E,
-) -> Result<World, Fault<'w>> {
+) -> Result<World, Failure<'w>> {
     let Founding { group, vocabulary } = founding;
     let mut world = World::found(alloc, group, vocabulary)?;
     let summary = run(
@@ -70,7 +70,7 @@ pub(crate) fn serve<'w, R: Read + Drop, E: Write>(
     founding: Founding,
     reader: R,
     errors: &mut E,
-) -> Result<Served, Fault<'w>> {
+) -> Result<Served, Failure<'w>> {
     let Founding { group, vocabulary } = founding;
     let mut served = Served::found(group.members(), Policy::found(alloc, vocabulary));
     run_lines::<Applying, R, &mut E>(

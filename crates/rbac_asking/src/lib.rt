@@ -4,7 +4,7 @@
 
 mod applying;
 pub mod command;
-mod fault;
+mod failure;
 mod founding_file;
 mod input;
 mod tracing;

@@ -1,6 +1,6 @@
 //! A schedule played line by line, with what each line does to its member.
 
-use crate::fault::Fault;
+use crate::failure::Failure;
 use crate::input::MOST_READS;
 use line_engine::{Taking, run_lines};
 use rbac_founding::Founding;
@@ -132,7 +132,7 @@ pub(crate) fn tell<'w, R: Read + Drop, W: Write>(
     founding: Founding,
     reader: R,
     writer: &mut W,
-) -> Result<(), Fault<'w>> {
+) -> Result<(), Failure<'w>> {
     let Founding { group, vocabulary } = founding;
     let mut world = World::found(alloc, group, vocabulary)?;
     run_lines::<Tracing, R, &mut W>(
@@ -153,7 +153,7 @@ pub(crate) fn picture<'w, R: Read + Drop, W: Write>(
     founding: Founding,
     reader: R,
     writer: &mut W,
-) -> Result<(), Fault<'w>> {
+) -> Result<(), Failure<'w>> {
     let Founding { group, vocabulary } = founding;
     let world = World::found(alloc, group, vocabulary)?;
     let diagram = Diagram::new(alloc, &world)?;
@@ -169,9 +169,9 @@ pub(crate) fn picture<'w, R: Read + Drop, W: Write>(
 }
 
 /// Writes a text to its end.
-pub(crate) fn write_whole<'w, W: Write>(writer: &mut W, text: &[u8]) -> Result<(), Fault<'w>> {
+pub(crate) fn write_whole<'w, W: Write>(writer: &mut W, text: &[u8]) -> Result<(), Failure<'w>> {
     if writer.write_all(text).is_err() || writer.flush().is_err() {
-        return Err(Fault::Run(RunFault::Write));
+        return Err(Failure::Run(RunFault::Write));
     }
     Ok(())
 }

@@ -26,6 +26,16 @@ pub(crate) enum Asked<'w> {
     Trace(Lines<'w>),
     /// The schedule as a space-time diagram.
     Diagram(Lines<'w>),
+    /// Why a check is answered as it is.
+    Why(Lines<'w>, Check<'w>),
+}
+
+/// The words of a check.
+#[derive(Clone, Copy, Drop)]
+pub(crate) struct Check<'w> {
+    pub(crate) session: &'w str,
+    pub(crate) operation: &'w str,
+    pub(crate) object: &'w str,
 }
 
 const ABOUT: &str =
@@ -43,6 +53,7 @@ Examples:
   echo '{\"at\":1,\"command\":{\"name\":\"AddUser\",\"user\":\"ann\"}}' | rbac_ask show --serve - -
   rbac_ask dump --serve FOUNDING JOURNAL | rbac_monitor serve FOUNDING
   rbac_ask show --dot FOUNDING SCHEDULE | dot -T svg > roles.svg
+  rbac_ask why --serve FOUNDING JOURNAL SESSION OPERATION OBJECT
   rbac_ask trace FOUNDING SCHEDULE
   rbac_ask trace --svg FOUNDING SCHEDULE > schedule.svg
 
@@ -77,6 +88,15 @@ fn reading<'w>(alloc: Global, name: &'w str, about: &'w str) -> Result<Command<'
         .arg(path(alloc, "LINES", LINES))
 }
 
+// The subcommand that asks about a check.
+fn asking_why<'w>(alloc: Global, client: &'w str) -> Result<Command<'w>, AllocError> {
+    reading(alloc, "why", "Tells why a check of access is granted, or that it is not")?
+        .arg(path(alloc, "SESSION", "The session that is checked"))?
+        .arg(path(alloc, "OPERATION", "The operation"))?
+        .arg(path(alloc, "OBJECT", "The object"))?
+        .arg(flag(alloc, "serve", client))
+}
+
 fn command_line<'w>(alloc: Global) -> Result<Command<'w>, AllocError> {
     let client = "LINES are client lines, as serve takes them, and no schedule";
     let dump = reading(alloc, "dump", "Prints the client lines that make the policy again")?
@@ -94,7 +114,8 @@ fn command_line<'w>(alloc: Global) -> Result<Command<'w>, AllocError> {
         .subcommand_required(true)
         .subcommand(dump)?
         .subcommand(show)?
-        .subcommand(trace)
+        .subcommand(trace)?
+        .subcommand(asking_why(alloc, client)?)
 }
 
 fn lines_of<'w>(matches: &ArgMatches<'w>) -> Lines<'w> {
@@ -105,6 +126,14 @@ fn lines_of<'w>(matches: &ArgMatches<'w>) -> Lines<'w> {
     }
 }
 
+fn check_of<'w>(matches: &ArgMatches<'w>) -> Check<'w> {
+    Check {
+        session: matches.get_str("SESSION").unwrap_or(""),
+        operation: matches.get_str("OPERATION").unwrap_or(""),
+        object: matches.get_str("OBJECT").unwrap_or(""),
+    }
+}
+
 // Without a subcommand, which the command line refuses before, the policy is told as a page.
 fn asked_of<'w>(matches: &ArgMatches<'w>) -> Asked<'w> {
     match matches.subcommand() {
@@ -112,6 +141,7 @@ fn asked_of<'w>(matches: &ArgMatches<'w>) -> Asked<'w> {
         Some(("show", words)) if words.get_flag("dot") => Asked::Graph(lines_of(words)),
         Some(("trace", words)) if words.get_flag("svg") => Asked::Diagram(lines_of(words)),
         Some(("trace", words)) => Asked::Trace(lines_of(words)),
+        Some(("why", words)) => Asked::Why(lines_of(words), check_of(words)),
         Some((_, words)) => Asked::Page(lines_of(words)),
         None => Asked::Page(lines_of(matches)),
     }

@@ -1,7 +1,9 @@
 -- The lines of a dump's text.
-use Rattle.std.proofs.Common.{◌≡◌, ℕ, List, [], ◌∷◌, ◌++◌, Bool, true, false, not, ◌==◌, if◌then◌else◌, map, take, codes, Ok, refl, sym, ap, ap₂, ◌∙◌, append_assoc, append-nil}
+use Rattle.std.proofs.Common.{◌≡◌, ◌<◌, ◌+◌, ℕ, List, [], ◌∷◌, ◌++◌, Bool, true, false, not, if◌then◌else◌, map, take, get_or, length, codes, Ok, refl, sym, ap, ap₂, ◌∙◌, subst, append_assoc, append-nil}
 use Rattle.std.specs.List.{list_all, AllByRecursion as Each}
 use Rattle.std.proofs.lemmas.Bool.{and_parts}
+use Rattle.std.proofs.lemmas.List.{take_more}
+use Rattle.std.proofs.lemmas.List.Concat.{flat_map-append}
 use Rattle.line_engine.specs.Lines.{is_line_feed, ended_lines, open_line, last_line, lines}
 use Rattle.rbac_terms.specs.declared.command.Command.{Command}
 use Rattle.rbac_lines.specs.Client.{client}
@@ -59,3 +61,13 @@ lines_ask cs h =
 pub each_more : {X : Type 0} (P : X → Type 0) (xs : List X) (x : X) → Each P xs → P x → Each P (xs ++ x ∷ [])
 each_more P [] x h p = (p, tt)
 each_more P (y ∷ xs) x h p = (h.0, each_more P xs x h.1 p)
+
+pub line_more : (old so_far new : List ℕ) (cs : List Command) (i : ℕ) (c : Command) → i < length cs → c ≡ get_or cs i c
+    → so_far ≡ old ++ lines_text (take i cs) → Each IsAsked (take i cs) → new ≡ so_far ++ line_text c → IsAsked c
+    → (new ≡ old ++ lines_text (take (i + 1) cs)) × Each IsAsked (take (i + 1) cs)
+line_more old so_far new cs i c within is before asked put this =
+    let front = take_more cs i c within ∙ ap (λ x. take i cs ++ x ∷ []) (sym is) in
+    let told = flat_map-append line_text (take i cs) (c ∷ []) ∙ ap (λ l. lines_text (take i cs) ++ l) (append-nil (line_text c)) in (
+      put ∙ ap (λ l. l ++ line_text c) before ∙ append_assoc old (lines_text (take i cs)) (line_text c) ∙ ap (λ l. old ++ l) (sym told ∙ ap lines_text (sym front)),
+      subst (Each IsAsked) (sym front) (each_more IsAsked (take i cs) c asked this),
+    )

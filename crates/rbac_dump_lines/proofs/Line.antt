@@ -1,11 +1,10 @@
 -- The line by which member 1 is asked a command asks for that.
-use Rattle.std.proofs.Common.{◌≡◌, ◌≤◌, ◌<◌, ◌^◌, ◌⊎◌, inl, inr, ℕ, List, [], ◌∷◌, ◌++◌, Bool, true, false, ◌&&◌, ◌==◌, not, nat_lt, length, if◌then◌else◌, Option, Some, None, option_map, option_and_then, Result, Ok, Err, ok_or, OnOk, IsTrue, IsUtf8, codes, decimal, refl, sym, ap, ◌∙◌, subst, arith, append_assoc, append-nil}
+use Rattle.std.proofs.Common.{◌≡◌, ◌≤◌, ◌<◌, ◌⊎◌, inl, inr, ℕ, List, [], ◌∷◌, ◌++◌, true, false, not, nat_lt, length, Some, option_map, option_and_then, Result, Ok, Err, ok_or, OnOk, IsUtf8, codes, decimal, refl, sym, ap, ◌∙◌, arith, append_assoc}
 use Rattle.std.specs.List.{flat_map, join_by, list_all}
 use Rattle.std.specs.Fmt.{digits}
-use Rattle.std.specs.Str.{is_utf8}
 use Rattle.std.specs.Str.Parse.{AllDigits}
-use Rattle.std.proofs.lemmas.Bool.{le-ltb, lt-ltb, lt-leb, ne_eqb, and_parts, and_from, and_right, or_from, cases_lt}
-use Rattle.std.proofs.lemmas.Str.{is_utf8-from_IsUtf8, IsUtf8-append, IsUtf8-nil, IsUtf8-from_ascii}
+use Rattle.std.proofs.lemmas.Bool.{lt-ltb, lt-leb, ne_eqb, and_parts, and_from, and_right, or_from, cases_lt}
+use Rattle.std.proofs.lemmas.Str.{IsUtf8-append, IsUtf8-nil, IsUtf8-from_ascii}
 use Rattle.std.proofs.lemmas.Fmt.{IsAscii-decimal, decimal_is_IsNumeral}
 use Rattle.std.proofs.lemmas.Str.Parse.{digit_from_value}
 use Rattle.std.proofs.lemmas.List.Folds.{list_all-append}
@@ -15,7 +14,7 @@ use Rattle.json.specs.Token as token
 use Rattle.json.specs.Print.{print, print_from, escape_byte}
 use Rattle.json.proofs.Printed.Decimals.{IsNumber-decimal}
 use Rattle.json.proofs.Printed.Utf8.{are_ascii, IsUtf8-are_ascii}
-use Rattle.serde_json.specs.Data.{Data, Members, no_members, object, number, unsigned, put}
+use Rattle.serde_json.specs.Data.{Members, no_members, object, number, unsigned, put}
 use Rattle.serde_json.specs.Read.{read, of_json, of_members}
 use Rattle.serde_json.specs.Find.{as_object}
 use Rattle.serde_json.proofs.Numbers.{number_of-decimal}
@@ -23,13 +22,11 @@ use Rattle.line_engine.specs.Lines.{longest_line}
 use Rattle.rbac_terms.specs.Name.{Name, is_name, is_name_byte}
 use Rattle.rbac_terms.specs.declared.command.Command.{Command}
 use Rattle.rbac_founding.specs.Steps.{◌>>=◌}
-use Rattle.rbac_lines.specs.declared.refusal.LineRefusal.{LineRefusal}
 use Rattle.rbac_lines.specs.declared.refusal.LineRefusal.TheVariants.{NotObject}
 use Rattle.rbac_lines.specs.Fields.{Reading}
 use Rattle.rbac_lines.proofs.EventLemmas.{value_of_json}
-use Rattle.rbac_lines.specs.Command.{command_of}
 use Rattle.rbac_lines.specs.Client.{client, client_of}
-use Rattle.rbac_command_text.specs.CommandText.{Field, Fields, one_name, some_names, whole, in_quotes, array_text, value_text, field_text, object_text, command_text, command_word, command_fields, IsField, AreFields}
+use Rattle.rbac_command_text.specs.CommandText.{Field, Fields, one_name, some_names, whole, in_quotes, value_text, field_text, command_text, command_word, command_fields, IsField, AreFields}
 use Rattle.rbac_command_text.specs.CommandObject.{command_object}
 use Rattle.rbac_command_text.proofs.ObjectLemmas.{AreKeyed, command_json, command_printed, command_numbered, command_flat, command_data, command_named, command_keyed, json_read}
 use Rattle.rbac_dump_lines.specs.DumpText.{asking, is_no_feed, IsAsked}
@@ -141,16 +138,20 @@ line_reads : (c : Command) → AreFields (command_fields c) → read (asking c) 
 unfolding line_json
 line_reads c h =
     ap read (sym (line_printed c h))
-    ∙ json_read (line_json c) (IsNumber-decimal 1 (omega arith), command_numbered c h, tt) (omega (arith, command_flat c))
+    ∙ json_read (line_json c) (IsNumber-decimal 1 (omega arith), (command_numbered c h, tt)) (omega (arith, command_flat c))
     ∙ line_data c h
 
 -- ---- What it asks for
+
+abbrev of_member_1 : Reading Command → Reading (ℕ × Command)
+of_member_1 v = v >>= (λ command. Ok (1, command))
 
 pub line_asks : (c : Command) → AreFields (command_fields c) → length (asking c) ≤ longest_line → client (asking c) ≡ Ok (1, c)
 unfolding client
 line_asks c h short =
     ap (λ v. v >>= (λ value. ok_or (as_object value) NotObject >>= (λ fields. client_of fields))) (value_of_json (asking c) (object (line_members c)) short (one_line-asking c h).0 (line_reads c h))
-    ∙ ap (λ v. v >>= (λ asked. Ok {E = LineRefusal} (1, asked))) (command_back c h)
+    ∙ ap of_member_1 (command_back c h)
 
-pub line_is_asked : (c : Command) → AreFields (command_fields c) → length (asking c) ≤ longest_line → IsAsked c
-line_is_asked c h short = (line_asks c h short, (one_line-asking c h).1)
+pub line_is_asked : {T E : Type 0} (r : Result T E) (c : Command) → AreFields (command_fields c) → OnOk r (length (asking c) ≤ longest_line → IsAsked c)
+line_is_asked (Ok v) c h = λ short. (line_asks c h short, (one_line-asking c h).1)
+line_is_asked (Err e) c h = tt

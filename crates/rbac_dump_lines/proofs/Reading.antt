@@ -1,17 +1,14 @@
 -- The object of a command stands for that command.
-use Rattle.std.proofs.Common.{◌≡◌, ◌<◌, ◌^◌, ℕ, List, [], ◌∷◌, Bool, true, false, Option, Some, option_map, option_and_then, IsTrue, Ok, Err, if◌then◌else◌, nat_lt, codes, refl, sym, ap, ◌∙◌, arith}
+use Rattle.std.proofs.Common.{◌≡◌, ◌^◌, List, [], ◌∷◌, Some, option_map, Ok, refl, ap}
 use Rattle.std.proofs.lemmas.Bool.{lt-ltb}
-use Rattle.std.specs.List.{list_all}
-use Rattle.std.specs.List.Sorted.{IsStrictlySortedBy}
 use Rattle.sorted_keys.proofs.Gathered.{set_of-sorted}
-use Rattle.serde_json.specs.Data.{Data, Members, string}
-use Rattle.rbac_terms.specs.Name.{Name, is_name, name_cmp}
+use Rattle.rbac_terms.specs.Name.{Name}
 use Rattle.rbac_terms.proofs.NameLemmas.{names_total}
 use Rattle.rbac_terms.specs.declared.separation.Separation.TheVariants.{Static, Dynamic}
 use Rattle.rbac_terms.specs.declared.review.Review.TheVariants.{AssignedUsers, AssignedRoles, AuthorizedUsers, AuthorizedRoles, RolePermissions, UserPermissions, SessionRoles, SessionPermissions, RoleOperationsOnObject, UserOperationsOnObject, RoleSets, RoleSetRoles, RoleSetCardinality}
 use Rattle.rbac_terms.specs.declared.command.Command.{Command}
 use Rattle.rbac_terms.specs.declared.command.Command.TheVariants.{AddUser, DeleteUser, AddRole, DeleteRole, AssignUser, DeassignUser, GrantPermission, RevokePermission, AddInheritance, DeleteInheritance, AddAscendant, AddDescendant, CreateSet, DeleteSet, AddRoleMember, DeleteRoleMember, SetCardinality, CreateSession, DeleteSession, AddActiveRole, DropActiveRole, CheckAccess, Review as ReviewCommand}
-use Rattle.rbac_lines.specs.Fields.{Reading, name_of, names_of, texts_of, if_small}
+use Rattle.rbac_lines.specs.Fields.{texts_of}
 use Rattle.rbac_lines.specs.Command.{command_of, hierarchy_command, session_command, separation_command, review_command, set_review}
 use Rattle.rbac_command_text.specs.CommandText.{command_fields, AreFields}
 use Rattle.rbac_command_text.specs.CommandObject.{items_of, command_object}

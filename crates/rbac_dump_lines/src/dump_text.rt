@@ -1,13 +1,12 @@
 //! The lines of a dump.
-ghost use Rattle.std.specs.Prelude.{◌≡◌, ◌++◌, true, map, IfOk, IfErr, OnOk, Ok};
+ghost use Rattle.std.specs.Prelude.{◌≡◌, ◌≤◌, ◌++◌, true, length, map, IfOk, IfErr, OnOk, Ok};
 ghost use Rattle.std.specs.List.{list_any, AllByRecursion as Each};
-ghost use Rattle.line_engine.specs.Lines.{lines};
+ghost use Rattle.line_engine.specs.Lines.{lines, longest_line};
 ghost use Rattle.rbac_terms.specs.Replay.{state_after, replies};
 ghost use Rattle.rbac_terms.specs.State.{founding_state};
 ghost use Rattle.rbac_terms.specs.declared.answer.Answer.TheVariants.{Done};
 ghost use Rattle.rbac_dump.specs.Dump.{dump_of};
 ghost use Rattle.rbac_lines.specs.Client.{client};
-ghost use Rattle.rbac_command_text.specs.CommandText.{command_fields, AreFields};
 ghost use Rattle.rbac_dump_lines.specs.DumpText.{asking, line_text, lines_text, dump_text, is_too_long, IsAsked};
 
 use line_engine::LONGEST_LINE;
@@ -42,7 +41,7 @@ impl From<AllocError> for DumpRefusal {
 // The line by which member 1 is asked a command, without its line feed.
 fn put_asking(text: &mut Vec<u8>, command: &Command) -> Result<(), AllocError>
     ensures text { OnOk result (text.new.items ≡ text.old.items ++ asking command.now) }
-    ensures fit { OnOk result (AreFields (command_fields command.now)) }
+    ensures asked { OnOk result (length (asking command.now) ≤ longest_line → IsAsked command.now) }
 {
     text.extend_from_slice(b"{\"at\":1,\"command\":")?;
     put_command(text, command)?;
@@ -85,8 +84,8 @@ fn put_lines(text: &mut Vec<u8>, commands: &[Command]) -> Result<(), DumpRefusal
 pub fn dump_lines(alloc: Global, policy: &Policy) -> Result<Vec<u8>, DumpRefusal>
     ensures text { IfOk result (λ text. text.items ≡ dump_text policy.now) }
     ensures asks { IfOk result (λ text. map client (lines text.items) ≡ map (λ command. Ok (1, command)) (dump_of policy.now)) }
-    ensures made { state_after (founding_state policy.now.vocabulary) (dump_of policy.now) ≡ policy.now }
-    ensures done { Each (λ answer. answer ≡ Done) (replies (founding_state policy.now.vocabulary) (dump_of policy.now)) }
+    ensures made { OnOk result (state_after (founding_state policy.now.vocabulary) (dump_of policy.now) ≡ policy.now) }
+    ensures done { OnOk result (Each (λ answer. answer ≡ Done) (replies (founding_state policy.now.vocabulary) (dump_of policy.now))) }
     ensures too_long { IfErr result (λ refusal. refusal ≡ DumpRefusal.LineTooLong → list_any is_too_long (dump_of policy.now) ≡ true) }
 {
     policy.invariants();

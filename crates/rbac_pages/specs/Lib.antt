@@ -1,1 +1,2 @@
 pub mod GraphText
+pub mod WhyText

@@ -98,9 +98,10 @@ fn put_waiting(
     };
     put_stamp(text, *least)?;
     text.extend_from_slice(b" waits for")?;
-    for awaited in &awaited_of(alloc, world, member, *least)? {
-        let number = awaited.member;
-        put(text, format_args!(" {number}"))?;
+    let awaited = awaited_of(alloc, world, member, *least)?;
+    for (place, one) in awaited.iter().enumerate() {
+        let (before, number) = (if place == 0 { " " } else { ", " }, one.member);
+        put(text, format_args!("{before}{number}"))?;
     }
     Ok(())
 }

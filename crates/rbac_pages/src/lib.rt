@@ -1,8 +1,9 @@
-//! Pages for people: a policy as a page and as a graph of its roles, and what the lines of a schedule do to the members of a
+//! Pages for people: a policy as a page and as a graph of its roles, why a check is granted, and what the lines of a schedule do to the members of a
 //! group, as a text for each line and as Lamport's space-time diagram. The layouts are this project's own and may change.
 #![tactic(auto)]
 
 mod diagram;
+mod granting;
 mod held;
 mod policy_page;
 mod roles_graph;
@@ -10,6 +11,7 @@ mod text;
 mod trace;
 
 pub use diagram::Diagram;
+pub use granting::why;
 pub use policy_page::page;
 pub use roles_graph::graph;
 pub use trace::{put_end, put_refused, put_refused_line, put_step};

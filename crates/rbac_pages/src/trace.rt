@@ -29,7 +29,7 @@ fn put_held(text: &mut Vec<u8>, held: &[Stamp]) -> Result<(), AllocError> {
 // A member that is waited for.
 fn put_awaited(text: &mut Vec<u8>, awaited: Awaited) -> Result<(), AllocError> {
     let member = awaited.member;
-    put(text, format_args!(" of member {member}"))?;
+    put(text, format_args!(", of member {member}"))?;
     match awaited.last {
         None => text.extend_from_slice(b" (none taken)"),
         Some(last) => {
