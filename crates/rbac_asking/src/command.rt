@@ -1,9 +1,10 @@
 //! The whole program but for the standard streams.
-ghost use Rattle.std.specs.Prelude.{◌≡◌, ◌≤◌, if◌then◌else◌, is_ok};
+ghost use Rattle.std.specs.Prelude.{◌≡◌, ◌≤◌, if◌then◌else◌, is_ok, IfOk};
+ghost use Rattle.rbac_asking.specs.Asked.{Tells};
 
 use crate::failure::Failure;
 use crate::founding_file::founding_of;
-use crate::input::{Made, play, serve};
+use crate::input::{play, serve};
 use crate::tracing::{picture, tell, write_whole};
 use crate::words::{Asked, Check, Lines, read_words};
 use clap::Error;
@@ -29,23 +30,10 @@ const FAULT: u8 = 1;
 /// The command line is refused.
 const REFUSED: u8 = 2;
 
-// What the lines leave.
-fn made_of<'w, R: Read + Drop, E: Write>(
-    alloc: Global,
-    lines: Lines<'w>,
-    founding: Founding,
-    reader: R,
-    errors: &mut E,
-) -> Result<Made, Failure<'w>> {
-    if lines.are_client_lines {
-        Ok(Made::Served(serve(alloc, founding, reader, errors)?))
-    } else {
-        Ok(Made::World(play(alloc, founding, reader, errors)?))
-    }
-}
-
 // What is told of a policy.
-fn text_of<'w>(alloc: Global, asked: Asked<'w>, policy: &Policy) -> Result<Vec<u8>, Failure<'w>> {
+fn text_of<'w>(alloc: Global, asked: Asked<'w>, policy: &Policy) -> Result<Vec<u8>, Failure<'w>>
+    ensures { IfOk result (λ text. Tells asked.entry policy.now text.items) }
+{
     match asked {
         Asked::Dump(_) => Ok(dump_lines(alloc, policy)?),
         Asked::Graph(_) => Ok(graph(alloc, policy)?),
@@ -71,6 +59,35 @@ fn why_text<'w>(alloc: Global, check: Check<'w>, policy: &Policy) -> Result<Vec<
     Ok(why(alloc, policy, &session, &operation, &object)?)
 }
 
+// Plays a schedule, and writes what is asked of member 1.
+fn answer_schedule<'w, R: Read + Drop, W: Write, E: Write>(
+    alloc: Global,
+    asked: Asked<'w>,
+    founding: Founding,
+    reader: R,
+    writer: &mut W,
+    errors: &mut E,
+) -> Result<(), Failure<'w>> {
+    let world = play(alloc, founding, reader, errors)?;
+    let Some(member) = world.member(1) else {
+        unreachable!()
+    };
+    write_whole(writer, &text_of(alloc, asked, member.policy())?)
+}
+
+// Applies client lines, and writes what is asked of the policy.
+fn answer_served<'w, R: Read + Drop, W: Write, E: Write>(
+    alloc: Global,
+    asked: Asked<'w>,
+    founding: Founding,
+    reader: R,
+    writer: &mut W,
+    errors: &mut E,
+) -> Result<(), Failure<'w>> {
+    let served = serve(alloc, founding, reader, errors)?;
+    write_whole(writer, &text_of(alloc, asked, served.policy())?)
+}
+
 // Reads the lines, and writes what is asked of them.
 fn answer<'w, R: Read + Drop, W: Write, E: Write>(
     alloc: Global,
@@ -83,13 +100,10 @@ fn answer<'w, R: Read + Drop, W: Write, E: Write>(
     match asked {
         Asked::Trace(_) => tell(alloc, founding, reader, writer),
         Asked::Diagram(_) => picture(alloc, founding, reader, writer),
-        Asked::Dump(lines)
-        | Asked::Page(lines)
-        | Asked::Graph(lines)
-        | Asked::Why(lines, _) => {
-            let made = made_of(alloc, lines, founding, reader, errors)?;
-            write_whole(writer, &text_of(alloc, asked, made.policy())?)
+        _ if lines_of(asked).are_client_lines => {
+            answer_served(alloc, asked, founding, reader, writer, errors)
         }
+        _ => answer_schedule(alloc, asked, founding, reader, writer, errors),
     }
 }
 

@@ -1,6 +1,6 @@
 //! The policy that is asked about: that of member 1 after a schedule, or that of a group that was asked client lines.
-ghost use Rattle.std.specs.Prelude.{◌≡◌, false};
-ghost use Rattle.line_engine.specs.Watched.{failed_of};
+ghost use Rattle.std.specs.Prelude.{◌≡◌, true, IfOk};
+ghost use Rattle.rbac_words.specs.World.{is_member};
 
 use crate::applying::{Applying, Served};
 use crate::failure::Failure;
@@ -16,36 +16,17 @@ use std::io::{Read, Write};
 /// How often the input is read at most.
 pub(crate) const MOST_READS: u32 = 268_435_456;
 
-/// What was made of the lines.
-#[derive(Drop)]
-pub(crate) enum Made {
-    World(World),
-    Served(Served),
-}
-
-impl Made {
-    /// The policy of member 1.
-    pub(crate) fn policy(&self) -> &Policy {
-        match self {
-            Made::World(world) => {
-                let Some(member) = world.member(1) else {
-                    unreachable!()
-                };
-                member.policy()
-            }
-            Made::Served(served) => served.policy(),
-        }
-    }
-}
-
 /// A schedule played on the world of a founding. How many lines were refused is told in a line, since they have changed nothing.
 pub(crate) fn play<'w, R: Read + Drop, E: Write>(
     alloc: Global,
     founding: Founding,
     reader: R,
     errors: &mut E,
-) -> Result<World, Failure<'w>> {
+) -> Result<World, Failure<'w>>
+    ensures { IfOk result (λ world. is_member world 1 ≡ true) }
+{
     let Founding { group, vocabulary } = founding;
+    group.invariants();
     let mut world = World::found(alloc, group, vocabulary)?;
     let summary = run(
         alloc,
@@ -57,10 +38,14 @@ pub(crate) fn play<'w, R: Read + Drop, E: Write>(
     Ok(world)
 }
 
+// How many lines were refused, if any.
 fn tell_refused<E: Write>(summary: Summary, errors: &mut E) {
     let Summary { lines, refused } = summary;
     if refused != 0 {
-        let _ = writeln!(errors, "rbac_ask: {refused} of {lines} lines were refused, and have changed nothing");
+        let _ = writeln!(
+            errors,
+            "rbac_ask: {refused} of {lines} lines were refused, and have changed nothing"
+        );
     }
 }
 

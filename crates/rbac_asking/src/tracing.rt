@@ -105,12 +105,7 @@ impl Taking for Drawing {
 }
 
 // The row of one event. Ok says whether it was refused.
-fn draw(
-    drawn: &mut Drawn,
-    alloc: Global,
-    number: u64,
-    event: &Event,
-) -> Result<bool, AllocError> {
+fn draw(drawn: &mut Drawn, alloc: Global, number: u64, event: &Event) -> Result<bool, AllocError> {
     let Drawn { world, diagram } = drawn;
     match world.step(alloc, event) {
         Ok(outcome) => {

@@ -90,22 +90,38 @@ fn reading<'w>(alloc: Global, name: &'w str, about: &'w str) -> Result<Command<'
 
 // The subcommand that asks about a check.
 fn asking_why<'w>(alloc: Global, client: &'w str) -> Result<Command<'w>, AllocError> {
-    reading(alloc, "why", "Tells why a check of access is granted, or that it is not")?
-        .arg(path(alloc, "SESSION", "The session that is checked"))?
-        .arg(path(alloc, "OPERATION", "The operation"))?
-        .arg(path(alloc, "OBJECT", "The object"))?
-        .arg(flag(alloc, "serve", client))
+    reading(
+        alloc,
+        "why",
+        "Tells why a check of access is granted, or that it is not",
+    )?
+    .arg(path(alloc, "SESSION", "The session that is checked"))?
+    .arg(path(alloc, "OPERATION", "The operation"))?
+    .arg(path(alloc, "OBJECT", "The object"))?
+    .arg(flag(alloc, "serve", client))
 }
 
 fn command_line<'w>(alloc: Global) -> Result<Command<'w>, AllocError> {
     let client = "LINES are client lines, as serve takes them, and no schedule";
-    let dump = reading(alloc, "dump", "Prints the client lines that make the policy again")?
-        .arg(flag(alloc, "serve", client))?;
+    let dump = reading(
+        alloc,
+        "dump",
+        "Prints the client lines that make the policy again",
+    )?
+    .arg(flag(alloc, "serve", client))?;
     let show = reading(alloc, "show", "Prints the policy as a page for people")?
         .arg(flag(alloc, "serve", client))?
-        .arg(flag(alloc, "dot", "The roles and their declared pairs as a graph for Graphviz"))?;
-    let trace = reading(alloc, "trace", "Prints what each line of a schedule does to its member")?
-        .arg(flag(alloc, "svg", "Lamport's space-time diagram of the schedule"))?;
+        .arg(flag(
+            alloc,
+            "dot",
+            "The roles and their declared pairs as a graph for Graphviz",
+        ))?;
+    let trace = reading(
+        alloc,
+        "trace",
+        "Prints what each line of a schedule does to its member",
+    )?
+    .arg(flag(alloc, "svg", "Lamport's space-time diagram of the schedule"))?;
     Command::new(alloc, "rbac_ask")
         .bin_name("rbac_ask")?
         .version(VERSION)

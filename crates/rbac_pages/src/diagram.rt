@@ -16,8 +16,11 @@ use rbac_world::World;
 use std::alloc::{AllocError, Global};
 
 const LEFT: u64 = 84;
+
 const TOP: u64 = 124;
+
 const STEP: u64 = 220;
+
 const RISE: u64 = 26;
 
 const STYLE: &[u8] = br##"<style>
@@ -217,7 +220,9 @@ impl Diagram {
         let y = self.place(1, self.rows).y.saturating_add(4);
         put(
             &mut self.marks,
-            format_args!("<text x=\"44\" y=\"{y}\" text-anchor=\"end\" class=\"small\">{line}</text>\n"),
+            format_args!(
+                "<text x=\"44\" y=\"{y}\" text-anchor=\"end\" class=\"small\">{line}</text>\n"
+            ),
         )
     }
 
@@ -277,7 +282,9 @@ impl Diagram {
 fn put_head(text: &mut Vec<u8>, width: u64, height: u64) -> Result<(), AllocError> {
     put(
         text,
-        format_args!("<svg xmlns=\"http://www.w3.org/2000/svg\" width=\"{width}\" height=\"{height}\" viewBox=\"0 0 {width} {height}\" role=\"img\">\n"),
+        format_args!(
+            "<svg xmlns=\"http://www.w3.org/2000/svg\" width=\"{width}\" height=\"{height}\" viewBox=\"0 0 {width} {height}\" role=\"img\">\n"
+        ),
     )?;
     text.extend_from_slice(b"<title>The schedule as a space-time diagram</title>\n")?;
     text.extend_from_slice(STYLE)?;
@@ -295,7 +302,9 @@ fn put_head(text: &mut Vec<u8>, width: u64, height: u64) -> Result<(), AllocErro
     }
     put_ring(text, Place { x: 30, y: 64 })?;
     put_label(text, Place { x: 30, y: 64 })?;
-    text.extend_from_slice(b"nothing is delivered: whom the least held command waits for</text>\n")?;
+    text.extend_from_slice(
+        b"nothing is delivered: whom the least held command waits for</text>\n",
+    )?;
     put_cross(text, Place { x: 450, y: 64 })?;
     put_label(text, Place { x: 450, y: 64 })?;
     text.extend_from_slice(b"refused</text>\n")
@@ -310,7 +319,9 @@ impl Diagram {
         let above = top.saturating_sub(8);
         put(
             text,
-            format_args!("<text x=\"{x}\" y=\"{above}\" text-anchor=\"middle\" class=\"name\">member {member}</text>\n"),
+            format_args!(
+                "<text x=\"{x}\" y=\"{above}\" text-anchor=\"middle\" class=\"name\">member {member}</text>\n"
+            ),
         )?;
         put(
             text,

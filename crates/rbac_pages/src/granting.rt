@@ -81,7 +81,9 @@ fn refusal_text(
 ) -> Result<Vec<u8>, AllocError> {
     let mut text = Vec::new(alloc);
     match policy.check(session, operation, object) {
-        Ok(_) => text.extend_from_slice(b"Refused: no active role has the permission, itself or by a role that it inherits\n")?,
+        Ok(_) => text.extend_from_slice(
+            b"Refused: no active role has the permission, itself or by a role that it inherits\n",
+        )?,
         Err(denial) => {
             text.extend_from_slice(b"Denied: ")?;
             text.extend_from_slice(denial.word().as_bytes())?;

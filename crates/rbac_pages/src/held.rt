@@ -52,7 +52,9 @@ fn add_held(
     last: Option<Stamp>,
 ) -> Result<(), AllocError> {
     if let Message::Batch {
-        stamp, commands, ..
+        stamp,
+        commands,
+        ..
     } = message
     {
         let mut own = *stamp;
@@ -119,12 +121,10 @@ pub(crate) fn awaited_of(
         if let Some(sender) = world.member(number) {
             let last = taken(member, sender).last().map(|message| message.stamp());
             if !is_passed(stamp, last) {
-                awaited.push(
-                    Awaited {
-                        member: number,
-                        last,
-                    },
-                )?;
+                awaited.push(Awaited {
+                    member: number,
+                    last,
+                })?;
             }
         }
     }

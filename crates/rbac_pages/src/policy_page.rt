@@ -18,7 +18,10 @@ fn split_first<'p>(
 fn split_grants<'p, 'g>(
     grants: &'p [&'g ((Name, Name), Name)],
     role: &Name,
-) -> (&'p [&'g ((Name, Name), Name)], &'p [&'g ((Name, Name), Name)]) {
+) -> (
+    &'p [&'g ((Name, Name), Name)],
+    &'p [&'g ((Name, Name), Name)],
+) {
     let own = grants.iter().take_while(|grant| grant.1 == *role).count();
     grants.split_at(own)
 }
@@ -71,10 +74,7 @@ fn grants_by_role(
 }
 
 // The permissions of some grants, each on a line.
-fn put_grants(
-    text: &mut Vec<u8>,
-    grants: &[&((Name, Name), Name)],
-) -> Result<(), AllocError> {
+fn put_grants(text: &mut Vec<u8>, grants: &[&((Name, Name), Name)]) -> Result<(), AllocError> {
     for grant in grants {
         text.extend_from_slice(b"    may ")?;
         text.extend_from_slice(grant.0.0.as_bytes())?;
@@ -104,7 +104,9 @@ fn put_role(
 
 // Each role with its declared pairs and its own grants.
 fn put_roles(alloc: Global, text: &mut Vec<u8>, policy: &Policy) -> Result<(), AllocError> {
-    text.extend_from_slice(b"roles, the roles that each is declared to inherit, and its own grants\n")?;
+    text.extend_from_slice(
+        b"roles, the roles that each is declared to inherit, and its own grants\n",
+    )?;
     put_none(text, policy.roles().is_empty())?;
     let sorted = grants_by_role(alloc, policy)?;
     let mut grants = sorted.as_slice();

@@ -213,7 +213,9 @@ pub fn put_end(alloc: Global, text: &mut Vec<u8>, world: &World) -> Result<(), A
             let delivered = member.history().len();
             put(
                 text,
-                format_args!("  member {number}: clock {clock}, messages sent {sent}, commands delivered {delivered}\n"),
+                format_args!(
+                    "  member {number}: clock {clock}, messages sent {sent}, commands delivered {delivered}\n"
+                ),
             )?;
             put_state(alloc, text, world, member)?;
         }

@@ -15,7 +15,9 @@ pub(crate) fn put_arrow(text: &mut Vec<u8>, begin: Place, end: Place) -> Result<
     let (x, y, to_x, to_y) = (begin.x, begin.y, end.x, end.y);
     put(
         text,
-        format_args!("<line x1=\"{x}\" y1=\"{y}\" x2=\"{to_x}\" y2=\"{to_y}\" class=\"message\" marker-end=\"url(#tip)\"/>\n"),
+        format_args!(
+            "<line x1=\"{x}\" y1=\"{y}\" x2=\"{to_x}\" y2=\"{to_y}\" class=\"message\" marker-end=\"url(#tip)\"/>\n"
+        ),
     )
 }
 
@@ -39,16 +41,23 @@ pub(crate) fn put_cross(text: &mut Vec<u8>, place: Place) -> Result<(), AllocErr
     let (top, low) = (place.y.saturating_sub(4), place.y.saturating_add(4));
     put(
         text,
-        format_args!("<line x1=\"{left}\" y1=\"{top}\" x2=\"{right}\" y2=\"{low}\" class=\"refused\"/>\n"),
+        format_args!(
+            "<line x1=\"{left}\" y1=\"{top}\" x2=\"{right}\" y2=\"{low}\" class=\"refused\"/>\n"
+        ),
     )?;
     put(
         text,
-        format_args!("<line x1=\"{left}\" y1=\"{low}\" x2=\"{right}\" y2=\"{top}\" class=\"refused\"/>\n"),
+        format_args!(
+            "<line x1=\"{left}\" y1=\"{low}\" x2=\"{right}\" y2=\"{top}\" class=\"refused\"/>\n"
+        ),
     )
 }
 
 /// Begins the label at a place's right, which its caller ends.
 pub(crate) fn put_label(text: &mut Vec<u8>, place: Place) -> Result<(), AllocError> {
     let (x, y) = (place.x.saturating_add(11), place.y.saturating_sub(3));
-    put(text, format_args!("<text x=\"{x}\" y=\"{y}\" class=\"small\">"))
+    put(
+        text,
+        format_args!("<text x=\"{x}\" y=\"{y}\" class=\"small\">"),
+    )
 }
