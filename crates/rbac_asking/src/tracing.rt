@@ -1,11 +1,13 @@
 //! A schedule played line by line, with what each line does to its member.
+ghost use Rattle.std.specs.Prelude.{◌≡◌, ◌≢◌, ◌⊎◌, ◌++◌, true, ℕ, List, IfOk, OnOk, OnErr, is_err};
+ghost use Rattle.rbac_words.specs.World.{step, step_outcome};
 
 use crate::failure::Failure;
 use crate::input::MOST_READS;
 use line_engine::{Taking, run_lines};
 use rbac_founding::Founding;
 use rbac_lines::{LineRefusal, RunFault, read_line, watch};
-use rbac_pages::{Diagram, put_end, put_refused, put_refused_line, put_step};
+use rbac_pages::{Diagram, end_text, refused_line_text, refused_text, step_text};
 use rbac_words::{Event, Refusal};
 use rbac_world::World;
 use std::alloc::{AllocError, Global};
@@ -18,7 +20,6 @@ struct Tracing;
 impl Taking for Tracing {
     type Over = World;
 
-    ghost use Rattle.std.specs.Prelude.{◌≡◌};
     ghost use Rattle.rbac_words.specs.World.{World as WorldValue};
     ghost use Rattle.rbac_asking.specs.Tracing.{MovesLine};
 
@@ -37,11 +38,7 @@ impl Taking for Tracing {
     ) -> Result<bool, AllocError> {
         match read_line(alloc, line) {
             Ok(event) => trace(world, alloc, number, &event, text),
-            Err(LineRefusal::NoMemory) => Err(AllocError),
-            Err(refusal) => {
-                put_refused_line(text, number, refusal)?;
-                Ok(true)
-            }
+            Err(refusal) => refuse(alloc, number, refusal, text),
         }
     }
 }
@@ -53,15 +50,43 @@ fn trace(
     number: u64,
     event: &Event,
     text: &mut Vec<u8>,
-) -> Result<bool, AllocError> {
+) -> Result<bool, AllocError>
+    ensures grown { OnOk result ((own : List ℕ) × (text.new.items ≡ text.old.items ++ own)) }
+    ensures refused { IfOk result (λ is_refused. is_refused ≡ is_err (step_outcome world.old event.now)) }
+    ensures stepped { OnOk result (world.new ≡ step world.old event.now) }
+    ensures starved { OnErr result ((world.new ≡ world.old) ⊎ (world.new ≡ step world.old event.now)) }
+{
     match world.step(alloc, event) {
         Ok(outcome) => {
-            put_step(alloc, text, number, world, event, outcome)?;
+            let own = step_text(alloc, number, world, event, outcome)?;
+            text.extend_from_slice(&own)?;
             Ok(false)
         }
         Err(Refusal::NoMemory) => Err(AllocError),
         Err(refusal) => {
-            put_refused(text, number, refusal)?;
+            let own = refused_text(alloc, number, refusal)?;
+            text.extend_from_slice(&own)?;
+            Ok(true)
+        }
+    }
+}
+
+// A line that is no event, unless memory ran out. Ok says that it is refused.
+fn refuse(
+    alloc: Global,
+    number: u64,
+    refusal: LineRefusal,
+    text: &mut Vec<u8>,
+) -> Result<bool, AllocError>
+    ensures grown { OnOk result ((own : List ℕ) × (text.new.items ≡ text.old.items ++ own)) }
+    ensures refused { IfOk result (λ is_refused. is_refused ≡ true) }
+    ensures other { OnOk result (refusal ≢ LineRefusal.NoMemory) }
+{
+    match refusal {
+        LineRefusal::NoMemory => Err(AllocError),
+        other => {
+            let own = refused_line_text(alloc, number, other)?;
+            text.extend_from_slice(&own)?;
             Ok(true)
         }
     }
@@ -97,16 +122,24 @@ impl Taking for Drawing {
         _text: &mut Vec<u8>,
     ) -> Result<bool, AllocError> {
         match read_line(alloc, line) {
-            Ok(event) => draw(drawn, alloc, number, &event),
-            Err(LineRefusal::NoMemory) => Err(AllocError),
-            Err(_) => Ok(true),
+            Ok(event) => draw(&mut drawn.world, &mut drawn.diagram, alloc, number, &event),
+            Err(refusal) => skip(refusal),
         }
     }
 }
 
 // The row of one event. Ok says whether it was refused.
-fn draw(drawn: &mut Drawn, alloc: Global, number: u64, event: &Event) -> Result<bool, AllocError> {
-    let Drawn { world, diagram } = drawn;
+fn draw(
+    world: &mut World,
+    diagram: &mut Diagram,
+    alloc: Global,
+    number: u64,
+    event: &Event,
+) -> Result<bool, AllocError>
+    ensures refused { IfOk result (λ is_refused. is_refused ≡ is_err (step_outcome world.old event.now)) }
+    ensures stepped { OnOk result (world.new ≡ step world.old event.now) }
+    ensures starved { OnErr result ((world.new ≡ world.old) ⊎ (world.new ≡ step world.old event.now)) }
+{
     match world.step(alloc, event) {
         Ok(outcome) => {
             diagram.add(alloc, number, world, event, outcome)?;
@@ -117,6 +150,17 @@ fn draw(drawn: &mut Drawn, alloc: Global, number: u64, event: &Event) -> Result<
             diagram.add_refused(number, event, refusal)?;
             Ok(true)
         }
+    }
+}
+
+// A line that is no event has no row, unless memory ran out. Ok says that it is refused.
+fn skip(refusal: LineRefusal) -> Result<bool, AllocError>
+    ensures refused { IfOk result (λ is_refused. is_refused ≡ true) }
+    ensures other { OnOk result (refusal ≢ LineRefusal.NoMemory) }
+{
+    match refusal {
+        LineRefusal::NoMemory => Err(AllocError),
+        _ => Ok(true),
     }
 }
 
@@ -137,9 +181,7 @@ pub(crate) fn tell<'w, R: Read + Drop, W: Write>(
         &mut world,
         MOST_READS,
     )?;
-    let mut text = Vec::new(alloc);
-    put_end(alloc, &mut text, &world)?;
-    write_whole(writer, &text)
+    write_whole(writer, &end_text(alloc, &world)?)
 }
 
 /// Plays the lines of a schedule, and writes their space-time diagram. A line that is no event has no row.

@@ -179,6 +179,21 @@ impl Diagram {
         Ok(())
     }
 
+    // What a receipt has done.
+    fn draw_receipt(
+        &mut self,
+        at: u32,
+        event: &Event,
+        acknowledged: Option<Stamp>,
+    ) -> Result<(), AllocError> {
+        match event {
+            Event::Receive { from, number, .. } => {
+                self.draw_taken(*from, *number, at, acknowledged)
+            }
+            _ => Ok(()),
+        }
+    }
+
     // What a member has submitted.
     fn draw_sent(&mut self, at: u32, event: &Event, stamp: Stamp) -> Result<(), AllocError> {
         let place = self.place(at, self.rows);
@@ -240,17 +255,14 @@ impl Diagram {
     ) -> Result<(), AllocError> {
         self.draw_number(line)?;
         let at = member_of(event);
-        match (event, outcome) {
-            (Event::Receive { from, number, .. }, Outcome::Received(acknowledged)) => {
-                self.draw_taken(*from, *number, at, acknowledged)?;
-            }
-            (_, Outcome::Submitted(stamp)) => self.draw_sent(at, event, stamp)?,
-            (_, Outcome::Delivered(delivered)) => {
+        match outcome {
+            Outcome::Submitted(stamp) => self.draw_sent(at, event, stamp)?,
+            Outcome::Received(acknowledged) => self.draw_receipt(at, event, acknowledged)?,
+            Outcome::Delivered(delivered) => {
                 if let Some(member) = world.member(at) {
                     self.draw_delivered(alloc, world, member, delivered)?;
                 }
             }
-            _ => {}
         }
         self.rows = self.rows.saturating_add(1);
         Ok(())

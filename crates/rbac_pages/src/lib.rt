@@ -14,4 +14,4 @@ pub use diagram::Diagram;
 pub use granting::why;
 pub use policy_page::page;
 pub use roles_graph::graph;
-pub use trace::{put_end, put_refused, put_refused_line, put_step};
+pub use trace::{end_text, refused_line_text, refused_text, step_text};

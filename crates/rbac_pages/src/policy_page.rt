@@ -14,16 +14,15 @@ fn split_first<'p>(
     pairs.split_at(own)
 }
 
-// The same of grants, which are sorted by their roles here.
-fn split_grants<'p, 'g>(
+// The grants from a place on whose role is this one. They are sorted by their roles here.
+fn own_grants<'p, 'g>(
     grants: &'p [&'g ((Name, Name), Name)],
+    from: usize,
     role: &Name,
-) -> (
-    &'p [&'g ((Name, Name), Name)],
-    &'p [&'g ((Name, Name), Name)],
-) {
-    let own = grants.iter().take_while(|grant| grant.1 == *role).count();
-    grants.split_at(own)
+) -> &'p [&'g ((Name, Name), Name)] {
+    let rest = grants.get(from..).unwrap_or(&[]);
+    let own = rest.iter().take_while(|grant| grant.1 == *role).count();
+    rest.get(..own).unwrap_or(&[])
 }
 
 // Says so where a part of the page has nothing.
@@ -109,14 +108,14 @@ fn put_roles(alloc: Global, text: &mut Vec<u8>, policy: &Policy) -> Result<(), A
     )?;
     put_none(text, policy.roles().is_empty())?;
     let sorted = grants_by_role(alloc, policy)?;
-    let mut grants = sorted.as_slice();
+    let mut from = 0usize;
     let mut pairs = policy.declarations();
     for role in policy.roles() {
-        let (declared, other_pairs) = split_first(pairs, role);
-        let (own, other_grants) = split_grants(grants, role);
+        let (declared, others) = split_first(pairs, role);
+        let own = own_grants(&sorted, from, role);
         put_role(text, role, declared, own)?;
-        pairs = other_pairs;
-        grants = other_grants;
+        from = from.saturating_add(own.len());
+        pairs = others;
     }
     Ok(())
 }

@@ -9,6 +9,7 @@ use rbac_words::limits::MOST_MEMBERS;
 use rbac_words::{Command, Event, Outcome, Refusal, Stamp};
 use rbac_world::World;
 use std::alloc::{AllocError, Global};
+use std::slice;
 
 /// So many held commands are named at most.
 const MOST_NAMED: usize = 8;
@@ -128,6 +129,32 @@ fn put_delivered(
     text.extend_from_slice(b"\n")
 }
 
+// What a member has submitted.
+fn put_submitted(
+    text: &mut Vec<u8>,
+    member: &Member,
+    event: &Event,
+    stamp: Stamp,
+) -> Result<(), AllocError> {
+    match event {
+        Event::Submit { command, .. } => put_sent(text, member, stamp, slice::from_ref(command)),
+        Event::SubmitBatch { commands, .. } => put_sent(text, member, stamp, commands.as_slice()),
+        _ => text.extend_from_slice(b"\n"),
+    }
+}
+
+// What a receipt has done.
+fn put_receipt(
+    text: &mut Vec<u8>,
+    event: &Event,
+    acknowledged: Option<Stamp>,
+) -> Result<(), AllocError> {
+    match event {
+        Event::Receive { at, from, number } => put_taken(text, *at, *from, *number, acknowledged),
+        _ => text.extend_from_slice(b"\n"),
+    }
+}
+
 // What an event has done at its member.
 fn put_outcome(
     text: &mut Vec<u8>,
@@ -135,18 +162,10 @@ fn put_outcome(
     event: &Event,
     outcome: Outcome,
 ) -> Result<(), AllocError> {
-    match (event, outcome) {
-        (Event::Submit { command, .. }, Outcome::Submitted(stamp)) => {
-            put_sent(text, member, stamp, std::slice::from_ref(command))
-        }
-        (Event::SubmitBatch { commands, .. }, Outcome::Submitted(stamp)) => {
-            put_sent(text, member, stamp, commands.as_slice())
-        }
-        (Event::Receive { at, from, number }, Outcome::Received(acknowledged)) => {
-            put_taken(text, *at, *from, *number, acknowledged)
-        }
-        (_, Outcome::Delivered(place)) => put_delivered(text, member, place),
-        _ => text.extend_from_slice(b"\n"),
+    match outcome {
+        Outcome::Submitted(stamp) => put_submitted(text, member, event, stamp),
+        Outcome::Received(acknowledged) => put_receipt(text, event, acknowledged),
+        Outcome::Delivered(place) => put_delivered(text, member, place),
     }
 }
 
@@ -160,20 +179,14 @@ pub(crate) fn member_of(event: &Event) -> u32 {
     }
 }
 
-/// Puts what the event of a line has done in the world, which is that after it: what its member sent, took or delivered, what it
-/// holds back then, and whom it waits for.
-///
-/// # Errors
-/// `AllocError` where there is no memory for it.
-pub fn put_step(
+// What the event of a line has done.
+fn put_step(
     alloc: Global,
     text: &mut Vec<u8>,
-    line: u64,
     world: &World,
     event: &Event,
     outcome: Outcome,
 ) -> Result<(), AllocError> {
-    put(text, format_args!("line {line}: "))?;
     let Some(member) = world.member(member_of(event)) else {
         return text.extend_from_slice(b"\n");
     };
@@ -181,44 +194,77 @@ pub fn put_step(
     put_state(alloc, text, world, member)
 }
 
-/// Puts why the event of a line was refused.
+/// What the event of a line has done in the world, which is that after it: what its member sent, took or delivered, what it holds
+/// back then, and whom it waits for.
 ///
 /// # Errors
 /// `AllocError` where there is no memory for it.
-pub fn put_refused(text: &mut Vec<u8>, line: u64, refusal: Refusal) -> Result<(), AllocError> {
-    put(text, format_args!("line {line}: refused: {refusal}\n"))
+pub fn step_text(
+    alloc: Global,
+    line: u64,
+    world: &World,
+    event: &Event,
+    outcome: Outcome,
+) -> Result<Vec<u8>, AllocError> {
+    let mut text = Vec::new(alloc);
+    put(&mut text, format_args!("line {line}: "))?;
+    put_step(alloc, &mut text, world, event, outcome)?;
+    Ok(text)
 }
 
-/// Puts why a line is no event.
+/// Why the event of a line was refused.
 ///
 /// # Errors
 /// `AllocError` where there is no memory for it.
-pub fn put_refused_line(
-    text: &mut Vec<u8>,
+pub fn refused_text(alloc: Global, line: u64, refusal: Refusal) -> Result<Vec<u8>, AllocError> {
+    let mut text = Vec::new(alloc);
+    put(&mut text, format_args!("line {line}: refused: {refusal}\n"))?;
+    Ok(text)
+}
+
+/// Why a line is no event.
+///
+/// # Errors
+/// `AllocError` where there is no memory for it.
+pub fn refused_line_text(
+    alloc: Global,
     line: u64,
     refusal: LineRefusal,
-) -> Result<(), AllocError> {
-    put(text, format_args!("line {line}: refused: {refusal}\n"))
+) -> Result<Vec<u8>, AllocError> {
+    let mut text = Vec::new(alloc);
+    put(&mut text, format_args!("line {line}: refused: {refusal}\n"))?;
+    Ok(text)
 }
 
-/// Puts where each member stands at the end.
+// Where a member stands.
+fn put_standing(
+    alloc: Global,
+    text: &mut Vec<u8>,
+    world: &World,
+    member: &Member,
+) -> Result<(), AllocError> {
+    let (number, clock) = (member.number(), member.clock());
+    let (sent, delivered) = (member.sent().len(), member.history().len());
+    put(
+        text,
+        format_args!(
+            "  member {number}: clock {clock}, messages sent {sent}, commands delivered {delivered}\n"
+        ),
+    )?;
+    put_state(alloc, text, world, member)
+}
+
+/// Where each member stands at the end.
 ///
 /// # Errors
 /// `AllocError` where there is no memory for it.
-pub fn put_end(alloc: Global, text: &mut Vec<u8>, world: &World) -> Result<(), AllocError> {
+pub fn end_text(alloc: Global, world: &World) -> Result<Vec<u8>, AllocError> {
+    let mut text = Vec::new(alloc);
     text.extend_from_slice(b"at the end:\n")?;
     for number in 1..=MOST_MEMBERS {
         if let Some(member) = world.member(number) {
-            let (clock, sent) = (member.clock(), member.sent().len());
-            let delivered = member.history().len();
-            put(
-                text,
-                format_args!(
-                    "  member {number}: clock {clock}, messages sent {sent}, commands delivered {delivered}\n"
-                ),
-            )?;
-            put_state(alloc, text, world, member)?;
+            put_standing(alloc, &mut text, world, member)?;
         }
     }
-    Ok(())
+    Ok(text)
 }
