@@ -55,7 +55,7 @@ pub(crate) fn put_cross(text: &mut Vec<u8>, place: Place) -> Result<(), AllocErr
 
 /// Begins the label at a place's right, which its caller ends.
 pub(crate) fn put_label(text: &mut Vec<u8>, place: Place) -> Result<(), AllocError> {
-    let (x, y) = (place.x.saturating_add(11), place.y.saturating_sub(3));
+    let (x, y) = (place.x.saturating_add(11), place.y.saturating_add(4));
     put(
         text,
         format_args!("<text x=\"{x}\" y=\"{y}\" class=\"small\">"),
