@@ -16,9 +16,8 @@ impl News {
         }
     }
 
-    /// A member has published its messages up to a number.
-    pub(crate) fn add(&mut self, from: u32, number: usize) {
-        let place = (from as usize).wrapping_sub(1);
+    /// The member at a place has published its messages up to a number.
+    pub(crate) fn set(&mut self, place: usize, number: usize) {
         if let Some(up_to) = self.up_to.get_mut(place) {
             *up_to = number;
         }

@@ -18,7 +18,7 @@ pub(crate) struct Round {
 }
 
 fn bit_of(place: usize) -> u64 {
-    1u64.checked_shl(place as u32).unwrap_or(0)
+    1 << (place as u64 % 64)
 }
 
 impl Round {
@@ -50,7 +50,7 @@ impl Round {
         let mut news = News::none();
         for (place, up_to) in self.up_to.iter().enumerate() {
             if members & bit_of(place) != 0 {
-                news.add(place as u32 + 1, up_to.load(Ordering::SeqCst) as usize);
+                news.set(place, up_to.load(Ordering::SeqCst) as usize);
             }
         }
         news
