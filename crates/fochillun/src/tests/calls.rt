@@ -77,30 +77,42 @@ fn become_clerk(rt: &impl Abort, alloc: Global, place: &mut Place) {
     }
 }
 
+fn expect_checks(rt: &impl Abort, alloc: Global, place: &mut Place) {
+    for (session, operation, object, status) in CHECKS {
+        let words = (session, operation, object);
+        expect_check(rt, alloc, place, words, status);
+    }
+}
+
 #[test]
 fn each_answer_and_each_check(rt: HostRuntime) {
     let mut place = Place::empty();
     become_clerk(&rt, rt.alloc(), &mut place);
     let denied = br#"{"denied":"UserExists","number":1}"#;
     expect_answer(&rt, rt.alloc(), &mut place, ADD_ANN, 0, denied);
-    for (session, operation, object, status) in CHECKS {
-        let words = (session, operation, object);
-        expect_check(&rt, rt.alloc(), &mut place, words, status);
-    }
+    expect_checks(&rt, rt.alloc(), &mut place);
     expect_open(&rt, rt.alloc(), &mut place, FOUNDING, 41);
     expect_end(&rt, rt.alloc(), place);
+}
+
+fn expect_refused_foundings(rt: &impl Abort, alloc: Global, place: &mut Place) {
+    for (file, status) in REFUSED_FOUNDINGS {
+        expect_open(rt, alloc, place, file, status);
+    }
+}
+
+fn expect_refused_commands(rt: &impl Abort, alloc: Global, place: &mut Place) {
+    for (text, status) in REFUSED_COMMANDS {
+        expect_answer(rt, alloc, place, text, status, b"");
+    }
 }
 
 #[test]
 fn each_refused_text(rt: HostRuntime) {
     let mut place = Place::empty();
-    for (file, status) in REFUSED_FOUNDINGS {
-        expect_open(&rt, rt.alloc(), &mut place, file, status);
-    }
+    expect_refused_foundings(&rt, rt.alloc(), &mut place);
     expect_open(&rt, rt.alloc(), &mut place, FOUNDING, 0);
-    for (text, status) in REFUSED_COMMANDS {
-        expect_answer(&rt, rt.alloc(), &mut place, text, status, b"");
-    }
+    expect_refused_commands(&rt, rt.alloc(), &mut place);
     expect_end(&rt, rt.alloc(), place);
 }
 

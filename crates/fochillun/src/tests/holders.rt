@@ -44,13 +44,16 @@ fn a_holder_from_its_opening_to_its_end(rt: HostRuntime) {
     drop(holder);
 }
 
+fn boxed(rt: &impl Abort, alloc: Global) -> Box<Monitor> {
+    let Ok(monitor) = Monitor::found(alloc, FOUNDING) else {
+        panic!(rt);
+    };
+    Box::new(alloc, monitor).expect(rt, "memory")
+}
+
 #[test]
 fn a_holder_takes_a_monitor_and_gives_it_back(rt: HostRuntime) {
-    let Ok(monitor) = Monitor::found(rt.alloc(), FOUNDING) else {
-        panic!(&rt);
-    };
-    let monitor = Box::new(rt.alloc(), monitor).expect(&rt, "memory");
-    let mut holder = Holder::of(Some(monitor));
+    let mut holder = Holder::of(Some(boxed(&rt, rt.alloc())));
     expect_told(&rt, rt.alloc(), &mut holder, ADD_ANN, Status::Done, 6);
     let kept = holder.into_monitor();
     assert!(&rt;

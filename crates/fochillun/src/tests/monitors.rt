@@ -22,6 +22,19 @@ fn expect_check(rt: &impl Abort, monitor: &Monitor, words: (&[u8], &[u8], &[u8])
     assert_eq!(rt; Status::Checked(verdict).number(), number);
 }
 
+fn expect_checks(rt: &impl Abort, monitor: &Monitor) {
+    for (session, operation, object, number) in CHECKS {
+        expect_check(rt, monitor, (session, operation, object), number);
+    }
+}
+
+fn become_clerk(rt: &impl Abort, alloc: Global, monitor: &mut Monitor) {
+    expect_answer(rt, alloc, monitor, ADD_ANN, DONE);
+    for command in OTHERS {
+        expect_answer(rt, alloc, monitor, command, DONE);
+    }
+}
+
 fn refusal_of(alloc: Global, file: &[u8]) -> Option<u32> {
     match Monitor::found(alloc, file) {
         Ok(monitor) => {
@@ -40,19 +53,25 @@ fn expect_refusal(rt: &impl Abort, alloc: Global, monitor: &mut Monitor, text: &
     assert_eq!(rt; monitor.answer(), DONE);
 }
 
+fn expect_refusals(rt: &impl Abort, alloc: Global, monitor: &mut Monitor) {
+    for (text, number) in REFUSED_COMMANDS {
+        expect_refusal(rt, alloc, monitor, text, number);
+    }
+}
+
+fn founded(rt: &impl Abort, alloc: Global) -> Monitor {
+    let Ok(monitor) = Monitor::found(alloc, FOUNDING) else {
+        panic!(rt);
+    };
+    monitor
+}
+
 #[test]
 fn a_monitor_answers_and_checks(rt: HostRuntime) {
-    let Ok(mut monitor) = Monitor::found(rt.alloc(), FOUNDING) else {
-        panic!(&rt);
-    };
+    let mut monitor = founded(&rt, rt.alloc());
     assert!(&rt; monitor.answer().is_empty());
-    expect_answer(&rt, rt.alloc(), &mut monitor, ADD_ANN, DONE);
-    for command in OTHERS {
-        expect_answer(&rt, rt.alloc(), &mut monitor, command, DONE);
-    }
-    for (session, operation, object, number) in CHECKS {
-        expect_check(&rt, &monitor, (session, operation, object), number);
-    }
+    become_clerk(&rt, rt.alloc(), &mut monitor);
+    expect_checks(&rt, &monitor);
     let review = br#"{"name":"SessionPermissions","session":"s1"}"#;
     let listed = br#"{"permissions":[["read","ledger"]]}"#;
     expect_answer(&rt, rt.alloc(), &mut monitor, review, listed);
@@ -60,16 +79,16 @@ fn a_monitor_answers_and_checks(rt: HostRuntime) {
 }
 
 #[test]
-fn a_monitor_refuses(rt: HostRuntime) {
+fn a_founding_that_is_refused(rt: HostRuntime) {
     for (file, number) in REFUSED_FOUNDINGS {
         assert_eq!(&rt; refusal_of(rt.alloc(), file), Some(number));
     }
-    let Ok(mut monitor) = Monitor::found(rt.alloc(), FOUNDING) else {
-        panic!(&rt);
-    };
+}
+
+#[test]
+fn a_command_that_is_refused(rt: HostRuntime) {
+    let mut monitor = founded(&rt, rt.alloc());
     expect_answer(&rt, rt.alloc(), &mut monitor, ADD_ANN, DONE);
-    for (text, number) in REFUSED_COMMANDS {
-        expect_refusal(&rt, rt.alloc(), &mut monitor, text, number);
-    }
+    expect_refusals(&rt, rt.alloc(), &mut monitor);
     drop(monitor);
 }
