@@ -1,0 +1,2 @@
+pub mod CommandText
+pub mod CommandObject
