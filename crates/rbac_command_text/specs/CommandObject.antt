@@ -1,5 +1,5 @@
 -- The JSON object that the text of a command reads as. The keys of an object are in the order of their bytes.
-use Rattle.std.specs.Prelude.{ℕ, List, [], ◌∷◌, codes}
+use Rattle.std.specs.Prelude.{List, [], ◌∷◌, codes}
 use Rattle.serde_json.specs.Data.{Data, string, array, number, unsigned, Items, no_items, item, Members, no_members, put}
 use Rattle.rbac_terms.specs.Name.{Name}
 use Rattle.rbac_terms.specs.declared.command.Command.{Command}
