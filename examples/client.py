@@ -1,8 +1,8 @@
 #!/usr/bin/env python3
 """A client of the monitor: it sends commands and prints what each was answered.
 
-    examples/client.py [--journal FILE] PROGRAM serve FOUNDING < COMMANDS
-    examples/client.py [--journal FILE] PROGRAM play FOUNDING - < COMMANDS
+    examples/client.py [--journal FILE [--ask RBAC_ASK [--most LINES]]] PROGRAM serve FOUNDING < COMMANDS
+    examples/client.py [--journal FILE [--ask RBAC_ASK [--most LINES]]] PROGRAM play FOUNDING - < COMMANDS
 
 COMMANDS has one command a line, as {"name":"AddUser","user":"ann"}; with "at":2 in it, it is asked of member 2. PROGRAM is the monitor. By serve
 each command is one line and gets one answer. By play it is submitted and delivered at member 1, and the client keeps the serials. A line that is
@@ -10,7 +10,12 @@ refused is told, and the next one is sent.
 
 The monitor keeps nothing on disk: a journal gets each command that was answered Done, which are the changes that were made, and no check, no review
 and nothing that was denied. So it is a file of COMMANDS too. At the start its commands are asked again, and the next day goes on from there; where one
-of them is not answered Done once more, as on another founding, the client ends and sends nothing else."""
+of them is not answered Done once more, as on another founding, the client ends and sends nothing else.
+
+A journal only grows. Where --ask names the program rbac_ask, a journal of more than LINES lines (10,000 where --most is left out) is replaced by a
+dump of what its commands have made: a command for each user, role, assignment, grant, pair, set and session that is there. That is done only once
+each of its commands was answered Done by the monitor that runs, and the old journal stands until the disk has the new one."""
+import argparse
 import json
 import os
 import subprocess
@@ -82,6 +87,7 @@ class Journal:
     def __init__(self, path):
         self.path = path
         self.lines = open(path, "a+b")
+        self.count = 0
 
     def commands(self):
         """The commands with the numbers of their lines. A last line without its end was never told to anybody as done: it is cut off."""
@@ -103,11 +109,42 @@ class Journal:
         self.lines.write(compact(command).encode() + b"\n")
         self.lines.flush()
         os.fsync(self.lines.fileno())
+        self.count += 1
+
+    def replace(self, commands):
+        """Has these commands in the place of all that it had, once the disk has them."""
+        new = Journal(self.path + ".new")
+        new.lines.truncate(0)
+        for command in commands:
+            new.lines.write(compact(command).encode() + b"\n")
+        new.lines.flush()
+        os.fsync(new.lines.fileno())
+        os.replace(new.path, self.path)
+        self.lines, self.count = new.lines, len(commands)
+
+
+class Shortener:
+    """Replaces a journal that has grown past a bound by a dump of what its commands have made."""
+
+    def __init__(self, program, most, founding):
+        self.program, self.most, self.founding = program, most, founding
+
+    def shorten(self, journal):
+        """To be called where each command of the journal was answered Done, in its order. A dump that is as long is made only once it has doubled."""
+        if journal.count <= self.most:
+            return
+        lines = [compact({"at": command.pop("at", 1), "command": command}) + "\n" for _, command in journal.commands()]
+        told = subprocess.run([self.program, "dump", "--serve", self.founding, "-"], input="".join(lines), capture_output=True, text=True)
+        if told.returncode != 0 or told.stderr:
+            raise JournalFault(f"{journal.path}: no dump: {told.stderr.strip()}")
+        journal.replace([json.loads(line)["command"] for line in told.stdout.splitlines()])
+        self.most = max(self.most, 2 * journal.count)
 
 
 def go_on(monitor, journal):
     """Asks the commands of the journal again."""
     for number, command in journal.commands():
+        journal.count += 1
         try:
             answer = monitor.ask(**command)
         except Refused as refused:
@@ -116,7 +153,7 @@ def go_on(monitor, journal):
             raise JournalFault(f"{journal.path}:{number}: {compact(command)} -> {compact(answer)}, and it was done before: is this its founding?")
 
 
-def answered(monitor, journal, line):
+def answered(monitor, journal, shortener, line):
     """What a line of COMMANDS is answered, which the journal gets where it is a change that was made."""
     try:
         command = dict(json.loads(line))
@@ -127,18 +164,30 @@ def answered(monitor, journal, line):
         return "no command"
     if journal and answer == "Done":
         journal.add(command)
+        if shortener:
+            shortener.shorten(journal)
     return compact(answer)
 
 
 def main(words):
-    journal = Journal(words[1]) if words[:1] == ["--journal"] else None
-    words = words[2:] if journal else words
-    monitor = (Client if "play" in words else Caller)(words)
+    parser = argparse.ArgumentParser(usage=__doc__)
+    parser.add_argument("--journal")
+    parser.add_argument("--ask")
+    parser.add_argument("--most", type=int, default=10_000)
+    parser.add_argument("words", nargs=argparse.REMAINDER)
+    told = parser.parse_args(words)
+    if len(told.words) < 3:
+        return __doc__
+    journal = Journal(told.journal) if told.journal else None
+    shortener = Shortener(told.ask, told.most, told.words[2]) if journal and told.ask else None
+    monitor = (Client if "play" in told.words else Caller)(told.words)
     try:
         if journal:
             go_on(monitor, journal)
+        if shortener:
+            shortener.shorten(journal)
         for line in sys.stdin:
-            print(line.strip(), "->", answered(monitor, journal, line), flush=True)
+            print(line.strip(), "->", answered(monitor, journal, shortener, line), flush=True)
     except (JournalFault, EOFError) as fault:
         monitor.stop()
         return f"client: {fault}"
@@ -146,4 +195,4 @@ def main(words):
 
 
 if __name__ == "__main__":
-    sys.exit(main(sys.argv[1:]) if sys.argv[1:] else __doc__)
+    sys.exit(main(sys.argv[1:]))

@@ -4,6 +4,7 @@ mod dump;
 mod hierarchy;
 mod named;
 mod policy;
+mod reasons;
 mod refused_growths;
 mod reviews;
 mod role_sets;

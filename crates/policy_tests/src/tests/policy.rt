@@ -41,17 +41,17 @@ pub(super) fn expect_done(rt: &impl Abort, alloc: Global, policy: &mut Policy, c
     expect_answer(rt, alloc, policy, command, Answer::Done);
 }
 
-fn add_user(rt: &impl Abort, alloc: Global, policy: &mut Policy, user: &str) {
+pub(super) fn add_user(rt: &impl Abort, alloc: Global, policy: &mut Policy, user: &str) {
     let user = name(rt, alloc, user);
     expect_done(rt, alloc, policy, Command::AddUser { user });
 }
 
-fn add_role(rt: &impl Abort, alloc: Global, policy: &mut Policy, role: &str) {
+pub(super) fn add_role(rt: &impl Abort, alloc: Global, policy: &mut Policy, role: &str) {
     let role = name(rt, alloc, role);
     expect_done(rt, alloc, policy, Command::AddRole { role });
 }
 
-fn assign(rt: &impl Abort, alloc: Global, policy: &mut Policy, user: &str, role: &str) {
+pub(super) fn assign(rt: &impl Abort, alloc: Global, policy: &mut Policy, user: &str, role: &str) {
     let (user, role) = (name(rt, alloc, user), name(rt, alloc, role));
     expect_done(rt, alloc, policy, Command::AssignUser { user, role });
 }

@@ -1,0 +1,4 @@
+pub mod Failures
+pub mod Applying
+pub mod Tracing
+pub mod Asked

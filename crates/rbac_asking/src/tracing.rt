@@ -1,0 +1,214 @@
+//! A schedule played line by line, with what each line does to its member.
+ghost use Rattle.std.specs.Prelude.{◌≡◌, ◌≢◌, ◌⊎◌, ◌++◌, true, ℕ, List, IfOk, OnOk, OnErr, is_err};
+ghost use Rattle.rbac_words.specs.World.{step, step_outcome};
+
+use crate::failure::Failure;
+use crate::input::MOST_READS;
+use line_engine::{Taking, run_lines};
+use rbac_founding::Founding;
+use rbac_lines::{LineRefusal, RunFault, read_line, watch};
+use rbac_pages::{Diagram, end_text, refused_line_text, refused_text, step_text};
+use rbac_words::{Event, Refusal};
+use rbac_world::World;
+use std::alloc::{AllocError, Global};
+use std::io;
+use std::io::{Read, Write};
+
+/// A world is told of line by line.
+struct Tracing;
+
+impl Taking for Tracing {
+    type Over = World;
+
+    ghost use Rattle.rbac_words.specs.World.{World as WorldValue};
+    ghost use Rattle.rbac_asking.specs.Tracing.{MovesLine};
+
+    ghost State = { WorldValue };
+
+    ghost state = { λ w. w };
+
+    ghost takes = { MovesLine };
+
+    fn take_line(
+        world: &mut World,
+        alloc: Global,
+        number: u64,
+        line: &[u8],
+        text: &mut Vec<u8>,
+    ) -> Result<bool, AllocError> {
+        match read_line(alloc, line) {
+            Ok(event) => trace(world, alloc, number, &event, text),
+            Err(refusal) => refuse(alloc, number, refusal, text),
+        }
+    }
+}
+
+// One event, and what it did. Ok says whether it was refused.
+fn trace(
+    world: &mut World,
+    alloc: Global,
+    number: u64,
+    event: &Event,
+    text: &mut Vec<u8>,
+) -> Result<bool, AllocError>
+    ensures grown { OnOk result ((own : List ℕ) × (text.new.items ≡ text.old.items ++ own)) }
+    ensures refused { IfOk result (λ is_refused. is_refused ≡ is_err (step_outcome world.old event.now)) }
+    ensures stepped { OnOk result (world.new ≡ step world.old event.now) }
+    ensures starved { OnErr result ((world.new ≡ world.old) ⊎ (world.new ≡ step world.old event.now)) }
+{
+    match world.step(alloc, event) {
+        Ok(outcome) => {
+            let own = step_text(alloc, number, world, event, outcome)?;
+            text.extend_from_slice(&own)?;
+            Ok(false)
+        }
+        Err(Refusal::NoMemory) => Err(AllocError),
+        Err(refusal) => {
+            let own = refused_text(alloc, number, refusal)?;
+            text.extend_from_slice(&own)?;
+            Ok(true)
+        }
+    }
+}
+
+// A line that is no event, unless memory ran out. Ok says that it is refused.
+fn refuse(
+    alloc: Global,
+    number: u64,
+    refusal: LineRefusal,
+    text: &mut Vec<u8>,
+) -> Result<bool, AllocError>
+    ensures grown { OnOk result ((own : List ℕ) × (text.new.items ≡ text.old.items ++ own)) }
+    ensures refused { IfOk result (λ is_refused. is_refused ≡ true) }
+    ensures other { OnOk result (refusal ≢ LineRefusal.NoMemory) }
+{
+    match refusal {
+        LineRefusal::NoMemory => Err(AllocError),
+        other => {
+            let own = refused_line_text(alloc, number, other)?;
+            text.extend_from_slice(&own)?;
+            Ok(true)
+        }
+    }
+}
+
+/// A world, and what its diagram has so far.
+#[derive(Drop)]
+struct Drawn {
+    world: World,
+    diagram: Diagram,
+}
+
+/// A world is drawn row by row. No text is written meanwhile.
+struct Drawing;
+
+impl Taking for Drawing {
+    type Over = Drawn;
+
+    ghost use Rattle.rbac_words.specs.World.{World as WorldValue};
+    ghost use Rattle.rbac_asking.specs.Tracing.{MovesLine};
+
+    ghost State = { WorldValue };
+
+    ghost state = { λ drawn. drawn.world };
+
+    ghost takes = { MovesLine };
+
+    fn take_line(
+        drawn: &mut Drawn,
+        alloc: Global,
+        number: u64,
+        line: &[u8],
+        _text: &mut Vec<u8>,
+    ) -> Result<bool, AllocError> {
+        match read_line(alloc, line) {
+            Ok(event) => draw(&mut drawn.world, &mut drawn.diagram, alloc, number, &event),
+            Err(refusal) => skip(refusal),
+        }
+    }
+}
+
+// The row of one event. Ok says whether it was refused.
+fn draw(
+    world: &mut World,
+    diagram: &mut Diagram,
+    alloc: Global,
+    number: u64,
+    event: &Event,
+) -> Result<bool, AllocError>
+    ensures refused { IfOk result (λ is_refused. is_refused ≡ is_err (step_outcome world.old event.now)) }
+    ensures stepped { OnOk result (world.new ≡ step world.old event.now) }
+    ensures starved { OnErr result ((world.new ≡ world.old) ⊎ (world.new ≡ step world.old event.now)) }
+{
+    match world.step(alloc, event) {
+        Ok(outcome) => {
+            diagram.add(alloc, number, world, event, outcome)?;
+            Ok(false)
+        }
+        Err(Refusal::NoMemory) => Err(AllocError),
+        Err(refusal) => {
+            diagram.add_refused(number, event, refusal)?;
+            Ok(true)
+        }
+    }
+}
+
+// A line that is no event has no row, unless memory ran out. Ok says that it is refused.
+fn skip(refusal: LineRefusal) -> Result<bool, AllocError>
+    ensures refused { IfOk result (λ is_refused. is_refused ≡ true) }
+    ensures other { OnOk result (refusal ≢ LineRefusal.NoMemory) }
+{
+    match refusal {
+        LineRefusal::NoMemory => Err(AllocError),
+        _ => Ok(true),
+    }
+}
+
+/// Plays the lines of a schedule on the world of a founding, and writes what each does to its member, and then where each member
+/// stands.
+pub(crate) fn tell<'w, R: Read + Drop, W: Write>(
+    alloc: Global,
+    founding: Founding,
+    reader: R,
+    writer: &mut W,
+) -> Result<(), Failure<'w>> {
+    let Founding { group, vocabulary } = founding;
+    let mut world = World::found(alloc, group, vocabulary)?;
+    run_lines::<Tracing, R, &mut W>(
+        alloc,
+        &mut watch(reader),
+        &mut watch(&mut *writer),
+        &mut world,
+        MOST_READS,
+    )?;
+    write_whole(writer, &end_text(alloc, &world)?)
+}
+
+/// Plays the lines of a schedule, and writes their space-time diagram. A line that is no event has no row.
+pub(crate) fn picture<'w, R: Read + Drop, W: Write>(
+    alloc: Global,
+    founding: Founding,
+    reader: R,
+    writer: &mut W,
+) -> Result<(), Failure<'w>> {
+    let Founding { group, vocabulary } = founding;
+    let world = World::found(alloc, group, vocabulary)?;
+    let diagram = Diagram::new(alloc, &world)?;
+    let mut drawn = Drawn { world, diagram };
+    run_lines::<Drawing, R, io::Sink>(
+        alloc,
+        &mut watch(reader),
+        &mut watch(io::sink()),
+        &mut drawn,
+        MOST_READS,
+    )?;
+    write_whole(writer, &drawn.diagram.picture(alloc)?)
+}
+
+/// Writes a text to its end.
+pub(crate) fn write_whole<'w, W: Write>(writer: &mut W, text: &[u8]) -> Result<(), Failure<'w>> {
+    if writer.write_all(text).is_err() || writer.flush().is_err() {
+        return Err(Failure::Run(RunFault::Write));
+    }
+    Ok(())
+}

@@ -1,0 +1,2 @@
+pub mod GraphText
+pub mod WhyText

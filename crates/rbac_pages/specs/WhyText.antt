@@ -1,0 +1,19 @@
+-- Why a check is answered as it is.
+use Rattle.std.specs.Prelude.{◌≡◌, ℕ, List, ◌++◌, codes}
+use Rattle.std.specs.List.{flat_map}
+use Rattle.rbac_terms.specs.Name.{Name, Permission}
+use Rattle.rbac_reasons.specs.declared.told.Reason.{Reason}
+
+-- the active role, the roles from it down to the one that is granted the permission, each of which the one before it inherits, and the
+-- permission
+abbrev pub inherits_text : Name → List ℕ
+inherits_text role = codes "  which inherits " ++ role ++ codes "\n"
+
+abbrev pub granted_text : Permission → List ℕ
+granted_text permission = codes "  which is granted " ++ permission.0 ++ codes " " ++ permission.1 ++ codes "\n"
+
+abbrev pub reason_text : Name → Permission → Reason → List ℕ
+reason_text session permission reason =
+    codes "Granted: session " ++ session ++ codes " has the active role " ++ reason.active ++ codes "\n"
+    ++ flat_map inherits_text reason.inherited.items
+    ++ granted_text permission

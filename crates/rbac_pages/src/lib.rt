@@ -1,0 +1,17 @@
+//! Pages for people: a policy as a page and as a graph of its roles, why a check is granted, and what the lines of a schedule do to the members of a
+//! group, as a text for each line and as Lamport's space-time diagram. The layouts are this project's own and may change.
+#![tactic(auto)]
+
+mod diagram;
+mod granting;
+mod held;
+mod policy_page;
+mod roles_graph;
+mod text;
+mod trace;
+
+pub use diagram::Diagram;
+pub use granting::why;
+pub use policy_page::page;
+pub use roles_graph::graph;
+pub use trace::{end_text, refused_line_text, refused_text, step_text};

@@ -1,0 +1,3 @@
+pub mod ReasonLemmas
+pub mod SortedLemmas
+pub mod WalkLemmas

@@ -1,0 +1,3 @@
+pub mod Path
+pub mod Reason
+pub mod Walk
