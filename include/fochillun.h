@@ -94,6 +94,12 @@ uint32_t policy_check(struct policy_place *place, const uint8_t *session, size_t
                       const uint8_t *operation, size_t operation_length, const uint8_t *object,
                       size_t object_length);
 
+/* Writes the commands that make this policy, each a JSON object in a line of its own, to the front of `out`,
+ * and the text's length to `written`. A policy that was just opened with the same founding answers each of
+ * them "Done" in this order, and is then the same. Changes nothing, the last answer neither.
+ * DONE; SHORT_BUFFER, `out` as it was; EMPTY_PLACE, NO_MEMORY. */
+uint32_t policy_dump(struct policy_place *place, uint8_t *out, size_t out_length, size_t *written);
+
 /* Ends the policy, and gives back all its memory. The place is empty then, and may be opened again.
  * DONE, EMPTY_PLACE. */
 uint32_t policy_close(struct policy_place *place);

@@ -121,6 +121,25 @@ static void refuse_command(size_t number) {
     }
 }
 
+/* A dump that is refused memory has no text, and is the same when asked again. */
+static void refuse_dump(void) {
+    static uint8_t wanted[2048], out[2048];
+    struct policy_place place = {0};
+    size_t wanted_length, length;
+    brought_to(&place, 9);
+    if (policy_dump(&place, wanted, sizeof wanted, &wanted_length) != POLICY_DONE) stop("a dump with memory");
+    for (long granted = 0;; granted++) {
+        memset(out, '#', sizeof out);
+        countdown = granted;
+        uint32_t told = policy_dump(&place, out, sizeof out, &length);
+        countdown = -1;
+        if (told == POLICY_DONE) break;
+        if (told != POLICY_NO_MEMORY || length != 0 || out[0] != '#') stop("a dump that is refused memory");
+    }
+    if (length != wanted_length || memcmp(out, wanted, length) != 0) stop("another dump");
+    policy_close(&place);
+}
+
 /* A check and the last answer are given with no memory at all. */
 static void without_memory(void) {
     struct policy_place place = {0};
@@ -139,9 +158,10 @@ static void without_memory(void) {
 int main(void) {
     refuse_open();
     for (size_t i = 0; i < sizeof day / sizeof *day; i++) refuse_command(i);
+    refuse_dump();
     without_memory();
     if (refusals == 0) stop("nothing was refused");
-    printf("c: %lu refused allocations of an open and %zu commands: nothing changed, and the same answers when asked again\n", refusals,
+    printf("c: %lu refused allocations of an open, %zu commands and a dump: nothing changed, and the same answers when asked again\n", refusals,
            sizeof day / sizeof *day);
     return 0;
 }

@@ -110,9 +110,30 @@ static void short_buffers(void) {
     applies("{\"name\":\"AddUser\",\"user\":\"bob\"}", POLICY_DONE, "{\"denied\":\"UserExists\",\"number\":1}");
 }
 
+/* The dump, which makes the same policy in another place. */
+static void dumps(void) {
+    static uint8_t dump[1024], again[1024];
+    uint8_t answer[16];
+    size_t length = 0, other_length = 0, answer_length;
+    struct policy_place other = {0};
+    expect(policy_dump(&place, dump, 9, &length), POLICY_SHORT_BUFFER, "a dump in a short buffer");
+    expect(policy_dump(&place, dump, sizeof dump, &length), POLICY_DONE, "a dump");
+    expect(policy_open(&other, TEXT(HEAD LISTS)), POLICY_DONE, "open another");
+    for (uint8_t *line = dump, *end; line < dump + length; line = end + 1) {
+        end = memchr(line, '\n', (size_t)(dump + length - line));
+        expect(policy_apply(&other, line, (size_t)(end - line), answer, sizeof answer, &answer_length), POLICY_DONE, "a line of a dump");
+        expect(answer_length == 6 && memcmp(answer, "\"Done\"", 6) == 0, 1, "what a line of a dump is answered");
+    }
+    expect(policy_dump(&other, again, sizeof again, &other_length), POLICY_DONE, "the dump of the other");
+    expect(other_length == length && memcmp(dump, again, length) == 0, 1, "the same dump");
+    expect(policy_close(&other), POLICY_DONE, "close the other");
+}
+
 static void empty_place(void) {
     uint8_t out[8];
     size_t length = 9;
+    expect(policy_dump(&place, out, sizeof out, &length), POLICY_EMPTY_PLACE, "dump of none");
+    expect(length == 0, 1, "a dump of none has no length");
     checks("s1", "read", "ledger", POLICY_EMPTY_PLACE);
     applies("{\"name\":\"AddUser\",\"user\":\"ann\"}", POLICY_EMPTY_PLACE, "");
     expect(policy_answer(&place, out, sizeof out, &length), POLICY_EMPTY_PLACE, "answer of none");
@@ -133,6 +154,7 @@ int main(void) {
     commands();
     each_check();
     short_buffers();
+    dumps();
     expect(policy_close(&place), POLICY_DONE, "close");
     empty_place();
     expect(policy_open(&place, TEXT(HEAD LISTS)), POLICY_DONE, "open again");

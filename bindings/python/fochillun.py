@@ -65,6 +65,7 @@ def _library():
         "policy_apply": [place, read, size, write, size, written],
         "policy_answer": [place, write, size, written],
         "policy_check": [place, read, size, read, size, read, size],
+        "policy_dump": [place, write, size, written],
         "policy_close": [place],
     }.items():
         getattr(library, call).argtypes = words
@@ -96,13 +97,24 @@ class Monitor:
         with self._lock:
             length = ctypes.byref(self._length)
             status = self._calls.policy_apply(self._at, text, len(text), self._buffer, len(self._buffer), length)
-            if status == _SHORT_BUFFER:
-                # The command was applied. Only its answer is asked for again.
-                self._buffer = ctypes.create_string_buffer(self._length.value)
-                status = self._calls.policy_answer(self._at, self._buffer, len(self._buffer), length)
-            if status != _DONE:
-                _fail(status, CommandRefused)
-            return self._buffer.raw[: self._length.value]
+            # Where the buffer is too short, the command was applied. Only its answer is asked for again.
+            return self._text(status, self._calls.policy_answer)
+
+    def dump(self):
+        """The commands that make this policy, as the texts of JSON objects. A monitor that was just founded with the same file answers
+        each of them Done in this order, and has the same policy then."""
+        with self._lock:
+            status = self._calls.policy_dump(self._at, self._buffer, len(self._buffer), ctypes.byref(self._length))
+            return self._text(status, self._calls.policy_dump).splitlines()
+
+    def _text(self, status, again):
+        """The text that a call has written, which is written again where the buffer was too short."""
+        if status == _SHORT_BUFFER:
+            self._buffer = ctypes.create_string_buffer(self._length.value)
+            status = again(self._at, self._buffer, len(self._buffer), ctypes.byref(self._length))
+        if status != _DONE:
+            _fail(status, CommandRefused)
+        return self._buffer.raw[: self._length.value]
 
     def check(self, session, operation, object):
         """Whether the session may perform the operation on the object."""

@@ -53,6 +53,17 @@ class Recorded(unittest.TestCase):
     def test_hospital(self):
         self.follows((EXAMPLES / "hospital.toml").read_bytes(), "hospital.jsonl", "hospital.told.jsonl")
 
+    def test_a_dump_makes_the_hospital_again(self):
+        founding = (EXAMPLES / "hospital.toml").read_bytes()
+        with fochillun.Monitor(founding) as monitor, fochillun.Monitor(founding) as again:
+            for line, answer in zip(lines("hospital.jsonl"), lines("hospital.told.jsonl")):
+                if "answer" in answer:
+                    monitor.apply(line["command"])
+            dump = monitor.dump()
+            self.assertGreater(len(dump), 20)
+            self.assertEqual({again.apply_text(command) for command in dump}, {b'"Done"'})
+            self.assertEqual(again.dump(), dump)
+
     def test_commands(self):
         self.follows(SAMPLE, "commands.jsonl", "commands.told.jsonl")
 

@@ -80,6 +80,13 @@ errors! {
 }
 
 errors! {
+    /// Why a policy is not told as commands. It is as it was.
+    DumpError {
+        NoMemory = NO_MEMORY, "no memory";
+    }
+}
+
+errors! {
     /// Why a check is neither granted nor refused. Access is not granted.
     CheckError {
         NoSession = 10, "there is no such session";

@@ -27,7 +27,7 @@
 mod errors;
 mod sys;
 
-pub use errors::{ApplyError, CheckError, OpenError};
+pub use errors::{ApplyError, CheckError, DumpError, OpenError};
 
 use std::fmt;
 use sys::{DONE, GRANTED, Place, REFUSED, SHORT_BUFFER};
@@ -115,6 +115,32 @@ impl Monitor {
             GRANTED => Ok(true),
             REFUSED => Ok(false),
             other => Err(CheckError::of(other)),
+        }
+    }
+
+    /// The commands that make this policy, a JSON object a line. A monitor that was just opened with the same founding answers each of
+    /// them `"Done"` in this order, and has the same policy then.
+    pub fn dump(&mut self) -> Result<String, DumpError> {
+        let mut text = vec![0; 4096];
+        loop {
+            let mut written = 0;
+            // SAFETY: the place is full and is lent to this call alone.
+            let status = unsafe {
+                sys::policy_dump(
+                    &mut self.place,
+                    text.as_mut_ptr(),
+                    text.len(),
+                    &mut written,
+                )
+            };
+            match status {
+                DONE => {
+                    text.truncate(written);
+                    return Ok(String::from_utf8(text).expect("a dump is JSON"));
+                }
+                SHORT_BUFFER => text.resize(written, 0),
+                other => return Err(DumpError::of(other)),
+            }
         }
     }
 }

@@ -50,5 +50,11 @@ unsafe extern "C" {
         object: *const u8,
         object_length: usize,
     ) -> u32;
+    pub(crate) fn policy_dump(
+        place: &mut Place,
+        out: *mut u8,
+        out_length: usize,
+        written: &mut usize,
+    ) -> u32;
     pub(crate) fn policy_close(place: &mut Place) -> u32;
 }

@@ -96,6 +96,24 @@ fn a_long_answer_is_whole_and_its_command_applied_once() {
 }
 
 #[test]
+fn a_dump_makes_the_policy_again() {
+    let mut monitor = clerk();
+    for number in 0..200 {
+        let command = format!(r#"{{"name":"AddUser","user":"user_{number:03}"}}"#);
+        monitor.apply(&command).unwrap();
+    }
+    let dump = monitor.dump().unwrap();
+    assert_eq!(dump.lines().count(), 205);
+    assert_eq!(dump.lines().next(), Some(r#"{"name":"AddUser","user":"ann"}"#));
+    let mut again = Monitor::open(format!("{HEAD}{LISTS}").as_bytes()).unwrap();
+    for command in dump.lines() {
+        assert_eq!(again.apply(command), Ok("\"Done\""));
+    }
+    assert_eq!(again.dump().unwrap(), dump);
+    assert_eq!(again.check("s1", "read", "ledger"), Ok(true));
+}
+
+#[test]
 fn a_monitor_goes_to_another_thread_and_comes_back() {
     let mut monitor = clerk();
     let mut monitor = std::thread::spawn(move || {

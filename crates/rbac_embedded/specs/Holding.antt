@@ -2,6 +2,7 @@
 use Rattle.std.specs.Prelude.{ℕ, nat_le, if◌then◌else◌, Option, Some, None, List, ◌++◌, length, drop, Ok, Err}
 use Rattle.rbac_embedded.specs.Kept.{Kept}
 use Rattle.rbac_embedded.specs.Calls.{applied, founded, verdict}
+use Rattle.rbac_embedded.specs.Dump.{dump_text}
 use Rattle.rbac_founding.specs.FoundingFile.{Reading as ReadingFile}
 use Rattle.rbac_lines.specs.Fields.{Reading}
 use Rattle.rbac_embedded.specs.declared.status.Status.{Status}
@@ -91,6 +92,20 @@ answer_length (Some kept) = length kept.answer
 abbrev pub check_status : List ℕ → List ℕ → List ℕ → Option Kept → Status
 check_status session operation object None = EmptyPlace
 check_status session operation object (Some kept) = Checked (verdict session operation object kept.state)
+
+-- ---- Dump
+
+abbrev pub dump_status : List ℕ → Option Kept → Status
+dump_status buffer None = EmptyPlace
+dump_status buffer (Some kept) = room_status (dump_text kept.state) buffer
+
+abbrev pub dump_buffer : List ℕ → Option Kept → List ℕ
+dump_buffer buffer None = buffer
+dump_buffer buffer (Some kept) = with_text (dump_text kept.state) buffer
+
+abbrev pub dump_length : Option Kept → ℕ
+dump_length None = 0
+dump_length (Some kept) = length (dump_text kept.state)
 
 -- ---- Close
 

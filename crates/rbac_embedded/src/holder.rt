@@ -1,6 +1,6 @@
 //! A place for one monitor: the calls that another language makes, over values.
 ghost use Rattle.std.specs.Prelude.{◌≡◌, ◌≢◌, None, length, option_map};
-ghost use Rattle.rbac_embedded.specs.Holding.{answer_buffer, answer_length, answer_status, apply_buffer, apply_kept, apply_length, apply_status, check_status, close_status, open_status, opened, room_status, with_text};
+ghost use Rattle.rbac_embedded.specs.Holding.{answer_buffer, answer_length, answer_status, apply_buffer, apply_kept, apply_length, apply_status, check_status, close_status, dump_buffer, dump_length, dump_status, open_status, opened, room_status, with_text};
 ghost use Rattle.rbac_embedded.specs.Status.{no_memory, status_number};
 
 use crate::monitor::Monitor;
@@ -35,13 +35,12 @@ fn put_text(text: &[u8], out: &mut [u8]) -> Status
     Status::Done
 }
 
-// The text of a monitor's last answer, and its length.
-fn tell(monitor: &Monitor, out: &mut [u8], written: &mut usize) -> Status
-    ensures status { result ≡ room_status monitor.now.answer out.old }
-    ensures buffer { out.new ≡ with_text monitor.now.answer out.old }
-    ensures length { written.new ≡ length monitor.now.answer }
+// A text, and its length.
+fn tell(text: &[u8], out: &mut [u8], written: &mut usize) -> Status
+    ensures status { result ≡ room_status text.now out.old }
+    ensures buffer { out.new ≡ with_text text.now out.old }
+    ensures length { written.new ≡ length text.now }
 {
-    let text = monitor.answer();
     *written = text.len();
     put_text(text, out)
 }
@@ -111,7 +110,7 @@ impl Holder {
         *written = 0;
         match &mut self.monitor {
             Some(monitor) => match monitor.apply(alloc, text) {
-                Ok(()) => tell(monitor, out, written),
+                Ok(()) => tell(monitor.answer(), out, written),
                 Err(refusal) => Status::BadCommand(refusal),
             },
             None => Status::EmptyPlace,
@@ -126,7 +125,7 @@ impl Holder {
     {
         *written = 0;
         match &self.monitor {
-            Some(monitor) => tell(monitor, out, written),
+            Some(monitor) => tell(monitor.answer(), out, written),
             None => Status::EmptyPlace,
         }
     }
@@ -137,6 +136,24 @@ impl Holder {
     {
         match &self.monitor {
             Some(monitor) => Status::Checked(monitor.check(session, operation, object)),
+            None => Status::EmptyPlace,
+        }
+    }
+
+    /// The commands that make the policy again, as `apply` puts a text. Changes nothing.
+    pub fn dump(&self, alloc: Global, out: &mut [u8], written: &mut usize) -> Status
+        ensures told { status_number result ≢ no_memory → result ≡ dump_status out.old self.now }
+        ensures buffer { status_number result ≢ no_memory → out.new ≡ dump_buffer out.old self.now }
+        ensures length { status_number result ≢ no_memory → written.new ≡ dump_length self.now }
+        ensures buffer_unchanged { status_number result ≡ no_memory → out.new ≡ out.old }
+        ensures no_length { status_number result ≡ no_memory → written.new ≡ 0 }
+    {
+        *written = 0;
+        match &self.monitor {
+            Some(monitor) => match monitor.dump(alloc) {
+                Ok(text) => tell(&text, out, written),
+                Err(_) => Status::NoMemory,
+            },
             None => Status::EmptyPlace,
         }
     }

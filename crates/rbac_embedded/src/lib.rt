@@ -1,6 +1,7 @@
 //! A policy for a program that calls it in its own process: opened, changed and asked by bytes, and answered by texts and numbers.
 #![tactic(auto)]
 
+mod dumping;
 mod holder;
 mod monitor;
 pub mod status;

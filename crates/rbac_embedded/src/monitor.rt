@@ -5,9 +5,12 @@ ghost use Rattle.rbac_terms.specs.Name.{pair_cmp};
 ghost use Rattle.rbac_terms.specs.Reviews.{session_permissions};
 ghost use Rattle.rbac_lines.specs.Text.{answer_text};
 ghost use Rattle.rbac_embedded.specs.Calls.{after, applied, founded, verdict};
+ghost use Rattle.rbac_embedded.specs.Dump.{dump_text};
 
+use crate::dumping::lines_of;
 use crate::verdict::Verdict;
 use rbac_decide::Policy;
+use rbac_dump::commands_of;
 use rbac_founding::{FoundingRefusal, read_founding};
 use rbac_lines::{LineRefusal, put_answer, read_command};
 use rbac_terms::{Answer, Command, LentName};
@@ -106,6 +109,18 @@ impl Monitor {
             Ok(false) => Verdict::Refused,
             Err(denial) => Verdict::Denied(denial),
         }
+    }
+
+    /// The commands of the policy's dump, each as a JSON object in a line. A policy that was just founded with its vocabulary answers each
+    /// of them Done in this order, and they leave this very state (`commands_of`).
+    ///
+    /// # Errors
+    /// `AllocError` where there is no memory for them.
+    pub fn dump(&self, alloc: Global) -> Result<Vec<u8>, AllocError>
+        ensures { IfOk result (λ text. text.items ≡ dump_text self.now.state) }
+    {
+        let commands = commands_of(alloc, &self.policy)?;
+        lines_of(alloc, &commands)
     }
 
     /// The text of the answer to the last command that was applied; empty before the first one.

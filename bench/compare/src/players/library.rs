@@ -48,6 +48,9 @@ impl Library {
             };
             written.expect("a vector takes all bytes");
         }
+        if let Err(fault) = remade(&mut monitor, founding) {
+            output.extend(fault.into_bytes());
+        }
         Played::new(0, output, String::new())
     }
 
@@ -62,6 +65,20 @@ impl Library {
         let checked = text_of_check(monitor.check(&session, &operation, &object));
         Ok(if checked == answer { answer } else { format!("{answer} and {checked}") })
     }
+}
+
+/// The commands that the policy tells make it again: each is answered Done, and then the other policy tells the same.
+fn remade(monitor: &mut Monitor, founding: &[u8]) -> Result<(), String> {
+    let text = monitor.dump().map_err(|error| error.to_string())?;
+    let mut again = Monitor::open(founding).map_err(|error| error.to_string())?;
+    for command in text.lines() {
+        match again.apply(command) {
+            Ok("\"Done\"") => {}
+            other => return Err(format!("a dump has {command}, which is answered {other:?}")),
+        }
+    }
+    let told = again.dump().map_err(|error| error.to_string())?;
+    if told == text { Ok(()) } else { Err("another policy".to_owned()) }
 }
 
 /// The answer's text that a check stands for.

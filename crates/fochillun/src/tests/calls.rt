@@ -1,7 +1,9 @@
 //! The calls of another language.
 
 use super::clerk::{ADD_ANN, CHECKS, DONE, FOUNDING, OTHERS, REFUSED_COMMANDS, REFUSED_FOUNDINGS};
-use crate::calls::{policy_answer, policy_apply, policy_check, policy_close, policy_open};
+use crate::calls::{
+    policy_answer, policy_apply, policy_check, policy_close, policy_dump, policy_open,
+};
 use crate::place::Place;
 use std::alloc::Global;
 use std::process::Abort;
@@ -143,6 +145,43 @@ fn a_short_buffer_has_the_command_applied_once(rt: HostRuntime) {
     expect_again(&rt, rt.alloc(), &mut place, 9, 0, DONE, 6);
     let denied = br#"{"denied":"UserExists","number":1}"#;
     expect_answer(&rt, rt.alloc(), &mut place, ADD_ANN, 0, denied);
+    expect_end(&rt, rt.alloc(), place);
+}
+
+const DUMP: &[u8] = br#"{"name":"AddUser","user":"ann"}
+{"name":"AddRole","role":"clerk"}
+{"name":"AssignUser","user":"ann","role":"clerk"}
+{"name":"GrantPermission","operation":"read","object":"ledger","role":"clerk"}
+{"name":"CreateSession","user":"ann","session":"s1","roles":["clerk"]}
+"#;
+
+/// The dump, in a buffer of so many bytes.
+fn expect_dump(
+    rt: &impl Abort,
+    alloc: Global,
+    place: &mut Place,
+    room: usize,
+    status: u32,
+    text: &[u8],
+    length: usize,
+) {
+    let mut out = Vec::new(alloc);
+    out.resize(room, b'#').expect(rt, "memory");
+    let mut written = 9;
+    let told = policy_dump(place, alloc, &mut out, &mut written);
+    assert_eq!(rt; (told, written), (status, length));
+    assert!(rt; has_text(&out, text.len(), text));
+    drop(out);
+}
+
+#[test]
+fn a_dump_is_the_commands_of_the_policy(rt: HostRuntime) {
+    let mut place = Place::empty();
+    expect_dump(&rt, rt.alloc(), &mut place, 400, 40, b"", 0);
+    become_clerk(&rt, rt.alloc(), &mut place);
+    expect_dump(&rt, rt.alloc(), &mut place, 400, 0, DUMP, DUMP.len());
+    expect_dump(&rt, rt.alloc(), &mut place, 9, 42, b"", DUMP.len());
+    expect_again(&rt, rt.alloc(), &mut place, 9, 0, DONE, 6);
     expect_end(&rt, rt.alloc(), place);
 }
 
