@@ -14,14 +14,13 @@ fn split_first<'p>(
     pairs.split_at(own)
 }
 
-// The grants from a place on whose role is this one. They are sorted by their roles here.
-fn own_grants<'p, 'g>(
-    grants: &'p [&'g ((Name, Name), Name)],
-    from: usize,
-    role: &Name,
-) -> &'p [&'g ((Name, Name), Name)] {
+// A grant with its role first.
+type RoleGrant = (Name, (Name, Name));
+
+// The grants from a place on whose role is this one. They are sorted by their roles.
+fn own_grants<'p>(grants: &'p [RoleGrant], from: usize, role: &Name) -> &'p [RoleGrant] {
     let rest = grants.get(from..).unwrap_or(&[]);
-    let own = rest.iter().take_while(|grant| grant.1 == *role).count();
+    let own = rest.iter().take_while(|grant| grant.0 == *role).count();
     rest.get(..own).unwrap_or(&[])
 }
 
@@ -59,26 +58,31 @@ fn put_users(text: &mut Vec<u8>, policy: &Policy) -> Result<(), AllocError> {
     Ok(())
 }
 
+// A copy of a grant.
+fn role_grant(grant: &((Name, Name), Name)) -> Result<RoleGrant, AllocError> {
+    let role = grant.1.copy()?;
+    let operation = grant.0.0.copy()?;
+    let object = grant.0.1.copy()?;
+    Ok((role, (operation, object)))
+}
+
 // The grants, sorted by their roles.
-fn grants_by_role(
-    alloc: Global,
-    policy: &Policy,
-) -> Result<Vec<&((Name, Name), Name)>, AllocError> {
+fn grants_by_role(alloc: Global, policy: &Policy) -> Result<Vec<RoleGrant>, AllocError> {
     let mut grants = Vec::new(alloc);
     for grant in policy.grants() {
-        grants.push(grant)?;
+        grants.push(role_grant(grant)?)?;
     }
-    grants.sort_by(|one, other| one.1.cmp(&other.1))?;
+    grants.sort_by(|one, other| one.0.cmp(&other.0))?;
     Ok(grants)
 }
 
 // The permissions of some grants, each on a line.
-fn put_grants(text: &mut Vec<u8>, grants: &[&((Name, Name), Name)]) -> Result<(), AllocError> {
-    for grant in grants {
+fn put_grants(text: &mut Vec<u8>, grants: &[RoleGrant]) -> Result<(), AllocError> {
+    for (_role, permission) in grants {
         text.extend_from_slice(b"    may ")?;
-        text.extend_from_slice(grant.0.0.as_bytes())?;
+        text.extend_from_slice(permission.0.as_bytes())?;
         text.extend_from_slice(b" ")?;
-        text.extend_from_slice(grant.0.1.as_bytes())?;
+        text.extend_from_slice(permission.1.as_bytes())?;
         text.extend_from_slice(b"\n")?;
     }
     Ok(())
@@ -89,7 +93,7 @@ fn put_role(
     text: &mut Vec<u8>,
     role: &Name,
     declared: &[(Name, Name)],
-    grants: &[&((Name, Name), Name)],
+    grants: &[RoleGrant],
 ) -> Result<(), AllocError> {
     text.extend_from_slice(b"  ")?;
     text.extend_from_slice(role.as_bytes())?;
