@@ -1,5 +1,5 @@
 -- Who is authorized, what a set of roles breaks, and what that tells of a state.
-use Rattle.std.proofs.Common.{ℕ, zero, suc, ◌≡◌, ◌+◌, ◌<◌, ⊎_elim, Bool, true, false, cond, ◌||◌, ◌&&◌, List, [], ◌∷◌, ◌++◌, take, length, get_or, Option, Some, None, Result, Ok, Err, IfOk, refl, sym, ap, ◌∙◌, subst, IsTrue, arith}
+use Rattle.std.proofs.Common.{ℕ, zero, suc, ◌≡◌, ◌+◌, ◌<◌, ⊎_elim, Bool, true, false, cond, ◌||◌, ◌&&◌, List, [], ◌∷◌, ◌++◌, take, length, get_or, Option, Some, None, Result, Ok, Err, IfOk, refl, sym, ap, ◌∙◌, subst, arith}
 use Rattle.std.proofs.lemmas.Bool.{false≢true, or_left, or_right, or_cases}
 use Rattle.std.proofs.lemmas.List.{take_more}
 use Rattle.std.proofs.lemmas.List.Folds.{list_any-append}
@@ -30,7 +30,7 @@ use Rattle.rbac_reasons.specs.declared.breach.Breach.{Breach}
 use Rattle.rbac_reasons.specs.Trying.{TellsBreach}
 use Rattle.rbac_terms.proofs.NameLemmas.{names_total, names_exact, pairs_total, pairs_exact}
 use Rattle.rbac_rules.proofs.AuthorizationLemmas.{is_authorized_iff}
-use Rattle.rbac_reasons.specs.Path.{IsPath, AreReached}
+use Rattle.rbac_reasons.specs.Path.{AreReached}
 use Rattle.rbac_reasons.proofs.WalkLemmas.{path_of_chain, chain_of_path}
 
 pub if_ok : {X E : Type 0} {P Q : X → Type 0} (r : Result X E) → ((x : X) → P x → Q x) → IfOk r P → IfOk r Q

@@ -1,5 +1,5 @@
 -- What is told of a command that is denied.
-use Rattle.std.proofs.Common.{ℕ, ◌≡◌, slice_get, Bool, true, false, cond, ◌||◌, ◌&&◌, List, [], ◌∷◌, Option, Some, None, IfSome, IsNone, Result, Ok, Err, IfOk, is_some, not, length, refl, sym, ap, ◌∙◌, subst, IsTrue, rules}
+use Rattle.std.proofs.Common.{ℕ, ◌≡◌, slice_get, Bool, true, false, cond, ◌&&◌, List, [], ◌∷◌, Option, Some, None, IfSome, IsNone, Result, Ok, Err, IfOk, is_some, not, length, refl, sym, ap, ◌∙◌, subst, rules}
 use Rattle.std.proofs.lemmas.Bool.{false≢true, or_left, or_cases}
 use Rattle.std.proofs.Common.{⊎_elim}
 use Rattle.std.specs.Option.{option_map}
@@ -15,7 +15,6 @@ use Rattle.rbac_terms.specs.Name.{Name, name_cmp, pair_cmp}
 use Rattle.rbac_terms.specs.Separation.{RoleSet, is_constrained, is_well_sized}
 use Rattle.rbac_terms.specs.State.{State, Session}
 use Rattle.rbac_terms.specs.Sound.{IsSound}
-use Rattle.rbac_terms.specs.Inheritance.{IsChain, Inherits}
 use Rattle.rbac_terms.specs.Authorization.{inherits_in}
 use Rattle.rbac_terms.specs.Constraints.{breaks_dynamic, sets_of, with_sets, is_violated, is_badly_sized, violation}
 use Rattle.rbac_terms.specs.Change.{change, with_active, with_member, without_member, with_cardinality}
@@ -30,7 +29,6 @@ use Rattle.rbac_rules.proofs.SoundSeparation.{is_false}
 use Rattle.rbac_decide.proofs.SeparationLemmas.{put_sized, activated_violated}
 use Rattle.sorted_keys.proofs.Lookups.{find-updated}
 use Rattle.rbac_terms.specs.declared.command.Command.TheVariants.{AddActiveRole, CreateSet, AddRoleMember, DeleteRoleMember, SetCardinality}
-use Rattle.rbac_reasons.specs.declared.told.Hindrance.{Hindrance}
 use Rattle.rbac_reasons.specs.declared.told.Hindrance.TheVariants.{NotOwner}
 use Rattle.rbac_reasons.specs.Naming.{user_of, session_of}
 use Rattle.rbac_reasons.specs.declared.chain.Chain.{Chain}

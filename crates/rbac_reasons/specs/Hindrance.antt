@@ -1,5 +1,5 @@
 -- What stands in the way of a command that is denied.
-use Rattle.std.specs.Prelude.{ℕ, ◌≡◌, List, Bool, false, not, ◌&&◌, nat_le, length, Option, Some, None, IsTrue}
+use Rattle.std.specs.Prelude.{ℕ, ◌≡◌, List, false, not, ◌&&◌, nat_le, length, Option, Some, None, IsTrue}
 use Rattle.std.specs.List.{find as first_where}
 use Rattle.std.specs.FinMap.Entries.{find}
 use Rattle.sorted_keys.specs.Keys.{has}

@@ -1,6 +1,5 @@
 -- What the tests of preconditions tell, where they tell more than that one fails.
 use Rattle.std.specs.Prelude.{◌≡◌, true, false, Option, Some, None, IsTrue}
-use Rattle.std.specs.Option.{option_map}
 use Rattle.sorted_keys.specs.Keys.{has}
 use Rattle.rbac_terms.specs.Name.{Name, pair_cmp}
 use Rattle.rbac_terms.specs.Vocabulary.{is_limited}

@@ -1,4 +1,4 @@
-use Rattle.std.proofs.Common.{◌≡◌, sym, ap, ◌∙◌, refl}
+use Rattle.std.proofs.Common.{sym, ap, ◌∙◌}
 use Rattle.sorted_keys.specs.Keys.{with_key}
 use Rattle.rbac_terms.specs.Name.{pair_cmp}
 use Rattle.rbac_terms.specs.Change.{change}

@@ -4,7 +4,7 @@ use Rattle.sorted_keys.specs.Keys.{has}
 use Rattle.rbac_terms.specs.Name.{Name, name_cmp}
 use Rattle.rbac_terms.specs.Separation.{RoleSet, is_broken}
 use Rattle.rbac_terms.specs.Constraints.{breaks_static}
-use Rattle.rbac_reasons.proofs.BreachLemmas.{IsBreachOf, has_at, static_broken, unbroken, none_more}
+use Rattle.rbac_reasons.proofs.BreachLemmas.{has_at, static_broken, unbroken, none_more}
 use Rattle.rbac_reasons.proofs.breaking.static_breach.Goals as goal
 
 pub returns-in-Some : goal.returns-in-Some

@@ -1,4 +1,4 @@
-use Rattle.std.proofs.Common.{◌≡◌, sym, ap, ◌∙◌}
+use Rattle.std.proofs.Common.{sym, ◌∙◌}
 use Rattle.rbac_reasons.proofs.BreachLemmas.{if_ok, told_alone}
 use Rattle.rbac_reasons.proofs.breaking.static_set_breach.Goals as goal
 

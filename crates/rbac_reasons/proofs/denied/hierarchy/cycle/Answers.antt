@@ -1,5 +1,3 @@
-use Rattle.std.proofs.Common.{◌≡◌, ◌∷◌, [], Result, IfOk, IfSome, IsNone, sym, subst}
-use Rattle.rbac_reasons.specs.Path.{LeadsTo, NoneLeads}
 use Rattle.rbac_reasons.proofs.HindranceLemmas.{cycle_told, if_both}
 use Rattle.rbac_reasons.proofs.denied.hierarchy.cycle.Goals as goal
 

@@ -1,23 +1,17 @@
-use Rattle.std.proofs.Common.{rules, ◌≡◌, ◌∷◌, [], true, false, not, cond, is_some, Some, None, IfOk, refl, sym, ap, subst, ◌∙◌}
+use Rattle.std.proofs.Common.{rules, ◌≡◌, true, false, not, is_some, Some, refl, sym, ap, subst}
 use Rattle.std.specs.FinMap.Entries.{find}
 use Rattle.std.specs.Ordering.{eq_by_cmp}
-use Rattle.std.specs.Option.{option_map}
-use Rattle.sorted_keys.specs.Keys.{has, with_key}
-use Rattle.rbac_terms.specs.Name.{Name, name_cmp, pair_cmp}
-use Rattle.rbac_terms.specs.State.{State, Session}
-use Rattle.rbac_terms.specs.Authorization.{is_authorized}
-use Rattle.rbac_terms.specs.Constraints.{is_violated}
-use Rattle.rbac_terms.specs.Change.{change}
+use Rattle.sorted_keys.specs.Keys.{has}
+use Rattle.rbac_terms.specs.Name.{name_cmp}
+use Rattle.rbac_terms.specs.State.{Session}
 use Rattle.rbac_terms.specs.Rows.{first_denial}
-use Rattle.rbac_terms.specs.declared.separation.Separation.TheVariants.{Static, Dynamic}
 use Rattle.rbac_terms.specs.declared.command.Command.{Command}
 use Rattle.rbac_terms.specs.declared.command.Command.TheVariants.{DropActiveRole}
 use Rattle.rbac_terms.specs.declared.answer.Denial.TheVariants as denial
-use Rattle.rbac_reasons.specs.declared.told.Hindrance.TheVariants.{NotOwner, NotAuthorized}
-use Rattle.rbac_reasons.specs.Hindrance.{Explains, Hinders}
-use Rattle.rbac_reasons.specs.Trying.{TellsBreach, TellsCycle, TellsLimited, hindrance_by}
+use Rattle.rbac_reasons.specs.declared.told.Hindrance.TheVariants.{NotOwner}
+use Rattle.rbac_reasons.specs.Hindrance.{Explains}
 use Rattle.rbac_reasons.proofs.BreachLemmas.{if_ok}
-use Rattle.rbac_reasons.proofs.HindranceLemmas.{skip, hit, explained, explained_by, not_the_owner, the_owner, owner_hinders, is_active_there, activated_there, activation_violates}
+use Rattle.rbac_reasons.proofs.HindranceLemmas.{skip, hit, not_the_owner, owner_hinders}
 use Rattle.rbac_reasons.proofs.denied.sessions.drop_active_role.Goals as goal
 
 pub returns-then-is_ne : goal.returns-then-is_ne
