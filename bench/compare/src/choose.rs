@@ -19,6 +19,7 @@ pub fn chosen_cases(reference: &dyn Player, choices: &Choices, fixed: &[Case]) -
         coverage.count(case, &played);
     }
     let kinds: Vec<bool> = match choices.members {
+        Members::One => vec![false],
         Members::OneAndGroups => vec![false, true],
         Members::Groups => vec![true],
     };

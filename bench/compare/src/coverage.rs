@@ -3,7 +3,7 @@
 use crate::case::{Case, Played, lines_of};
 use crate::generate::{Choices, Members};
 use crate::group_run::{self, GroupRun};
-use crate::rows::{ENDS, GROUP_OUTCOMES, Group, LIMITED_ROWS, OUTCOMES, REFUSALS, VERSION_2_ENDS, row_of};
+use crate::rows::{CALL_REFUSALS, ENDS, GROUP_OUTCOMES, Group, LIMITED_ROWS, OUTCOMES, REFUSALS, VERSION_2_ENDS, row_of};
 use crate::text::{contains, count, objects_after, text_between};
 use std::collections::{BTreeMap, HashMap};
 
@@ -55,6 +55,36 @@ impl Coverage {
         if case.is_group {
             self.count_group(case, played);
         }
+    }
+
+    /// The same of the commands of a client, each of which is answered by the line in its place.
+    pub fn count_told(&mut self, case: &Case, played: &Played) {
+        let end = end_of(played);
+        if case.is_version_2() {
+            self.count_other(format!("version 2, {end}"));
+        }
+        self.count_other(end);
+        let is_limited = case.is_limited();
+        for (line, text) in case.lines().iter().zip(lines_of(&played.output)) {
+            self.lines += 1;
+            let text = String::from_utf8_lossy(text);
+            match text.strip_prefix("{\"answer\":") {
+                Some(answer) => {
+                    let told = (command_of(line, is_limited), word_of(answer).to_owned());
+                    *self.answers.entry(told).or_default() += 1;
+                }
+                None => self.count_other(text_between(&text, "\"refused\":\"", "\"").unwrap_or_default().to_owned()),
+            }
+        }
+    }
+
+    /// What can be told of commands and of foundings and was not.
+    pub fn missing_of_calls(&self, choices: &Choices) -> Vec<String> {
+        let mut missing = self.missing_answers(choices);
+        let foundings = ENDS.iter().chain(&VERSION_2_ENDS).filter(|end| !end.contains(" file") && !end.contains(" run"));
+        let others = CALL_REFUSALS.iter().chain(foundings.filter(|end| !end.ends_with("status 2")));
+        missing.extend(others.filter(|word| !self.others.contains_key(**word)).map(|word| word.to_string()));
+        missing
     }
 
     fn count_group(&mut self, case: &Case, played: &Played) {

@@ -26,6 +26,7 @@ pub struct Choices {
 /// Of which schedules there are some.
 #[derive(Clone, Copy, PartialEq, Eq)]
 pub enum Members {
+    One,
     OneAndGroups,
     Groups,
 }

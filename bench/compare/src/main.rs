@@ -1,5 +1,8 @@
 //! Plays seeded random schedules by the reference and by the monitor, and compares what they print, byte for byte.
+// What compares calls of the library is built with it alone.
+#![cfg_attr(not(feature = "library"), allow(dead_code))]
 
+mod calls;
 mod case;
 mod choose;
 mod coverage;
@@ -23,11 +26,13 @@ use std::path::{Path, PathBuf};
 use std::process::ExitCode;
 
 const HELP: &str = "\
-usage: compare --reference PROGRAM --room FOLDER (--program PROGRAM | --try FOLDER) [--lines N] [--seed N] [--without-reviews] [--groups] [--serve]
+usage: compare --reference PROGRAM --room FOLDER (--program PROGRAM | --try FOLDER | --library | --library-briefly) [--lines N] [--seed N] [--without-reviews] [--groups] [--serve]
 
   --reference PROGRAM  the reference
   --program PROGRAM    the monitor, as built
   --try FOLDER         the folder of the monitor's crate: it is built and run by rt try
+  --library            in its place the library, called for each command of schedules of one member, and for each check by both calls
+  --library-briefly    the same of a few random schedules, whether or not each answer occurs in them
   --room FOLDER        an empty folder for the schedules
   --lines N            at least so many lines of random schedules (100000; with --try as many as it takes for each answer)
   --seed N             of the random choices (1)
@@ -42,6 +47,7 @@ struct Words {
     room: PathBuf,
     choices: Choices,
     serve: bool,
+    library: Option<Extent>,
 }
 
 fn main() -> ExitCode {
@@ -49,7 +55,11 @@ fn main() -> ExitCode {
         eprintln!("{HELP}");
         return ExitCode::from(2);
     };
-    let compared = if words.serve { compare_serving(&words) } else { compare(&words) };
+    let compared = match words.library {
+        Some(extent) => compare_calls(&words, extent),
+        None if words.serve => compare_serving(&words),
+        None => compare(&words),
+    };
     match compared {
         Ok(true) => ExitCode::SUCCESS,
         Ok(false) => ExitCode::FAILURE,
@@ -64,13 +74,15 @@ fn read_words() -> Option<Words> {
     let (mut reference, mut program, mut tried, mut room) = (None, None, None, None);
     let members = Members::OneAndGroups;
     let mut choices = Choices { seed: 1, lines: 100_000, reviews: true, extent: Extent::Whole, members };
-    let (mut lines, mut serve) = (None, false);
+    let (mut lines, mut serve, mut library) = (None, false, None);
     let mut words = std::env::args().skip(1);
     while let Some(word) = words.next() {
         match word.as_str() {
             "--reference" => reference = Some(words.next()?.into()),
             "--program" => program = Some(words.next()?.into()),
             "--try" => tried = Some(words.next()?.into()),
+            "--library" => library = Some(Extent::Whole),
+            "--library-briefly" => library = Some(Extent::Short),
             "--room" => room = Some(words.next()?.into()),
             "--lines" => lines = Some(words.next()?.parse().ok()?),
             "--seed" => choices.seed = words.next()?.parse().ok()?,
@@ -80,14 +92,17 @@ fn read_words() -> Option<Words> {
             _ => return None,
         }
     }
-    if program.is_some() == tried.is_some() {
+    if [program.is_some(), tried.is_some(), library.is_some()].into_iter().filter(|given| *given).count() != 1 {
         return None;
+    }
+    if library.is_some() {
+        choices.members = Members::One;
     }
     if tried.is_some() {
         (choices.extent, choices.lines) = (Extent::Short, 0);
     }
     choices.lines = lines.unwrap_or(choices.lines);
-    Some(Words { reference: reference?, program, tried, room: room?, choices, serve })
+    Some(Words { reference: reference?, program, tried, room: room?, choices, serve, library })
 }
 
 /// Whether the programs never differed and all that can occur did.
@@ -147,6 +162,48 @@ fn compare_serving(words: &Words) -> Result<bool, String> {
     Ok(missing.is_empty())
 }
 
+/// The same of the calls of a program: what each command is answered, and each check by the call for checks.
+#[cfg(feature = "library")]
+fn compare_calls(words: &Words, extent: Extent) -> Result<bool, String> {
+    let reference = binary(&words.reference, &words.room.join("reference"))?;
+    let library = players::Library::default();
+    let pair = Pair { reference: &reference, program: &library };
+    let choices = &words.choices;
+    let cases = match extent {
+        Extent::Whole => {
+            let mut cases = generate::fixed_cases(choices);
+            cases.extend(choose::chosen_cases(&reference, choices, &cases)?);
+            cases
+        }
+        Extent::Short => generate::random_cases(choices, false, choices.lines),
+    };
+    let cases = calls::cases_of(&cases);
+    let mut coverage = Coverage::default();
+    for some in cases.chunks(library.cases_at_once()) {
+        let Some(played) = play_alike(&pair, some)? else {
+            return Ok(false);
+        };
+        some.iter().zip(&played).for_each(|(case, (wanted, _))| coverage.count_told(case, wanted));
+    }
+    println!(
+        "seed {}: {} foundings, {} commands, {} checks by both calls: the answers are the same",
+        choices.seed,
+        cases.len(),
+        library.commands.get(),
+        library.checks.get()
+    );
+    if extent == Extent::Short {
+        return Ok(true);
+    }
+    coverage.print();
+    Ok(tell_missing(&coverage.missing_of_calls(choices), &coverage.unknown()))
+}
+
+#[cfg(not(feature = "library"))]
+fn compare_calls(_: &Words, _: Extent) -> Result<bool, String> {
+    Err("built without the library".to_owned())
+}
+
 fn monitor(words: &Words) -> Result<Box<dyn Player>, String> {
     match (&words.program, &words.tried) {
         (Some(program), _) => Ok(Box::new(binary(program, &words.room.join("program"))?)),
@@ -182,8 +239,12 @@ fn show_shortened(pair: &Pair, case: Case) -> Result<(), String> {
 }
 
 fn is_complete(coverage: &Coverage, choices: &Choices) -> bool {
-    let (missing, unknown) = (coverage.missing(choices), coverage.unknown());
-    for (heading, words) in [("can occur and did not", &missing), ("cannot occur and did", &unknown)] {
+    tell_missing(&coverage.missing(choices), &coverage.unknown())
+}
+
+/// Whether nothing is missing and nothing is unknown.
+fn tell_missing(missing: &[String], unknown: &[String]) -> bool {
+    for (heading, words) in [("can occur and did not", missing), ("cannot occur and did", unknown)] {
         if !words.is_empty() {
             println!("{heading}: {}", words.join(", "));
         }

@@ -1,9 +1,13 @@
 //! The programs that are compared.
 
 mod binary;
+#[cfg(feature = "library")]
+mod library;
 mod tried;
 
 pub use binary::Binary;
+#[cfg(feature = "library")]
+pub use library::Library;
 pub use tried::Tried;
 
 use crate::case::{Case, Played};

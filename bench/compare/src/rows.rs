@@ -140,6 +140,9 @@ pub const REFUSALS: [&str; 14] = [
     "BadSerial",
 ];
 
+/// The refusals of a command's text that are compared: what stands round it is not the library's to read.
+pub const CALL_REFUSALS: [&str; 6] = ["NotJson", "UnknownWord", "MissingField", "WrongKind", "BadName", "ExtraField"];
+
 /// How a program can end: its status, and the words of its message where that is its own.
 pub const ENDS: [&str; 14] = [
     "status 0",

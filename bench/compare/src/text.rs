@@ -13,27 +13,48 @@ pub fn number_after(line: &[u8], key: &str) -> Option<(Range<usize>, u32)> {
 
 /// The texts of the objects behind this key, which has an array of them. None is a line that has none, or a text that is cut off.
 pub fn objects_after<'a>(line: &'a [u8], key: &str) -> Option<Vec<&'a [u8]>> {
+    let array = behind(line, key)?.strip_prefix(b"[")?;
+    let (mut objects, mut rest) = (Vec::new(), array);
+    loop {
+        let next = rest.iter().position(|byte| matches!(byte, b'{' | b'[' | b']' | b'"'))?;
+        if rest[next] == b']' {
+            return Some(objects);
+        }
+        let object = first_value(&rest[next..])?;
+        if rest[next] != b'"' {
+            objects.push(object);
+        }
+        rest = &rest[next + object.len()..];
+    }
+}
+
+/// The text of the object behind this key. None is a line that has none, or a text that is cut off.
+pub fn object_after<'a>(line: &'a [u8], key: &str) -> Option<&'a [u8]> {
+    let value = behind(line, key)?;
+    if value.starts_with(b"{") { first_value(value) } else { None }
+}
+
+/// What stands behind this key.
+fn behind<'a>(line: &'a [u8], key: &str) -> Option<&'a [u8]> {
     let key = format!("\"{key}\":").into_bytes();
     let start = line.windows(key.len()).position(|window| window == key)? + key.len();
-    let array = line[start..].trim_ascii_start().strip_prefix(b"[")?;
-    let (mut objects, mut open, mut first, mut in_text, mut place) = (Vec::new(), 0, 0, false, 0);
-    while place < array.len() {
-        match array[place] {
+    Some(line[start..].trim_ascii_start())
+}
+
+/// The text, object or array that a text begins with.
+fn first_value(text: &[u8]) -> Option<&[u8]> {
+    let (mut open, mut in_text, mut place) = (0, false, 0);
+    while place < text.len() {
+        match text[place] {
             b'\\' if in_text => place += 1,
             b'"' => in_text = !in_text,
             _ if in_text => {}
-            b']' if open == 0 => return Some(objects),
-            b'{' | b'[' => {
-                first = if open == 0 { place } else { first };
-                open += 1;
-            }
-            b'}' | b']' => {
-                open -= 1;
-                if open == 0 {
-                    objects.push(&array[first..=place]);
-                }
-            }
+            b'{' | b'[' => open += 1,
+            b'}' | b']' => open -= 1,
             _ => {}
+        }
+        if open == 0 && !in_text {
+            return Some(&text[..=place]);
         }
         place += 1;
     }
@@ -70,6 +91,17 @@ mod tests {
         assert_eq!(objects(r#"{"at":1,"commands": [{"a":"}]\"","b":["x"]} ,{ }],"n":[{}]}"#), Some(two.to_vec()));
         assert_eq!(objects(r#"{"command":{}}"#), None);
         assert_eq!(objects(r#"{"commands":[{"a":1}"#), None);
+        assert_eq!(objects(r#"{"commands":["]",7,{}]}"#), Some(vec![b"{}".as_slice()]));
         assert_eq!((count_of_commands(b"{\"commands\":[{},{}]}"), count_of_commands(b"{\"command\":{}}")), (2, 1));
+    }
+
+    #[test]
+    fn the_object_behind_a_key() {
+        let object = |line: &'static str| object_after(line.as_bytes(), "command");
+        let text = br#"{"a":"}\"","b":["}"]}"#.as_slice();
+        assert_eq!(object(r#"{"at":1,"command": {"a":"}\"","b":["}"]} ,"n":{}}"#), Some(text));
+        assert_eq!(object(r#"{"command":[{}]}"#), None);
+        assert_eq!(object(r#"{"command":{"a":1"#), None);
+        assert_eq!(object(r#"{"a":{}}"#), None);
     }
 }

@@ -16,7 +16,8 @@ pub struct Place {
 }
 
 impl Place {
-    fn empty() -> Place
+    /// A place without a policy.
+    pub(crate) fn empty() -> Place
         ensures { result.slot.kept ≡ None }
     {
         Place {
@@ -62,7 +63,14 @@ impl Place {
         requires { self.old.slot.kept ≡ None }
         ensures { self.new.slot.kept ≡ option_map (λ b. b.value) monitor }
     {
-        let Place { slot, is_full: _ } = mem::replace(self, Place::of(monitor));
+        mem::replace(self, Place::of(monitor)).forget();
+    }
+
+    /// Lets go of an empty place.
+    pub(crate) fn forget(self)
+        requires { self.slot.kept ≡ None }
+    {
+        let Place { slot, is_full: _ } = self;
         slot.forget();
     }
 }

@@ -7,11 +7,13 @@ mod calls;
 mod ending;
 mod news;
 mod pump;
+mod round;
 mod turn;
 mod waiting;
 
 use crate::courier::Courier;
 use crate::gate::Gate;
+use crate::service::round::Round;
 use crate::service::waiting::Waiting;
 pub use pump::PumpEnd;
 use rbac_node::{GroupName, Node, Rows};
@@ -61,6 +63,7 @@ pub struct Service<G: GroupName, K: Gate + Drop, C: Courier + Drop> {
     pub(crate) rows: Rows,
     pub(crate) slots: Vec<Slot<G>>,
     pub(crate) room: Mutex<Room<G>>,
+    pub(crate) round: Round,
     pub(crate) gate: K,
     pub(crate) courier: C,
     ghost group: { IsGroup G.group },
@@ -130,6 +133,7 @@ impl<G: GroupName, K: Gate + Drop, C: Courier + Drop> Service<G, K, C> {
     {
         group.invariants();
         let slots = found_slots(alloc, &rows, group, &vocabulary)?;
+        let round = Round::found(alloc, group.members())?;
         let room = Room {
             nodes: Vec::with_capacity(alloc, slots.len())?,
         };
@@ -137,6 +141,7 @@ impl<G: GroupName, K: Gate + Drop, C: Courier + Drop> Service<G, K, C> {
             rows,
             slots,
             room: Mutex::new(room),
+            round,
             gate,
             courier,
         })

@@ -1,4 +1,4 @@
-//! What was published and not yet told.
+//! What was published and not yet told, and who could not be reached.
 
 // Of a group.
 const MOST_MEMBERS: usize = 8;
@@ -16,17 +16,17 @@ impl News {
         }
     }
 
-    /// A member has published its messages up to a number.
-    pub(crate) fn of(from: u32, number: usize) -> News {
-        let mut news = News::none();
-        news.add(from, number);
-        news
-    }
-
-    pub(crate) fn add(&mut self, from: u32, number: usize) {
-        let place = (from as usize).wrapping_sub(1);
+    /// The member at a place has published its messages up to a number.
+    pub(crate) fn set(&mut self, place: usize, number: usize) {
         if let Some(up_to) = self.up_to.get_mut(place) {
             *up_to = number;
+        }
+    }
+
+    /// All that other news tells, too.
+    pub(crate) fn join(&mut self, other: &News) {
+        for (up_to, more) in self.up_to.iter_mut().zip(other.up_to) {
+            *up_to = (*up_to).max(more);
         }
     }
 
@@ -38,5 +38,89 @@ impl News {
     pub(crate) fn up_to(&self, from: u32) -> Option<usize> {
         let up_to = *self.up_to.get((from as usize).wrapping_sub(1))?;
         if up_to == 0 { None } else { Some(up_to) }
+    }
+}
+
+/// Members that could not be reached, since somebody held their locks.
+#[derive(Clone, Copy, Drop)]
+pub(crate) struct Missed {
+    is_missed: [bool; MOST_MEMBERS],
+}
+
+impl Missed {
+    pub(crate) fn none() -> Missed {
+        Missed {
+            is_missed: [false; MOST_MEMBERS],
+        }
+    }
+
+    pub(crate) fn add(&mut self, at: u32) {
+        let place = (at as usize).wrapping_sub(1);
+        if let Some(is_missed) = self.is_missed.get_mut(place) {
+            *is_missed = true;
+        }
+    }
+
+    pub(crate) fn has(&self, at: u32) -> bool {
+        let place = (at as usize).wrapping_sub(1);
+        self.is_missed.get(place).copied().unwrap_or(false)
+    }
+
+    pub(crate) fn is_empty(&self) -> bool {
+        !self.is_missed.contains(&true)
+    }
+}
+
+/// What a thread carries round the members.
+#[derive(Clone, Copy, Drop)]
+pub(crate) struct Load {
+    // of this round
+    news: News,
+    // of all rounds
+    all: News,
+    missed: Missed,
+}
+
+impl Load {
+    pub(crate) fn none() -> Load {
+        Load {
+            news: News::none(),
+            all: News::none(),
+            missed: Missed::none(),
+        }
+    }
+
+    /// The news of the next round.
+    pub(crate) fn take(&mut self, news: News) {
+        self.news = news;
+        self.all.join(&news);
+    }
+
+    /// Who was missed in this round.
+    pub(crate) fn miss(&mut self, missed: Missed) {
+        self.missed = missed;
+    }
+
+    pub(crate) fn is_empty(&self) -> bool {
+        self.news.is_empty() && self.missed.is_empty()
+    }
+
+    /// Whether a member was missed in the round before.
+    pub(crate) fn has_missed(&self, at: u32) -> bool {
+        self.missed.has(at)
+    }
+
+    /// The news of this round.
+    pub(crate) fn news(&self) -> &News {
+        &self.news
+    }
+
+    /// What a member has not heard: this round's news, and all of it where it was missed before.
+    pub(crate) fn unheard(&self, at: u32) -> &News {
+        if self.missed.has(at) {
+            &self.all
+        } else {
+            &self.news
+        }
     }
 }

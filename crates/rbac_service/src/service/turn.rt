@@ -2,7 +2,7 @@
 
 use crate::courier::{Courier, Hint, Wake};
 use crate::gate::Gate;
-use crate::service::news::News;
+use crate::service::news::{Load, Missed, News};
 use crate::service::waiting::Answered;
 use crate::service::{Service, Slot};
 use rbac_node::{GroupName, Node, NodeRefusal, PublishRefusal};
@@ -11,6 +11,9 @@ use std::sync::{MutexGuard, Wait};
 
 // So often a thread that has published goes round the members before it leaves the rest to hints.
 const MOST_ROUNDS: u32 = 8;
+
+// So often it begins anew where others have left news meanwhile.
+const MOST_TIMES: u32 = 4;
 
 // How a turn ended.
 #[derive(Clone, Copy, Drop)]
@@ -22,6 +25,16 @@ pub(crate) enum Turn {
     Stopped,
     // somebody else has set a cell of the member's rows
     Broken,
+}
+
+// What became of a turn in place of a member's thread.
+#[derive(Clone, Copy, Drop)]
+enum Help {
+    Done,
+    // somebody holds the lock
+    Busy,
+    // the member's own thread is to be told
+    Hint,
 }
 
 // How a turn ended, and up to which number it has published messages, where it has published some.
@@ -140,59 +153,80 @@ impl<G: GroupName, K: Gate + Drop, C: Courier + Drop> Service<G, K, C> {
     }
 
     // A turn of a member in place of its thread, where that one runs and the lock is free.
-    fn help(&self, alloc: Global, at: u32) -> Option<Turned> {
-        let slot = self.slot(at)?;
+    fn help(&self, alloc: Global, at: u32) -> Help {
+        let Some(slot) = self.slot(at) else {
+            return Help::Hint;
+        };
         if !slot.is_pumped() {
-            return None;
+            return Help::Hint;
         }
-        let node = slot.node.try_lock()?;
-        Some(self.take_turn(alloc, slot, node, Wake::Sweep))
+        let Some(node) = slot.node.try_lock() else {
+            return Help::Busy;
+        };
+        let turned = self.take_turn(alloc, slot, node, Wake::Sweep);
+        if let Some(number) = turned.news {
+            self.round.leave(at, number);
+        }
+        match turned.end {
+            Turn::Done | Turn::Stopped => Help::Done,
+            // What the turn had no memory for, or found broken, the member's own thread sees to.
+            Turn::Starved | Turn::Broken => Help::Hint,
+        }
     }
 
-    // Brings each member what others have published: by a turn in its place, or by hints. What was published so is answered.
-    fn bring(&self, alloc: Global, news: &News, first: u32) -> News {
+    // Brings the news to each member that is to hear of it or was missed before, by a turn in its place. Who can't be helped is
+    // told; whose lock somebody holds is missed.
+    fn bring(&self, alloc: Global, load: &Load, first: u32) -> Missed {
         let members = self.slots.len() as u32;
-        let mut more = News::none();
+        let mut missed = Missed::none();
         for step in 0..members {
             let place = (first.saturating_sub(1) % members).wrapping_add(step) % members;
             let at = place + 1;
-            if !self.is_news(at, news) {
+            if !self.is_news(at, load.news()) && !load.has_missed(at) {
                 continue;
             }
-            let helped = self.help(alloc, at);
-            if let Some(
-                Turned {
-                    news: Some(number),
-                    ..
-                },
-            ) = helped
-            {
-                more.add(at, number);
-            }
-            // What its turn had no memory for, or found broken, its own thread sees to.
-            if !matches!(
-                helped,
-                Some(Turned {
-                    end: Turn::Done | Turn::Stopped,
-                    ..
-                })
-            ) {
-                self.tell(at, news);
+            match self.help(alloc, at) {
+                Help::Done => {}
+                Help::Busy => missed.add(at),
+                Help::Hint => self.tell(at, load.unheard(at)),
             }
         }
-        more
+        missed
+    }
+
+    // Carries the news that was left round the members, and what they publish upon it, until there is no more or it has gone round
+    // often enough. Hints tell the rest, and tell those who were missed to the end all of it.
+    fn go_round(&self, alloc: Global, first: u32) {
+        let mut load = Load::none();
+        for _round in 0..MOST_ROUNDS {
+            load.take(self.round.take());
+            if load.is_empty() {
+                return;
+            }
+            load.miss(self.bring(alloc, &load, first));
+        }
+        load.take(self.round.take());
+        for place in 0..self.slots.len() as u32 {
+            self.tell(place + 1, load.unheard(place + 1));
+        }
     }
 
     // A member has published its messages up to a number: the others hear of it, and of what they publish upon it, by turns that
-    // this thread takes in their place, and by hints where it can't. It begins with the first, since that one may wait.
+    // this thread takes in their place, and by hints where it can't. It begins with the first, since that one may wait. Where
+    // enough threads go round already, it leaves the news to them.
     pub(crate) fn spread(&self, alloc: Global, from: u32, number: usize, first: u32) {
-        let mut news = News::of(from, number);
-        for _round in 0..MOST_ROUNDS {
-            if news.is_empty() {
+        self.round.leave(from, number);
+        for _time in 0..MOST_TIMES {
+            if !self.round.begin() {
                 return;
             }
-            news = self.bring(alloc, &news, first);
+            self.go_round(alloc, first);
+            self.round.end();
+            if self.round.is_empty() {
+                return;
+            }
         }
+        let news = self.round.take();
         for place in 0..self.slots.len() as u32 {
             self.tell(place + 1, &news);
         }

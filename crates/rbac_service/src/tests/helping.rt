@@ -111,3 +111,32 @@ fn a_stopped_member_is_not_helped(rt: HostRuntime) {
     let founding = founding_of(&rt, rt.alloc(), 2, 16);
     run_stopped::<Brand, _>(&rt, rt.alloc(), founding);
 }
+
+// Where enough threads go round already, who submits leaves the news to them, and the next that goes round carries it.
+fn run_left<G: GroupName, R: Wait + Abort>(rt: &R, alloc: Global, founding: Founding)
+    requires names { (founding.group ≡ G.group) × (founding.words ≡ G.vocabulary) × (founding.rows ≡ G.cells) }
+    requires members { length founding.rows.sent ≡ founding.group.members }
+{
+    let service: Service<G, NoGate, Lost> = founded(rt, alloc, founding, Lost::new());
+    begin(rt, &service, 1);
+    begin(rt, &service, 2);
+    for _ in 0..4u32 {
+        assert!(rt; service.round.begin());
+    }
+    submit_at(rt, alloc, &service, 1);
+    assert!(rt; !service.round.is_empty());
+    expect_no_record(rt, &service, 1, 0);
+    service.round.end();
+    submit_at(rt, alloc, &service, 2);
+    assert!(rt; service.round.is_empty());
+    expect_record(rt, &service, (1, 0), (1, 1), &Answer::Done);
+    expect_record(rt, &service, (2, 0), (1, 1), &Answer::Done);
+    assert_eq!(rt; told(&service), 0);
+    drop(service);
+}
+
+#[test]
+fn news_is_left_to_those_who_go_round(rt: HostRuntime) {
+    let founding = founding_of(&rt, rt.alloc(), 2, 16);
+    run_left::<Brand, _>(&rt, rt.alloc(), founding);
+}

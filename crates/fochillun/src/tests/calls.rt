@@ -1,0 +1,158 @@
+//! The calls of another language.
+
+use super::clerk::{ADD_ANN, CHECKS, DONE, FOUNDING, OTHERS, REFUSED_COMMANDS, REFUSED_FOUNDINGS};
+use crate::calls::{policy_answer, policy_apply, policy_check, policy_close, policy_open};
+use crate::place::Place;
+use std::alloc::Global;
+use std::process::Abort;
+
+fn expect_open(rt: &impl Abort, alloc: Global, place: &mut Place, file: &[u8], status: u32) {
+    assert_eq!(rt; policy_open(place, alloc, file), status);
+}
+
+/// Whether the buffer has the text at its front, of the length that was written, and nothing else.
+fn has_text(out: &[u8], written: usize, text: &[u8]) -> bool {
+    let rest = out.iter().skip(text.len());
+    written == text.len() && out.starts_with(text) && rest.copied().all(|byte| byte == b'#')
+}
+
+fn expect_answer(
+    rt: &impl Abort,
+    alloc: Global,
+    place: &mut Place,
+    command: &[u8],
+    status: u32,
+    text: &[u8],
+) {
+    let (mut out, mut written) = ([b'#'; 64], 9);
+    let told = policy_apply(place, alloc, command, &mut out, &mut written);
+    assert_eq!(rt; told, status);
+    assert!(rt; has_text(&out, written, text));
+}
+
+fn expect_check(
+    rt: &impl Abort,
+    alloc: Global,
+    place: &mut Place,
+    words: (&[u8], &[u8], &[u8]),
+    status: u32,
+) {
+    let told = policy_check(place, alloc, words.0, words.1, words.2);
+    assert_eq!(rt; told, status);
+}
+
+/// The last answer again, in a buffer of so many bytes.
+fn expect_again(
+    rt: &impl Abort,
+    alloc: Global,
+    place: &mut Place,
+    room: usize,
+    status: u32,
+    text: &[u8],
+    length: usize,
+) {
+    let mut out = Vec::new(alloc);
+    out.resize(room, b'#').expect(rt, "memory");
+    let mut written = 9;
+    let told = policy_answer(place, alloc, &mut out, &mut written);
+    assert_eq!(rt; (told, written), (status, length));
+    assert!(rt; has_text(&out, text.len(), text));
+    drop(out);
+}
+
+/// Closes a place that has a policy, and lets it go.
+fn expect_end(rt: &impl Abort, alloc: Global, place: Place) {
+    let mut place = place;
+    let first = policy_close(&mut place, alloc);
+    let second = policy_close(&mut place, alloc);
+    place.forget();
+    assert_eq!(rt; (first, second), (0, 40));
+}
+
+fn become_clerk(rt: &impl Abort, alloc: Global, place: &mut Place) {
+    expect_open(rt, alloc, place, FOUNDING, 0);
+    expect_answer(rt, alloc, place, ADD_ANN, 0, DONE);
+    for command in OTHERS {
+        expect_answer(rt, alloc, place, command, 0, DONE);
+    }
+}
+
+fn expect_checks(rt: &impl Abort, alloc: Global, place: &mut Place) {
+    for (session, operation, object, status) in CHECKS {
+        let words = (session, operation, object);
+        expect_check(rt, alloc, place, words, status);
+    }
+}
+
+#[test]
+fn each_answer_and_each_check(rt: HostRuntime) {
+    let mut place = Place::empty();
+    become_clerk(&rt, rt.alloc(), &mut place);
+    let denied = br#"{"denied":"UserExists","number":1}"#;
+    expect_answer(&rt, rt.alloc(), &mut place, ADD_ANN, 0, denied);
+    expect_checks(&rt, rt.alloc(), &mut place);
+    expect_open(&rt, rt.alloc(), &mut place, FOUNDING, 41);
+    expect_end(&rt, rt.alloc(), place);
+}
+
+fn expect_refused_foundings(rt: &impl Abort, alloc: Global, place: &mut Place) {
+    for (file, status) in REFUSED_FOUNDINGS {
+        expect_open(rt, alloc, place, file, status);
+    }
+}
+
+fn expect_refused_commands(rt: &impl Abort, alloc: Global, place: &mut Place) {
+    for (text, status) in REFUSED_COMMANDS {
+        expect_answer(rt, alloc, place, text, status, b"");
+    }
+}
+
+#[test]
+fn each_refused_text(rt: HostRuntime) {
+    let mut place = Place::empty();
+    expect_refused_foundings(&rt, rt.alloc(), &mut place);
+    expect_open(&rt, rt.alloc(), &mut place, FOUNDING, 0);
+    expect_refused_commands(&rt, rt.alloc(), &mut place);
+    expect_end(&rt, rt.alloc(), place);
+}
+
+#[test]
+fn what_is_too_long(rt: HostRuntime) {
+    let mut place = Place::empty();
+    let mut text = Vec::new(rt.alloc());
+    text.resize(1_048_577, b'\n').expect(&rt, "memory");
+    expect_open(&rt, rt.alloc(), &mut place, &text, 101);
+    text.truncate(65_537);
+    expect_open(&rt, rt.alloc(), &mut place, FOUNDING, 0);
+    expect_answer(&rt, rt.alloc(), &mut place, &text, 201, b"");
+    drop(text);
+    expect_end(&rt, rt.alloc(), place);
+}
+
+#[test]
+fn a_short_buffer_has_the_command_applied_once(rt: HostRuntime) {
+    let mut place = Place::empty();
+    expect_open(&rt, rt.alloc(), &mut place, FOUNDING, 0);
+    expect_again(&rt, rt.alloc(), &mut place, 0, 0, b"", 0);
+    let (mut out, mut written) = ([b'#'; 5], 9);
+    let told = policy_apply(&mut place, rt.alloc(), ADD_ANN, &mut out, &mut written);
+    assert_eq!(&rt; (told, written), (42, 6));
+    assert!(&rt; has_text(&out, 0, b""));
+    expect_again(&rt, rt.alloc(), &mut place, 5, 42, b"", 6);
+    expect_again(&rt, rt.alloc(), &mut place, 6, 0, DONE, 6);
+    expect_again(&rt, rt.alloc(), &mut place, 9, 0, DONE, 6);
+    let denied = br#"{"denied":"UserExists","number":1}"#;
+    expect_answer(&rt, rt.alloc(), &mut place, ADD_ANN, 0, denied);
+    expect_end(&rt, rt.alloc(), place);
+}
+
+#[test]
+fn an_empty_place(rt: HostRuntime) {
+    let mut place = Place::empty();
+    expect_answer(&rt, rt.alloc(), &mut place, ADD_ANN, 40, b"");
+    expect_again(&rt, rt.alloc(), &mut place, 8, 40, b"", 0);
+    let words = (b"s1".as_slice(), b"read".as_slice(), b"ledger".as_slice());
+    expect_check(&rt, rt.alloc(), &mut place, words, 40);
+    become_clerk(&rt, rt.alloc(), &mut place);
+    expect_end(&rt, rt.alloc(), place);
+}
