@@ -1,15 +1,9 @@
 -- What a chain to a granted role tells of a session.
-use Rattle.std.proofs.Common.{ℕ, ◌≡◌, ◌+◌, ◌<◌, Bool, true, false, cond, ◌||◌, ◌&&◌, List, [], ◌∷◌, ◌++◌, take, length, get_or, Option, Some, None, refl, sym, ap, ◌∙◌, subst, IsTrue}
-use Rattle.std.proofs.lemmas.Bool.{false≢true, true≢false}
-use Rattle.std.proofs.lemmas.List.{take_more}
-use Rattle.std.proofs.lemmas.List.Folds.{list_any-append}
-use Rattle.std.specs.List.{list_any, filter}
+use Rattle.std.proofs.Common.{◌≡◌, true, List, Some, sym, ◌∙◌, subst}
+use Rattle.std.proofs.lemmas.Bool.{false≢true}
 use Rattle.std.specs.FinMap.Entries.{find}
-use Rattle.std.specs.Ordering.{eq_by_cmp}
-use Rattle.sorted_keys.specs.Keys.{has, with_key}
-use Rattle.sorted_keys.proofs.Members.{has-with_key}
-use Rattle.sorted_keys.proofs.Ties.{ties-pair}
-use Rattle.rbac_terms.specs.Name.{Name, Permission, Grant, name_cmp, pair_cmp, grant_cmp}
+use Rattle.sorted_keys.specs.Keys.{has}
+use Rattle.rbac_terms.specs.Name.{Name, Permission, name_cmp, grant_cmp}
 use Rattle.rbac_terms.specs.State.{State, Session}
 use Rattle.rbac_terms.specs.Sound.{IsSound, IsSessionSound}
 use Rattle.sorted_keys.proofs.Kept.{each_found}
@@ -19,9 +13,8 @@ use Rattle.rbac_terms.specs.Effect.{session_holds}
 use Rattle.rbac_terms.specs.Reviews.{active_in, active_roles}
 use Rattle.rbac_reasons.specs.declared.chain.Chain.{Chain}
 use Rattle.rbac_terms.specs.Inheritance.{IsChain}
-use Rattle.rbac_terms.proofs.NameLemmas.{names_total}
-use Rattle.rbac_rules.proofs.AuthorizationLemmas.{holds_iff, is_authorized_iff}
-use Rattle.rbac_reasons.specs.Path.{IsPath, LeadsTo, NoneLeads}
+use Rattle.rbac_rules.proofs.AuthorizationLemmas.{holds_iff}
+use Rattle.rbac_reasons.specs.Path.{LeadsTo, NoneLeads}
 use Rattle.rbac_reasons.proofs.WalkLemmas.{path_of_chain, chain_of_path}
 
 -- ---- Sessions

@@ -1,3 +1,6 @@
+pub mod Hindrance
+pub mod Naming
 pub mod Path
 pub mod Reason
+pub mod Trying
 pub mod Walk

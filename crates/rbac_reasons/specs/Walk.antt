@@ -1,5 +1,5 @@
 -- A walk down the declared pairs.
-use Rattle.std.specs.Prelude.{◌≡◌, List, [], ◌∷◌, ◌++◌, ◌||◌, IsTrue, Option, Some, None, if◌then◌else◌}
+use Rattle.std.specs.Prelude.{List, [], ◌∷◌, ◌++◌, IsTrue, Option, Some, None, if◌then◌else◌}
 use Rattle.sorted_keys.specs.Keys.{has, with_key}
 use Rattle.rbac_terms.specs.Name.{Name, name_cmp, pair_cmp}
 

@@ -1,12 +1,18 @@
 //! Why a policy answers as it does: what grants an access, and what stands in the way of a command.
 #![tactic(auto)]
 
+mod asking;
+mod authorized;
+mod breach;
+mod breaking;
 mod chain;
+mod denied;
 mod granted;
 mod sorted;
 mod told;
 mod walk;
 
 pub use chain::Chain;
+pub use denied::hindrance;
 pub use granted::reason;
-pub use told::Reason;
+pub use told::{Counted, Hindrance, Reason};

@@ -1,6 +1,7 @@
-//! What is told of an answer: the reason of a grant.
+//! What is told of an answer: the reason of a grant, and the hindrance of a denial.
 
-use rbac_terms::Name;
+use crate::chain::Chain;
+use rbac_terms::{Name, NameSet, Separation};
 
 /// Why a session may perform an operation on an object.
 #[derive(Drop)]
@@ -12,4 +13,139 @@ pub struct Reason {
     pub inherited: Vec<Name>,
     /// The role that the permission is granted to.
     pub granted: Name,
+}
+
+/// What there may be no more of, by the limits of `rbac_terms`.
+#[derive(Clone, Copy, Debug, PartialEq, Eq, Drop)]
+pub enum Counted {
+    Users,
+    Roles,
+    Sessions,
+    /// Sets of separation of a kind.
+    Sets(Separation),
+}
+
+/// What stands in the way of a command, one variant for each denial: what is missing or there already, by the names that the
+/// command gave, and what else makes the precondition fail.
+#[derive(Drop)]
+pub enum Hindrance {
+    UserExists {
+        user: Name,
+    },
+    NoUser {
+        user: Name,
+    },
+    RoleExists {
+        role: Name,
+    },
+    /// The first of the command's roles that is none.
+    NoRole {
+        role: Name,
+    },
+    Assigned {
+        user: Name,
+        role: Name,
+    },
+    NotAssigned {
+        user: Name,
+        role: Name,
+    },
+    NoPermission {
+        operation: Name,
+        object: Name,
+    },
+    NotGranted {
+        operation: Name,
+        object: Name,
+        role: Name,
+    },
+    SessionExists {
+        session: Name,
+    },
+    NoSession {
+        session: Name,
+    },
+    /// Whose session it is.
+    NotOwner {
+        owner: Name,
+    },
+    /// The first role asked for that the user is not authorized for.
+    NotAuthorized {
+        role: Name,
+    },
+    RoleActive {
+        session: Name,
+        role: Name,
+    },
+    RoleNotActive {
+        session: Name,
+        role: Name,
+    },
+    Inherits {
+        ascendant: Name,
+        descendant: Name,
+    },
+    NoInheritance {
+        ascendant: Name,
+        descendant: Name,
+    },
+    /// The roles from the descendant down to the ascendant.
+    Cycle {
+        chain: Chain,
+    },
+    /// A user, a set, and the roles of the set that the user would be authorized for.
+    SsdViolated {
+        user: Name,
+        set: Name,
+        roles: NameSet,
+    },
+    /// A session, a set, and the roles of the set that would be active in the session.
+    DsdViolated {
+        session: Name,
+        set: Name,
+        roles: NameSet,
+    },
+    SetExists {
+        kind: Separation,
+        set: Name,
+    },
+    NoSet {
+        kind: Separation,
+        set: Name,
+    },
+    /// How many roles the set would have, and its number then.
+    BadCardinality {
+        kind: Separation,
+        set: Name,
+        size: usize,
+        number: u32,
+    },
+    InSet {
+        kind: Separation,
+        set: Name,
+        role: Name,
+    },
+    NotInSet {
+        kind: Separation,
+        set: Name,
+        role: Name,
+    },
+    /// A set that has the role: the first static one, or else the first dynamic one.
+    RoleConstrained {
+        kind: Separation,
+        set: Name,
+    },
+    Limit {
+        counted: Counted,
+    },
+    NoOperation {
+        operation: Name,
+    },
+    NoObject {
+        object: Name,
+    },
+    /// The declared descendant that the ascendant has already.
+    Limited {
+        descendant: Name,
+    },
 }

@@ -10,7 +10,7 @@ use std::process::Abort;
 
 // A user, three roles, an assignment, a pair, a grant, two sessions and a set of each kind: one session has a role that is inherited,
 // and one has none.
-fn a_policy_of_each_thing(rt: &impl Abort, alloc: Global) -> Policy {
+pub(super) fn a_policy_of_each_thing(rt: &impl Abort, alloc: Global) -> Policy {
     let mut policy = a_static_set(rt, alloc);
     inherit(rt, alloc, &mut policy, "a", "b");
     grant(rt, alloc, &mut policy, "b");

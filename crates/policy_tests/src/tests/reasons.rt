@@ -1,9 +1,11 @@
-//! Why access is granted, of a small policy. What is expected was written by hand.
+//! Why access is granted and commands are denied, of small policies. What is expected was written by hand.
 
+use super::dump::a_policy_of_each_thing;
 use super::named::{assert_called, name};
 use super::policy::{add_role, add_user, assign, founded, grant, inherit, open_session};
 use rbac_decide::Policy;
-use rbac_reasons::{Reason, reason};
+use rbac_reasons::{Hindrance, Reason, hindrance, reason};
+use rbac_terms::{Command, Separation};
 use std::alloc::Global;
 use std::process::Abort;
 
@@ -55,5 +57,169 @@ fn the_roles_by_which_access_is_granted_are_told(rt: HostRuntime) {
     drop(found);
     expect_no_reason(&rt, rt.alloc(), &policy, "s2");
     expect_no_reason(&rt, rt.alloc(), &policy, "zz");
+    drop(policy);
+}
+
+// The denial that a hindrance explains, and the name that it tells first.
+fn told(found: &Hindrance) -> (&'static str, &[u8]) {
+    match found {
+        Hindrance::UserExists { user } => ("UserExists", user.as_bytes()),
+        Hindrance::NoUser { user } => ("NoUser", user.as_bytes()),
+        Hindrance::RoleExists { role } => ("RoleExists", role.as_bytes()),
+        Hindrance::NoRole { role } => ("NoRole", role.as_bytes()),
+        Hindrance::Assigned { user, .. } => ("Assigned", user.as_bytes()),
+        Hindrance::NotAssigned { user, .. } => ("NotAssigned", user.as_bytes()),
+        Hindrance::NoPermission { operation, .. } => ("NoPermission", operation.as_bytes()),
+        Hindrance::NotGranted { operation, .. } => ("NotGranted", operation.as_bytes()),
+        Hindrance::SessionExists { session } => ("SessionExists", session.as_bytes()),
+        Hindrance::NoSession { session } => ("NoSession", session.as_bytes()),
+        Hindrance::NotOwner { owner } => ("NotOwner", owner.as_bytes()),
+        Hindrance::NotAuthorized { role } => ("NotAuthorized", role.as_bytes()),
+        Hindrance::RoleActive { session, .. } => ("RoleActive", session.as_bytes()),
+        Hindrance::RoleNotActive { session, .. } => ("RoleNotActive", session.as_bytes()),
+        Hindrance::Inherits { ascendant, .. } => ("Inherits", ascendant.as_bytes()),
+        Hindrance::NoInheritance { ascendant, .. } => ("NoInheritance", ascendant.as_bytes()),
+        Hindrance::SsdViolated { user, .. } => ("SsdViolated", user.as_bytes()),
+        Hindrance::DsdViolated { session, .. } => ("DsdViolated", session.as_bytes()),
+        Hindrance::SetExists { set, .. } => ("SetExists", set.as_bytes()),
+        Hindrance::NoSet { set, .. } => ("NoSet", set.as_bytes()),
+        Hindrance::BadCardinality { set, .. } => ("BadCardinality", set.as_bytes()),
+        Hindrance::InSet { set, .. } => ("InSet", set.as_bytes()),
+        Hindrance::NotInSet { set, .. } => ("NotInSet", set.as_bytes()),
+        Hindrance::RoleConstrained { set, .. } => ("RoleConstrained", set.as_bytes()),
+        Hindrance::NoOperation { operation } => ("NoOperation", operation.as_bytes()),
+        Hindrance::NoObject { object } => ("NoObject", object.as_bytes()),
+        Hindrance::Limited { descendant } => ("Limited", descendant.as_bytes()),
+        Hindrance::Cycle { chain } => ("Cycle", chain.first.as_bytes()),
+        Hindrance::Limit { .. } => ("Limit", "".as_bytes()),
+    }
+}
+
+// Asks what stands in the way of a command, and compares the denial and the name that are told first: none where they are empty.
+fn expect_hindrance(
+    rt: &impl Abort,
+    alloc: Global,
+    policy: &Policy,
+    command: Command,
+    wanted: (&str, &str),
+) {
+    let found = hindrance(alloc, policy, &command).expect(rt, "memory");
+    match &found {
+        Some(found) => {
+            let (denial, first) = told(found);
+            assert_eq!(rt; denial, wanted.0);
+            assert_eq!(rt; first, wanted.1.as_bytes());
+        }
+        None => assert_eq!(rt; "", wanted.0),
+    }
+    drop(found);
+    drop(command);
+}
+
+// Ann and bob, two sessions of ann, and what else `a_policy_of_each_thing` holds.
+fn a_policy_of_two(rt: &impl Abort, alloc: Global) -> Policy {
+    let mut policy = a_policy_of_each_thing(rt, alloc);
+    add_user(rt, alloc, &mut policy, "bob");
+    policy
+}
+
+fn assign_command(rt: &impl Abort, alloc: Global, user: &str, role: &str) -> Command {
+    let (user, role) = (name(rt, alloc, user), name(rt, alloc, role));
+    Command::AssignUser { user, role }
+}
+
+fn pair_command(rt: &impl Abort, alloc: Global, ascendant: &str, descendant: &str) -> Command {
+    Command::AddInheritance {
+        ascendant: name(rt, alloc, ascendant),
+        descendant: name(rt, alloc, descendant),
+    }
+}
+
+fn active_command(rt: &impl Abort, alloc: Global, user: &str, role: &str) -> Command {
+    Command::AddActiveRole {
+        user: name(rt, alloc, user),
+        session: name(rt, alloc, "s1"),
+        role: name(rt, alloc, role),
+    }
+}
+
+fn member_command(rt: &impl Abort, alloc: Global, set: &str, role: &str) -> Command {
+    Command::AddRoleMember {
+        kind: Separation::Static,
+        set: name(rt, alloc, set),
+        role: name(rt, alloc, role),
+    }
+}
+
+fn check_command(rt: &impl Abort, alloc: Global, words: [&str; 3]) -> Command {
+    Command::CheckAccess {
+        session: name(rt, alloc, words[0]),
+        operation: name(rt, alloc, words[1]),
+        object: name(rt, alloc, words[2]),
+    }
+}
+
+#[test]
+fn what_is_missing_is_named(rt: HostRuntime) {
+    let policy = a_policy_of_two(&rt, rt.alloc());
+    for (user, role, wanted) in [
+        ("eve", "a", ("NoUser", "eve")),
+        ("bob", "z", ("NoRole", "z")),
+        ("ann", "a", ("Assigned", "ann")),
+        ("bob", "b", ("", "")),
+    ] {
+        let command = assign_command(&rt, rt.alloc(), user, role);
+        expect_hindrance(&rt, rt.alloc(), &policy, command, wanted);
+    }
+    for (words, wanted) in [
+        (["zz", "read", "ledger"], ("NoSession", "zz")),
+        (["s1", "fly", "ledger"], ("NoOperation", "fly")),
+        (["s1", "read", "moon"], ("NoObject", "moon")),
+        (["s1", "read", "ledger"], ("", "")),
+    ] {
+        let command = check_command(&rt, rt.alloc(), words);
+        expect_hindrance(&rt, rt.alloc(), &policy, command, wanted);
+    }
+    drop(policy);
+}
+
+#[test]
+fn who_would_break_separation_is_named(rt: HostRuntime) {
+    let policy = a_policy_of_two(&rt, rt.alloc());
+    let command = assign_command(&rt, rt.alloc(), "ann", "c");
+    expect_hindrance(&rt, rt.alloc(), &policy, command, ("SsdViolated", "ann"));
+    let command = pair_command(&rt, rt.alloc(), "b", "c");
+    expect_hindrance(&rt, rt.alloc(), &policy, command, ("SsdViolated", "ann"));
+    let command = active_command(&rt, rt.alloc(), "ann", "a");
+    expect_hindrance(&rt, rt.alloc(), &policy, command, ("DsdViolated", "s1"));
+    drop(policy);
+}
+
+#[test]
+fn pairs_sets_and_sessions_that_hinder_are_named(rt: HostRuntime) {
+    let policy = a_policy_of_two(&rt, rt.alloc());
+    for (ascendant, descendant, wanted) in [
+        ("a", "b", ("Inherits", "a")),
+        ("b", "a", ("Cycle", "a")),
+        ("z", "a", ("NoRole", "z")),
+    ] {
+        let command = pair_command(&rt, rt.alloc(), ascendant, descendant);
+        expect_hindrance(&rt, rt.alloc(), &policy, command, wanted);
+    }
+    for (user, role, wanted) in [
+        ("bob", "a", ("NotOwner", "ann")),
+        ("ann", "c", ("NotAuthorized", "c")),
+        ("ann", "b", ("RoleActive", "s1")),
+    ] {
+        let command = active_command(&rt, rt.alloc(), user, role);
+        expect_hindrance(&rt, rt.alloc(), &policy, command, wanted);
+    }
+    for (set, role, wanted) in [("zz", "a", ("NoSet", "zz")), ("d", "a", ("InSet", "d"))] {
+        let command = member_command(&rt, rt.alloc(), set, role);
+        expect_hindrance(&rt, rt.alloc(), &policy, command, wanted);
+    }
+    let role = name(&rt, rt.alloc(), "a");
+    let command = Command::DeleteRole { role };
+    expect_hindrance(&rt, rt.alloc(), &policy, command, ("RoleConstrained", "d"));
     drop(policy);
 }

@@ -1,7 +1,6 @@
-use Rattle.std.proofs.Common.{rules, ◌≡◌, ◌↔◌, true, Some, None, IfSome, IsNone, sym, ap, ◌∙◌, subst}
+use Rattle.std.proofs.Common.{rules, ◌≡◌, Some, subst}
 use Rattle.std.specs.FinMap.Entries.{find}
-use Rattle.sorted_keys.specs.Keys.{has}
-use Rattle.rbac_terms.specs.Name.{Permission, name_cmp, grant_cmp}
+use Rattle.rbac_terms.specs.Name.{Permission, name_cmp}
 use Rattle.rbac_terms.specs.State.{Session}
 use Rattle.rbac_reasons.specs.Path.{LeadsTo, NoneLeads}
 use Rattle.rbac_reasons.proofs.ReasonLemmas.{AreGranted, held_by, held_somehow}

@@ -1,5 +1,5 @@
-use Rattle.std.proofs.Common.{rules, ap, sym, subst, ◌∙◌, take, drop, length, ◌≤◌, Bool, true, false, ◌≡◌}
-use Rattle.std.specs.Ordering.{is_lt, is_le, eq_by_cmp, ordering_index}
+use Rattle.std.proofs.Common.{rules, ap, subst, ◌∙◌, take, drop, Bool, true, false, ◌≡◌}
+use Rattle.std.specs.Ordering.{is_lt, is_le, ordering_index}
 use Rattle.std.specs.List.Sorted.{IsStrictlySortedBy, IsPartitionedBy, IsPartitionPoint}
 use Rattle.std.proofs.lemmas.List.{take_rest}
 use Rattle.std.proofs.lemmas.List.Sorted.{IsPartitionPoint-from_clause, IsNonDecreasingBy-drop}

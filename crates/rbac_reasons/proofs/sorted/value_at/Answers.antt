@@ -1,4 +1,4 @@
-use Rattle.std.proofs.Common.{rules, refl, ap, sym, ◌∙◌, Some}
+use Rattle.std.proofs.Common.{rules, sym}
 use Rattle.std.proofs.lemmas.Fn.{always_returns_same}
 use Rattle.sorted_keys.proofs.EntryPlace.{entry_place}
 use Rattle.rbac_reasons.proofs.sorted.value_at.Goals as goal

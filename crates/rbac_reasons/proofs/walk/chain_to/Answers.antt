@@ -1,4 +1,4 @@
-use Rattle.std.proofs.Common.{rules, refl, sym, ap, ◌∙◌, ◌≡◌, []}
+use Rattle.std.proofs.Common.{refl, sym, ap, ◌∙◌, ◌≡◌, []}
 use Rattle.std.specs.Ordering.{is_eq}
 use Rattle.std.proofs.lemmas.List.{nil_from_length}
 use Rattle.rbac_reasons.proofs.WalkLemmas.{back_by, back_past, back_ends}

@@ -1,4 +1,4 @@
-use Rattle.std.proofs.Common.{◌≡◌, List, length, IsTrue, reverse}
+use Rattle.std.proofs.Common.{List, length, IsTrue, reverse}
 use Rattle.sorted_keys.specs.Keys.{has}
 use Rattle.rbac_terms.specs.Name.{Name, name_cmp}
 use Rattle.rbac_reasons.specs.Walk.{IsTrail, found_by}

@@ -1,4 +1,4 @@
-use Rattle.std.proofs.Common.{rules, sym, ap, ◌∙◌, ◌≡◌, reverse, Some, subst, true}
+use Rattle.std.proofs.Common.{sym, ap, ◌∙◌, ◌≡◌, reverse, Some, subst, true}
 use Rattle.sorted_keys.specs.Keys.{has}
 use Rattle.rbac_terms.specs.Name.{name_cmp}
 use Rattle.rbac_reasons.specs.Walk.{IsTrail, found_by, next_of}

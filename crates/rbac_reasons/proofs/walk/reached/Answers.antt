@@ -1,4 +1,4 @@
-use Rattle.std.proofs.Common.{rules, sym, refl, []}
+use Rattle.std.proofs.Common.{sym, refl, []}
 use Rattle.rbac_reasons.proofs.WalkLemmas.{walk_goes_on, walk_shrinks, walk_reaches}
 use Rattle.rbac_reasons.proofs.walk.reached.Goals as goal
 
