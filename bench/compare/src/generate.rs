@@ -62,10 +62,10 @@ pub fn fixed_cases(choices: &Choices) -> Vec<Case> {
 }
 
 /// The schedules whose policies are told: those at the limits, and random ones of one member.
-pub fn policy_cases(choices: &Choices) -> Vec<Case> {
+pub fn policy_cases(choices: &Choices, with_limits: bool) -> Vec<Case> {
     let at_limits = match choices.extent {
-        Extent::Whole => limits::cases(&mut Random::new(choices.seed)),
-        Extent::Short => Vec::new(),
+        Extent::Whole if with_limits => limits::cases(&mut Random::new(choices.seed)),
+        _ => Vec::new(),
     };
     at_limits.into_iter().chain(random_cases(choices, false, choices.lines)).collect()
 }

@@ -32,7 +32,7 @@ use std::process::ExitCode;
 
 const HELP: &str = "\
 usage: compare --reference PROGRAM --room FOLDER (--program PROGRAM | --try FOLDER | --library | --library-briefly) [--lines N] [--seed N] [--without-reviews] [--groups] [--serve]
-       compare --dumps --reference PROGRAM --room FOLDER (--program PROGRAM | --try FOLDER) (--ask PROGRAM | --try-ask FOLDER) [--lines N] [--seed N]
+       compare --dumps --reference PROGRAM --room FOLDER (--program PROGRAM | --try FOLDER) (--ask PROGRAM | --try-ask FOLDER) [--without-limits] [--lines N] [--seed N]
 
   --reference PROGRAM  the reference
   --program PROGRAM    the monitor, as built
@@ -47,7 +47,11 @@ usage: compare --reference PROGRAM --room FOLDER (--program PROGRAM | --try FOLD
   --serve              the submits of the schedules as lines of a client of serve
   --dumps              what the second program tells of policies of such lines, in their place, and what is asked then
   --ask PROGRAM        the second program, as built
-  --try-ask FOLDER     the folder of its crate: it is built and run by rt try";
+  --try-ask FOLDER     the folder of its crate: it is built and run by rt try
+  --without-limits     no dumps at the limits, which take the second program minutes where it was built without a proof";
+
+/// Random lines for dumps, where a program is built and run by rt try.
+const LINES_OF_DUMPS_TRIED: usize = 20_000;
 
 struct Words {
     reference: PathBuf,
@@ -57,6 +61,7 @@ struct Words {
     choices: Choices,
     serve: bool,
     dumps: bool,
+    limits: bool,
     asked: Asked,
     library: Option<Extent>,
 }
@@ -94,7 +99,7 @@ fn read_words() -> Option<Words> {
     let members = Members::OneAndGroups;
     let mut choices = Choices { seed: 1, lines: 100_000, reviews: true, extent: Extent::Whole, members };
     let (mut lines, mut serve, mut library) = (None, false, None);
-    let (mut dumps, mut asked) = (false, Asked::default());
+    let (mut dumps, mut limits, mut asked) = (false, true, Asked::default());
     let mut words = std::env::args().skip(1);
     while let Some(word) = words.next() {
         match word.as_str() {
@@ -110,6 +115,7 @@ fn read_words() -> Option<Words> {
             "--groups" => choices.members = Members::Groups,
             "--serve" => serve = true,
             "--dumps" => dumps = true,
+            "--without-limits" => limits = false,
             "--ask" => asked.program = Some(words.next()?.into()),
             "--try-ask" => asked.tried = Some(words.next()?.into()),
             _ => return None,
@@ -127,8 +133,9 @@ fn read_words() -> Option<Words> {
     if tried.is_some() || asked.tried.is_some() {
         (choices.extent, choices.lines) = (Extent::Short, 0);
     }
-    choices.lines = lines.unwrap_or(choices.lines);
-    Some(Words { reference: reference?, program, tried, room: room?, choices, serve, dumps, asked, library })
+    let usual = if dumps && choices.lines == 0 { LINES_OF_DUMPS_TRIED } else { choices.lines };
+    choices.lines = lines.unwrap_or(usual);
+    Some(Words { reference: reference?, program, tried, room: room?, choices, serve, dumps, limits, asked, library })
 }
 
 /// Whether the programs never differed and all that can occur did.
@@ -197,7 +204,7 @@ fn compare_dumps(words: &Words) -> Result<bool, String> {
     let pair = Pair { reference: &direct, program: &again };
     println!("seed {}", words.choices.seed);
     let (mut random, mut coverage) = (Random::new(words.choices.seed), Coverage::default());
-    for some in generate::policy_cases(&words.choices).chunks(again.cases_at_once()) {
+    for some in generate::policy_cases(&words.choices, words.limits).chunks(again.cases_at_once()) {
         let cases = questions::cases_of(&direct, some, &mut random)?;
         let Some(played) = play_alike(&pair, &cases)? else {
             return Ok(false);

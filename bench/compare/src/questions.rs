@@ -20,7 +20,7 @@ const MOST_NAMES: usize = 1_000;
 /// How many of a kind that are there are asked for by each other command, spread over their order.
 const MOST_OF_A_KIND: usize = 40;
 
-/// How many policies of a schedule are told.
+/// How many policies of a random schedule are told. Of one at a limit it is the last one.
 const CUTS: usize = 4;
 
 /// How many lines of the schedule are asked behind the questions: they also change what no review tells.
@@ -43,7 +43,8 @@ pub fn cases_of(direct: &dyn Player, cases: &[Case], random: &mut Random) -> Res
 
 fn cuts(random: &mut Random, case: &Case) -> Vec<Case> {
     let lines = case.lines();
-    let mut places: BTreeSet<usize> = (1..CUTS).map(|_| random.between(lines.len() / 8, lines.len())).collect();
+    let cuts = if case.name.starts_with("day") { CUTS } else { 1 };
+    let mut places: BTreeSet<usize> = (1..cuts).map(|_| random.between(lines.len() / 8, lines.len())).collect();
     places.insert(lines.len());
     let cut = |(number, place): (usize, usize)| {
         let end = lines.len().min(place + MOST_BEHIND);
