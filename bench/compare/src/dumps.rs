@@ -71,11 +71,16 @@ fn told_directly(made: usize, played: &Played) -> Played {
 fn unnumbered(answers: &[&[u8]]) -> Vec<u8> {
     let without = |answer: &&[u8]| {
         let text = String::from_utf8_lossy(answer).into_owned();
-        let number = text.rfind("\"line\":").map(|start| {
-            let digits = text[start + 7..].bytes().take_while(u8::is_ascii_digit).count();
-            start..start + 7 + digits
-        });
-        number.map_or(text.clone(), |number| format!("{}{}", &text[..number.start], &text[number.end..])) + "\n"
+        let Some((before, behind)) = text.rsplit_once("\"line\":") else {
+            return text + "\n";
+        };
+        let behind = behind.trim_start_matches(|letter: char| letter.is_ascii_digit());
+        // A refusal has its number first, an answer last.
+        let (before, behind) = match behind.strip_prefix(',') {
+            Some(behind) => (before, behind),
+            None => (before.strip_suffix(',').unwrap_or(before), behind),
+        };
+        format!("{before}{behind}\n")
     };
     answers.iter().map(without).collect::<String>().into_bytes()
 }
@@ -186,4 +191,28 @@ fn told_again(dump: &Played, twice: &Played, wanted: &Played, got: &Played) -> P
 
 fn is_done(answer: &[u8]) -> bool {
     answer.starts_with(b"{\"answer\":\"Done\",")
+}
+
+#[cfg(test)]
+mod tests {
+    use super::*;
+
+    #[test]
+    fn answers_without_their_numbers() {
+        let answers: [&[u8]; 3] = [
+            br#"{"answer":"Done","line":17}"#,
+            br#"{"line":18,"refused":"NotJson"}"#,
+            br#"{"answer":{"names":["line"]},"line":9}"#,
+        ];
+        let wanted = "{\"answer\":\"Done\"}\n{\"refused\":\"NotJson\"}\n{\"answer\":{\"names\":[\"line\"]}}\n";
+        assert_eq!(String::from_utf8_lossy(&unnumbered(&answers)), wanted);
+    }
+
+    #[test]
+    fn lines_before_and_behind_the_mark() {
+        let schedule = [&b"a\nb\n"[..], MARK, b"\nc\n"].concat();
+        let case = Case::new("x".to_owned(), None, schedule);
+        assert_eq!(parts_of(&case), (vec![&b"a"[..], b"b"], vec![&b"c"[..]]));
+        assert_eq!(behind_the_mark(&case).schedule, b"c\n");
+    }
 }
