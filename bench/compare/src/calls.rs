@@ -7,7 +7,7 @@ use crate::text::{contains, object_after, objects_after};
 pub const HEAD: &str = "{\"at\":1,\"command\":";
 
 /// What a member sends. The library sends nothing.
-const MOST_COMMANDS: usize = 65_536;
+pub const MOST_COMMANDS: usize = 65_536;
 
 /// What stands in a founding file that may end a member's clock or its list early.
 const ENDS_EARLY: [&[u8]; 2] = [b"clock", b"sent_limit"];
@@ -28,17 +28,23 @@ pub fn cases_of(cases: &[Case]) -> Vec<Case> {
 }
 
 fn commands_of(case: &Case) -> Case {
-    let ends_early =
-        case.founding.as_ref().is_some_and(|founding| ENDS_EARLY.iter().any(|key| contains(founding, key)));
-    let lines = if ends_early { Vec::new() } else { case.lines() };
+    let lines = if ends_early(case) { Vec::new() } else { case.lines() };
     let commands = lines.into_iter().flat_map(commands_of_line).filter_map(|command| str::from_utf8(command).ok());
     let founding = if case.founding.is_some() { case.words[1].clone() } else { "-".to_owned() };
     Case {
         words: vec!["serve".to_owned(), founding],
-        schedule: commands.take(MOST_COMMANDS).flat_map(|command| format!("{HEAD}{command}}}\n").into_bytes()).collect(),
+        schedule: commands
+            .take(MOST_COMMANDS)
+            .flat_map(|command| format!("{HEAD}{command}}}\n").into_bytes())
+            .collect(),
         is_group: false,
         ..case.clone()
     }
+}
+
+/// Whether a member's clock or its list may end early.
+pub fn ends_early(case: &Case) -> bool {
+    case.founding.as_ref().is_some_and(|founding| ENDS_EARLY.iter().any(|key| contains(founding, key)))
 }
 
 fn commands_of_line(line: &[u8]) -> Vec<&[u8]> {
@@ -72,7 +78,8 @@ fn words_of(object: &str) -> Option<Vec<String>> {
     Some(words)
 }
 
-fn unescaped(word: &str) -> Option<String> {
+/// A text with its escapes read, where these are those of names alone.
+pub fn unescaped(word: &str) -> Option<String> {
     let mut parts = word.split("\\u");
     let mut read = parts.next()?.to_owned();
     for part in parts {

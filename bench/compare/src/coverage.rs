@@ -3,7 +3,9 @@
 use crate::case::{Case, Played, lines_of};
 use crate::generate::{Choices, Members};
 use crate::group_run::{self, GroupRun};
-use crate::rows::{CALL_REFUSALS, ENDS, GROUP_OUTCOMES, Group, LIMITED_ROWS, OUTCOMES, REFUSALS, VERSION_2_ENDS, row_of};
+use crate::rows::{
+    CALL_REFUSALS, ENDS, GROUP_OUTCOMES, Group, LIMITED_ROWS, OUTCOMES, REFUSALS, ROWS, Row, VERSION_2_ENDS, row_of,
+};
 use crate::text::{contains, count, objects_after, text_between};
 use std::collections::{BTreeMap, HashMap};
 
@@ -81,10 +83,25 @@ impl Coverage {
     /// What can be told of commands and of foundings and was not.
     pub fn missing_of_calls(&self, choices: &Choices) -> Vec<String> {
         let mut missing = self.missing_answers(choices);
-        let foundings = ENDS.iter().chain(&VERSION_2_ENDS).filter(|end| !end.contains(" file") && !end.contains(" run"));
+        let foundings =
+            ENDS.iter().chain(&VERSION_2_ENDS).filter(|end| !end.contains(" file") && !end.contains(" run"));
         let others = CALL_REFUSALS.iter().chain(foundings.filter(|end| !end.ends_with("status 2")));
         missing.extend(others.filter(|word| !self.others.contains_key(**word)).map(|word| word.to_string()));
         missing
+    }
+
+    /// The answers but for denials that a review or a check can get and did not.
+    pub fn missing_of_questions(&self) -> Vec<String> {
+        let questions = ROWS.iter().filter(|row| row.is_question());
+        let answers = questions.flat_map(|row| row.answers.iter().map(|answer| (row.name, *answer)));
+        let absent = answers.filter(|(name, answer)| !answer.starts_with("No") && self.answers_of(name, answer) == 0);
+        absent.map(|(name, answer)| format!("{name} {answer}")).collect()
+    }
+
+    /// How many commands of such rows were answered.
+    pub fn answered(&self, is_meant: impl Fn(&Row) -> bool) -> u64 {
+        let meant = self.answers.iter().filter(|((name, _), _)| row_of(name).is_some_and(&is_meant));
+        meant.map(|(_, count)| count).sum()
     }
 
     fn count_group(&mut self, case: &Case, played: &Played) {
@@ -195,7 +212,7 @@ fn commands_of(line: &[u8], is_limited: bool) -> Vec<String> {
 }
 
 /// The name of a command. Those of the hierarchy are counted by themselves where it is limited.
-fn command_of(line: &[u8], is_limited: bool) -> String {
+pub fn command_of(line: &[u8], is_limited: bool) -> String {
     let line = String::from_utf8_lossy(line);
     let name = text_between(&line, "\"name\":\"", "\"").unwrap_or_default();
     // Where the key stands twice, or with escapes, another one may be meant.

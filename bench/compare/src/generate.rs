@@ -61,6 +61,15 @@ pub fn fixed_cases(choices: &Choices) -> Vec<Case> {
     cases
 }
 
+/// The schedules whose policies are told: those at the limits, and random ones of one member.
+pub fn policy_cases(choices: &Choices, with_limits: bool) -> Vec<Case> {
+    let at_limits = match choices.extent {
+        Extent::Whole if with_limits => limits::cases(&mut Random::new(choices.seed)),
+        _ => Vec::new(),
+    };
+    at_limits.into_iter().chain(random_cases(choices, false, choices.lines)).collect()
+}
+
 /// Random schedules with this many lines or more: days of one member, or schedules of groups.
 pub fn random_cases(choices: &Choices, is_group: bool, lines: usize) -> Vec<Case> {
     let mut random = Random::new(if is_group { !choices.seed ^ 1 << 63 } else { !choices.seed });

@@ -6,9 +6,11 @@ mod calls;
 mod case;
 mod choose;
 mod coverage;
+mod dumps;
 mod generate;
 mod group_run;
 mod players;
+mod questions;
 mod random;
 mod report;
 mod rows;
@@ -19,14 +21,18 @@ mod tree;
 
 use case::{Case, Played};
 use coverage::Coverage;
+use dumps::{Again, Direct};
 use generate::{Choices, Extent, Members};
 use players::{Binary, Player, Tried};
+use random::Random;
+use rows::{Group, Row};
 use shrink::Pair;
 use std::path::{Path, PathBuf};
 use std::process::ExitCode;
 
 const HELP: &str = "\
 usage: compare --reference PROGRAM --room FOLDER (--program PROGRAM | --try FOLDER | --library | --library-briefly) [--lines N] [--seed N] [--without-reviews] [--groups] [--serve]
+       compare --dumps --reference PROGRAM --room FOLDER (--program PROGRAM | --try FOLDER) (--ask PROGRAM | --try-ask FOLDER) [--without-limits] [--lines N] [--seed N]
 
   --reference PROGRAM  the reference
   --program PROGRAM    the monitor, as built
@@ -38,7 +44,14 @@ usage: compare --reference PROGRAM --room FOLDER (--program PROGRAM | --try FOLD
   --seed N             of the random choices (1)
   --without-reviews    no review commands
   --groups             random schedules of groups alone
-  --serve              the submits of the schedules as lines of a client of serve";
+  --serve              the submits of the schedules as lines of a client of serve
+  --dumps              what the second program tells of policies of such lines, in their place, and what is asked then
+  --ask PROGRAM        the second program, as built
+  --try-ask FOLDER     the folder of its crate: it is built and run by rt try
+  --without-limits     no dumps at the limits, which take the second program minutes where it was built without a proof";
+
+/// Random lines for dumps, where a program is built and run by rt try.
+const LINES_OF_DUMPS_TRIED: usize = 20_000;
 
 struct Words {
     reference: PathBuf,
@@ -47,7 +60,17 @@ struct Words {
     room: PathBuf,
     choices: Choices,
     serve: bool,
+    dumps: bool,
+    limits: bool,
+    asked: Asked,
     library: Option<Extent>,
+}
+
+/// The second program.
+#[derive(Default)]
+struct Asked {
+    program: Option<PathBuf>,
+    tried: Option<PathBuf>,
 }
 
 fn main() -> ExitCode {
@@ -58,6 +81,7 @@ fn main() -> ExitCode {
     let compared = match words.library {
         Some(extent) => compare_calls(&words, extent),
         None if words.serve => compare_serving(&words),
+        None if words.dumps => compare_dumps(&words),
         None => compare(&words),
     };
     match compared {
@@ -75,6 +99,7 @@ fn read_words() -> Option<Words> {
     let members = Members::OneAndGroups;
     let mut choices = Choices { seed: 1, lines: 100_000, reviews: true, extent: Extent::Whole, members };
     let (mut lines, mut serve, mut library) = (None, false, None);
+    let (mut dumps, mut limits, mut asked) = (false, true, Asked::default());
     let mut words = std::env::args().skip(1);
     while let Some(word) = words.next() {
         match word.as_str() {
@@ -89,20 +114,28 @@ fn read_words() -> Option<Words> {
             "--without-reviews" => choices.reviews = false,
             "--groups" => choices.members = Members::Groups,
             "--serve" => serve = true,
+            "--dumps" => dumps = true,
+            "--without-limits" => limits = false,
+            "--ask" => asked.program = Some(words.next()?.into()),
+            "--try-ask" => asked.tried = Some(words.next()?.into()),
             _ => return None,
         }
     }
     if [program.is_some(), tried.is_some(), library.is_some()].into_iter().filter(|given| *given).count() != 1 {
         return None;
     }
+    if dumps == (asked.program.is_none() && asked.tried.is_none()) || dumps && (serve || library.is_some()) {
+        return None;
+    }
     if library.is_some() {
         choices.members = Members::One;
     }
-    if tried.is_some() {
+    if tried.is_some() || asked.tried.is_some() {
         (choices.extent, choices.lines) = (Extent::Short, 0);
     }
-    choices.lines = lines.unwrap_or(choices.lines);
-    Some(Words { reference: reference?, program, tried, room: room?, choices, serve, library })
+    let usual = if dumps && choices.lines == 0 { LINES_OF_DUMPS_TRIED } else { choices.lines };
+    choices.lines = lines.unwrap_or(usual);
+    Some(Words { reference: reference?, program, tried, room: room?, choices, serve, dumps, limits, asked, library })
 }
 
 /// Whether the programs never differed and all that can occur did.
@@ -162,6 +195,38 @@ fn compare_serving(words: &Words) -> Result<bool, String> {
     Ok(missing.is_empty())
 }
 
+/// The same of dumps: what is asked of a policy that was made again is answered as it is of the policy itself.
+fn compare_dumps(words: &Words) -> Result<bool, String> {
+    let reference = binary(&words.reference, &words.room.join("reference"))?;
+    let (program, asked) = (monitor(words)?, second_program(words)?);
+    let direct = Direct { reference: &reference };
+    let again = Again::new(asked.as_ref(), &reference, program.as_ref());
+    let pair = Pair { reference: &direct, program: &again };
+    println!("seed {}", words.choices.seed);
+    let (mut random, mut coverage) = (Random::new(words.choices.seed), Coverage::default());
+    for some in generate::policy_cases(&words.choices, words.limits).chunks(again.cases_at_once()) {
+        let cases = questions::cases_of(&direct, some, &mut random)?;
+        let Some(played) = play_alike(&pair, &cases)? else {
+            return Ok(false);
+        };
+        let answered = cases.iter().map(dumps::behind_the_mark).zip(&played);
+        answered.for_each(|(case, (wanted, _))| coverage.count_told(&case, wanted));
+    }
+    let counted = again.counted.borrow();
+    let reviews = coverage.answered(|row| row.group == Group::Review);
+    let checks = coverage.answered(Row::is_check);
+    println!(
+        "{} policies, {} lines of dumps: each is answered Done; {reviews} reviews, {checks} checks and {} other lines behind them: the answers are the same",
+        counted.dumps,
+        counted.lines,
+        coverage.lines - reviews - checks
+    );
+    println!("  in dumps: {}", counted.text());
+    coverage.print();
+    let missing: Vec<String> = counted.missing().into_iter().chain(coverage.missing_of_questions()).collect();
+    Ok(tell_missing(&missing, &[]))
+}
+
 /// The same of the calls of a program: what each command is answered, and each check by the call for checks.
 #[cfg(feature = "library")]
 fn compare_calls(words: &Words, extent: Extent) -> Result<bool, String> {
@@ -212,6 +277,17 @@ fn monitor(words: &Words) -> Result<Box<dyn Player>, String> {
             Ok(Box::new(Tried { crate_folder: folder.clone(), room }))
         }
         (None, None) => Err("no program".to_owned()),
+    }
+}
+
+fn second_program(words: &Words) -> Result<Box<dyn Player>, String> {
+    match (&words.asked.program, &words.asked.tried) {
+        (Some(program), _) => Ok(Box::new(binary(program, &words.room.join("asked"))?)),
+        (None, Some(folder)) => {
+            let room = absolute(&words.room)?.join("tried_asked");
+            Ok(Box::new(Tried { crate_folder: folder.clone(), room }))
+        }
+        (None, None) => Err("no second program".to_owned()),
     }
 }
 

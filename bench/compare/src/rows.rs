@@ -8,6 +8,17 @@ pub struct Row {
     pub group: Group,
 }
 
+impl Row {
+    pub fn is_check(&self) -> bool {
+        self.name == "CheckAccess"
+    }
+
+    /// Whether it changes nothing.
+    pub fn is_question(&self) -> bool {
+        self.group == Group::Review || self.is_check()
+    }
+}
+
 #[derive(Clone, Copy, PartialEq, Eq)]
 pub enum Group {
     Core,
@@ -173,6 +184,19 @@ pub const VERSION_2_ENDS: [&str; 10] = [
     "version 2, status 1 founding: BadName",
     "version 2, status 1 founding: Repeated",
     "version 2, status 1 founding: UnknownName",
+];
+
+/// The commands of dumps, each of which has to occur in one.
+pub const DUMPED: [&str; 9] = [
+    "AddUser",
+    "AddRole",
+    "AssignUser",
+    "AddInheritance",
+    "AddInheritance, limited",
+    "GrantPermission",
+    "CreateSsdSet",
+    "CreateDsdSet",
+    "CreateSession",
 ];
 
 /// The row of a command, or of a command of a limited hierarchy.

@@ -1,4 +1,4 @@
-//! The monitor, built and run by `rt try` without a proof.
+//! The monitor, or the second program, built and run by `rt try` without a proof.
 //!
 //! `rt try --cases FOLDER` builds the program once and runs it for each file of the folder. It keeps no program, so all that
 //! is played at once is one call. It prints, for each case,
@@ -58,7 +58,7 @@ impl Tried {
             fs::create_dir_all(emptied)?;
         }
         let mut command = Command::new("rt");
-        command.args(["try", "rbac_monitor", "--seconds", SECONDS]).current_dir(&self.crate_folder);
+        command.args(["try", "--seconds", SECONDS]).current_dir(&self.crate_folder);
         command.stdin(Stdio::null());
         for case in cases {
             fs::write(folder.join(&case.name), &case.schedule)?;
