@@ -1,9 +1,11 @@
 //! Maps that are changed by plans.
-ghost use Rattle.std.specs.Prelude.{◌≡◌, Bool, List, Option, IfOk, if◌then◌else◌};
+ghost use Rattle.std.specs.Prelude.{◌≡◌, [], Bool, List, Option, IfOk, if◌then◌else◌};
 ghost use Rattle.std.specs.Option.{option_copied, option_or};
 ghost use Rattle.std.specs.FinMap.Entries.{find};
 ghost use Rattle.staged.specs.Entries.{after_entries, with_entry};
+ghost use Rattle.staged.specs.Made.{all_steps};
 
+use crate::plan::Plan;
 use crate::staged::Staged;
 use sorted_keys::SortedMap;
 use std::alloc::{AllocError, Global};
@@ -44,19 +46,57 @@ fn newer<'a, V>(is_here: bool, value: &'a Option<V>, found: Option<&'a V>) -> Op
     }
 }
 
-// What stands at the key after these steps.
-fn found_after<'a, K: Ord + Drop, V: Drop>(
-    map: &'a SortedMap<K, V>,
+// What stands at the key after a step, by what stood there before it.
+fn found_next<'a, K: Ord + Drop, V: Drop>(
+    found: Option<&'a V>,
+    step: &'a (K, Option<V>),
+    key: &K,
+) -> Option<&'a V>
+    ensures { (before : List (K × V)) → option_copied found.entry ≡ find K.cmp key.now before → option_copied result ≡ find K.cmp key.now (with_entry K.cmp step.now.0 step.now.1 before) }
+{
+    newer(key.cmp(&step.0).is_eq(), &step.1, found)
+}
+
+// What stands at the key after a first step, where there is one.
+fn found_first<'a, K: Ord + Drop, V: Drop>(
+    found: Option<&'a V>,
+    first: Option<&'a (K, Option<V>)>,
+    key: &K,
+) -> Option<&'a V>
+    ensures { (before : List (K × V)) → option_copied found.entry ≡ find K.cmp key.now before → option_copied result ≡ find K.cmp key.now (after_entries K.cmp (all_steps (option_copied first.entry) []) before) }
+{
+    match first {
+        Some(step) => found_next(found, step, key),
+        None => found,
+    }
+}
+
+// What stands at the key after these steps, by what stood there before them.
+fn found_later<'a, K: Ord + Drop, V: Drop>(
+    found: Option<&'a V>,
     steps: &'a [(K, Option<V>)],
     key: &K,
 ) -> Option<&'a V>
-    ensures { option_copied result ≡ find K.cmp key.now (after_entries K.cmp steps.now map.now.content) }
+    ensures { (before : List (K × V)) → option_copied found.entry ≡ find K.cmp key.now before → option_copied result ≡ find K.cmp key.now (after_entries K.cmp steps.now before) }
 {
-    let mut found = map.get(key);
+    let mut found = found;
     for step in steps {
-        found = newer(key.cmp(&step.0).is_eq(), &step.1, found);
+        found = found_next(found, step, key);
     }
     found
+}
+
+// What stands at the key after the steps of this plan.
+fn found_after<'a, K: Ord + Drop, V: Drop>(
+    map: &'a SortedMap<K, V>,
+    plan: &'a Plan<(K, Option<V>)>,
+    key: &K,
+) -> Option<&'a V>
+    ensures { option_copied result ≡ find K.cmp key.now (after_entries K.cmp plan.now map.now.content) }
+{
+    let (first, rest) = plan.steps();
+    let found = found_first(map.get(key), first, key);
+    found_later(found, rest, key)
 }
 
 impl<K: Ord + Drop, V: Drop, C: EntryChange<K, V>> Staged<C> for SortedMap<K, V> {
@@ -75,7 +115,7 @@ impl<K: Ord + Drop, V: Drop, C: EntryChange<K, V>> Staged<C> for SortedMap<K, V>
     fn prepare(
         &self,
         alloc: Global,
-        before: &[(K, Option<V>)],
+        before: &Plan<(K, Option<V>)>,
         change: &C,
     ) -> Result<(K, Option<V>), AllocError> {
         let key = change.key()?;

@@ -2,7 +2,9 @@
 #![tactic(auto)]
 
 mod entries;
+mod plan;
 mod staged;
 
 pub use entries::EntryChange;
-pub use staged::{Plan, Staged, commit, make_plan};
+pub use plan::Plan;
+pub use staged::{Staged, commit, make_plan};

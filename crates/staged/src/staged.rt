@@ -2,22 +2,8 @@
 ghost use Rattle.std.specs.Prelude.{◌≡◌, ◌<◌, ◌≤◌, ◌+◌, ℕ, length, IfOk, OnOk};
 ghost use Rattle.staged.specs.Made.{made_all};
 
+use crate::plan::Plan;
 use std::alloc::{AllocError, Global};
-use std::marker::Model;
-
-/// Steps that were made ready, in order.
-#[derive(Drop)]
-pub struct Plan<T> {
-    steps: Vec<T>,
-}
-
-impl<T> Model for Plan<T> {
-    ghost use Rattle.std.specs.Prelude.{List};
-
-    ghost Value = { List T };
-
-    ghost view = { λ p. p.steps.items };
-}
 
 /// What is changed, as changes of type `C` ask for it, by steps that were made ready before.
 pub trait Staged<C> {
@@ -45,7 +31,7 @@ pub trait Staged<C> {
     fn prepare(
         &self,
         alloc: Global,
-        before: &[Self::Step],
+        before: &Plan<Self::Step>,
         change: &C,
     ) -> Result<Self::Step, AllocError>
         ensures { let reached = made_all made before.now (content self.now) in IfOk result (λ step. made step reached ≡ changed change.now reached) };
@@ -70,19 +56,20 @@ fn prepare_all<C, S: Staged<C>>(
     alloc: Global,
     staged: &S,
     changes: &[C],
-) -> Result<Vec<S::Step>, AllocError>
-    ensures made { let content = S.content staged.now in IfOk result (λ steps. made_all S.made steps.items content ≡ made_all S.changed changes.now content) }
-    ensures length { IfOk result (λ steps. length steps.items ≡ length changes.now) }
+) -> Result<Plan<S::Step>, AllocError>
+    ensures made { let content = S.content staged.now in IfOk result (λ plan. made_all S.made plan content ≡ made_all S.changed changes.now content) }
+    ensures length { IfOk result (λ plan. length plan ≡ length changes.now) }
 {
-    let mut steps = Vec::with_capacity(alloc, changes.len())?;
+    let mut plan = Plan::empty(alloc);
     for change in changes {
-        let step = staged.prepare(alloc, &steps, change)?;
-        steps.push(step)?;
+        let step = staged.prepare(alloc, &plan, change)?;
+        plan.add(step)?;
     }
-    Ok(steps)
+    Ok(plan)
 }
 
 /// The steps that make these changes one after the other, and room for them. What is in the structure stays, also where memory ends.
+/// A plan of one change takes no memory but that of its step.
 ///
 /// # Errors
 /// `AllocError` where the steps, or the room for them, get no memory.
@@ -95,9 +82,19 @@ pub fn make_plan<C, S: Staged<C>>(
     ensures made { let content = S.content staged.old in IfOk result (λ plan. made_all S.made plan content ≡ made_all S.changed changes.now content) }
     ensures room { IfOk result (λ plan. length plan ≤ S.room staged.new) }
 {
-    let steps = prepare_all(alloc, staged, changes)?;
+    let plan = prepare_all(alloc, staged, changes)?;
     staged.make_room(alloc, changes.len())?;
-    Ok(Plan { steps })
+    Ok(plan)
+}
+
+// Makes these steps in order.
+fn make_each<C, S: Staged<C>>(staged: &mut S, steps: Vec<S::Step>)
+    requires { length steps.items ≤ S.room staged.old }
+    ensures { S.content staged.new ≡ made_all S.made steps.items (S.content staged.old) }
+{
+    for step in steps {
+        staged.make(step);
+    }
 }
 
 /// Makes the steps in order. Takes no memory.
@@ -105,7 +102,9 @@ pub fn commit<C, S: Staged<C>>(staged: &mut S, plan: Plan<S::Step>)
     requires { length plan ≤ S.room staged.old }
     ensures { S.content staged.new ≡ made_all S.made plan (S.content staged.old) }
 {
-    for step in plan.steps {
+    let (first, rest) = plan.into_steps();
+    if let Some(step) = first {
         staged.make(step);
     }
+    make_each::<C, S>(staged, rest);
 }

@@ -6,6 +6,6 @@ abbrev pub invariant-loop-change : goal.invariant-loop-change
 invariant-loop-change g l =
     let content = g.S.Staged.content l.staged in
     record {
-      made : made_all g.S.Staged.made l.steps.items content ≡ made_all g.S.Staged.changed (take l.change-index l.changes) content;
-      length : length l.steps.items ≡ l.change-index;
+      made : made_all g.S.Staged.made l.plan content ≡ made_all g.S.Staged.changed (take l.change-index l.changes) content;
+      length : length l.plan ≡ l.change-index;
     }
