@@ -12,7 +12,7 @@ use crate::change::{Change, Step};
 use crate::removal::{OtherRoles, OtherUsers};
 use rbac_terms::{Name, NameSet};
 use sorted_keys::{KeyTest, PairProbe, Probe, SortedSet};
-use staged::Staged;
+use staged::{Plan, Staged};
 use std::alloc::{AllocError, Global};
 use std::marker::Model;
 
@@ -305,7 +305,7 @@ impl Staged<Change<'_>> for RoleSets {
     fn prepare(
         &self,
         _alloc: Global,
-        _before: &[Step],
+        _before: &Plan<Step>,
         change: &Change,
     ) -> Result<Step, AllocError> {
         Ok(match change {

@@ -1,4 +1,3 @@
 pub mod Changes
-pub mod CountChanges
 pub mod Counts
 pub mod SetTable

@@ -1,17 +1,14 @@
 //! Numbers kept of sets and users.
-ghost use Rattle.std.specs.Prelude.{◌≡◌, ◌<◌, ◌≤◌, ◌+◌, ℕ, length, not, IfOk, OnOk, OnErr};
+ghost use Rattle.std.specs.Prelude.{◌≡◌, ◌<◌, ◌≤◌, ◌+◌, not, IfOk, OnOk, OnErr};
 ghost use Rattle.std.specs.Option.{option_copied};
 ghost use Rattle.std.specs.Ordering.{eq_by_cmp};
-ghost use Rattle.staged.specs.Made.{made_all};
-ghost use Rattle.rbac_terms.specs.Name.{Name as NameValue, name_cmp};
-ghost use Rattle.rbac_separation.specs.CountChanges.{numbers_after, with_numbers};
+ghost use Rattle.rbac_terms.specs.Name.{name_cmp};
 ghost use Rattle.rbac_separation.specs.Counts.{numbers_of, no_numbers, with_number, without_set, without_user, first_over};
 
 use crate::role_set::RoleSet;
 use crate::set_table::SetTable;
 use rbac_terms::{Name, NameSet};
 use sorted_keys::{Duplicate, EntryTest, PairProbe, SortedMap, ValueChange};
-use staged::{Plan, Staged, commit, make_plan};
 use std::alloc::{AllocError, Global};
 use std::convert::Infallible;
 use std::marker::Model;
@@ -108,7 +105,6 @@ pub struct Counts {
 }
 
 impl Model for Counts {
-    ghost use Rattle.rbac_separation.specs.CountChanges.{numbers_after, with_numbers};
     ghost use Rattle.rbac_separation.specs.Counts.{Counts as CountsValue};
 
     ghost Value = { CountsValue };
@@ -248,84 +244,5 @@ impl Counts {
         Ok(Counts {
             numbers: self.numbers.copy()?,
         })
-    }
-}
-
-/// A call that may be refused, with its arguments.
-#[derive(Clone, Copy)]
-pub enum CountChange<'a> {
-    Put {
-        set: &'a Name,
-        user: &'a Name,
-        number: u32,
-    },
-}
-
-/// Changes of numbers, with all that they want but room.
-pub type CountPlan = Plan<((Name, Name), u32)>;
-
-impl Staged<CountChange<'_>> for Counts {
-    type Step = ((Name, Name), u32);
-
-    ghost Content = { NameValue → NameValue → ℕ };
-
-    ghost content = { λ c. numbers_of c };
-
-    ghost room = { λ c. c.room };
-
-    ghost changed = { numbers_after };
-
-    ghost made = { λ step numbers. with_number step.0.0 step.0.1 step.1 numbers };
-
-    fn prepare(
-        &self,
-        _alloc: Global,
-        _before: &[((Name, Name), u32)],
-        change: &CountChange,
-    ) -> Result<((Name, Name), u32), AllocError> {
-        match change {
-            CountChange::Put { set, user, number } => {
-                let key = (set.copy()?, user.copy()?);
-                Ok((key, *number))
-            }
-        }
-    }
-
-    fn make_room(&mut self, _alloc: Global, more: usize) -> Result<(), AllocError>
-        ensures content { numbers_of self.new ≡ numbers_of self.old }
-        ensures room { OnOk result (more ≤ self.new.room) }
-    {
-        self.reserve(more)
-    }
-
-    fn make(&mut self, step: ((Name, Name), u32))
-        requires { 0 < self.old.room }
-        ensures content { numbers_of self.new ≡ with_number step.0.0 step.0.1 step.1 (numbers_of self.old) }
-        ensures room { self.old.room ≤ self.new.room + 1 }
-    {
-        let (key, number) = step;
-        self.put_ready(key, number);
-    }
-}
-
-impl Counts {
-    /// Makes the names of the changes, and room for them. The numbers stay as they are, also where memory ends.
-    ///
-    /// # Errors
-    /// `AllocError` where there is no memory for the plan. Nothing that it is about has changed.
-    pub fn plan(&mut self, alloc: Global, changes: &[CountChange]) -> Result<CountPlan, AllocError>
-        ensures content { numbers_of self.new ≡ numbers_of self.old }
-        ensures changes { IfOk result (λ plan. with_numbers plan (numbers_of self.old) ≡ made_all numbers_after changes.now (numbers_of self.old)) }
-        ensures room { IfOk result (λ plan. length plan ≤ self.new.room) }
-    {
-        make_plan(alloc, self, changes)
-    }
-
-    /// Makes the changes that were planned, in order. Takes no memory.
-    pub fn commit(&mut self, plan: CountPlan)
-        requires { length plan ≤ self.old.room }
-        ensures { numbers_of self.new ≡ with_numbers plan (numbers_of self.old) }
-    {
-        commit::<CountChange, Counts>(self, plan);
     }
 }

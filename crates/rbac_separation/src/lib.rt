@@ -2,12 +2,14 @@
 #![tactic(auto)]
 
 mod change;
+mod count_plan;
 mod counts;
 mod role_set;
 mod set_plan;
 mod set_table;
 
-pub use counts::{CountChange, CountPlan, Counts};
+pub use count_plan::{CountPlan, Numbering};
+pub use counts::Counts;
 pub use role_set::RoleSet;
 pub use set_plan::{SetChange, SetPlan};
 pub use set_table::SetTable;
