@@ -1,5 +1,6 @@
 //! Changes of a role hierarchy.
 use rbac_terms::Name;
+use std::convert::Infallible;
 
 /// One change of a role hierarchy.
 #[derive(Clone, Copy)]
@@ -18,4 +19,16 @@ pub enum Change<'a> {
         ascendant: &'a Name,
         descendant: &'a Name,
     },
+}
+
+// stand-in
+#[derive(Drop)]
+pub struct Step {
+    never: Infallible,
+}
+
+impl Step {
+    pub fn never(self) -> Infallible {
+        self.never
+    }
 }
