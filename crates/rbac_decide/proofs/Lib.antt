@@ -4,5 +4,6 @@ pub mod CheckLemmas
 pub mod CountingLemmas
 pub mod CountingSteps
 pub mod FreshLemmas
+pub mod PlanningLemmas
 pub mod SeparationLemmas
 pub mod TablesLemmas

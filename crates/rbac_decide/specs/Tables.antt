@@ -3,6 +3,7 @@ use Rattle.std.specs.Prelude.{[], ◌≡◌, None}
 use Rattle.rbac_terms.specs.Vocabulary.{Vocabulary, no_vocabulary}
 use Rattle.rbac_terms.specs.State.{State}
 use Rattle.rbac_terms.specs.Rows.{first_denial}
+use Rattle.rbac_terms.specs.Sound.{IsSound}
 use Rattle.rbac_terms.specs.declared.command.Command.{Command}
 use Rattle.rbac_rolesets.specs.Sets.{Sets}
 use Rattle.rbac_hierarchy.specs.Order.{Order}
@@ -39,9 +40,11 @@ state_of_roles s h = record {
 abbrev pub HasSameRoles : Tables → Type 0
 HasSameRoles t = t.hierarchy.content.roles ≡ t.sets.content.roles
 
--- with some vocabulary the command is not denied
-abbrev pub IsUndenied : Command → Tables → Type 0
-IsUndenied c t = (v : Vocabulary) × (first_denial c (state_of t v) ≡ None)
+-- with some vocabulary the state is sound, and the command is not denied
+pub record IsUndenied (c : Command) (t : Tables) : Type 0 where
+  pub vocabulary : Vocabulary
+  pub sound : IsSound (state_of t vocabulary)
+  pub undenied : first_denial c (state_of t vocabulary) ≡ None
 
 -- both have the same sets
 pub record HaveSameSets (t other : Tables) : Type 0 where

@@ -1,9 +1,6 @@
-//! The counts that a policy keeps of its static sets, and what a command makes of them: memory for it is asked before the change, and
-//! the counts are taken after it.
-ghost use Rattle.std.specs.Prelude.{◌≡◌, ◌≤◌, true, false, if◌then◌else◌, length, count_by};
-ghost use Rattle.std.specs.List.{list_any};
-ghost use Rattle.sorted_keys.specs.Keys.{has};
-ghost use Rattle.rbac_terms.specs.Name.{Name as NameValue, name_cmp, pair_cmp};
+//! The counts that a policy keeps of its static sets, and what a command makes of them: names and room are planned before the change,
+//! and the counts are taken after it, from sets that no longer change.
+ghost use Rattle.std.specs.Prelude.{◌≡◌, ◌≤◌, false, not, length, count_by};
 ghost use Rattle.rbac_terms.specs.Separation.{is_broken_by};
 ghost use Rattle.rbac_separation.specs.Counts.{numbers_of};
 ghost use Rattle.rbac_decide.specs.Counting.{authorized_by, count_by_tables, breaks_some, AreCountsBy, IsPrepared, without_static, remaining};
@@ -13,7 +10,7 @@ mod affected;
 use crate::authorization::count_authorized;
 use crate::tables::Tables;
 pub use affected::affected_pairs;
-use rbac_separation::{Counts, RoleSet};
+use rbac_separation::{CountPlan, Counts, Numbering, RoleSet};
 use rbac_terms::{Command, Name, Separation};
 
 // For how many roles of a set the user is authorized: fewer than its number, so that the count fits.
@@ -36,16 +33,19 @@ fn count_of(tables: &Tables, set: &Name, user: &Name) -> u32
     }
 }
 
-// Counts anew for each of the pairs. Takes no memory.
-fn recount(tables: &Tables, pairs: Vec<(Name, Name)>, counts: &mut Counts)
-    requires unbroken { (set user : NameValue) → has pair_cmp (set, user) pairs.items ≡ true → breaks_some tables.now user ≡ false }
-    requires room { length pairs.items ≤ counts.old.room }
-    ensures { (set user : NameValue) → numbers_of counts.new set user
-        ≡ (if has pair_cmp (set, user) pairs.items then count_by_tables tables.now set user else numbers_of counts.old set user) }
-{
-    for pair in pairs {
-        let number = count_of(tables, &pair.0, &pair.1);
-        counts.put_ready(pair, number);
+// The counts by the tables, of users who break no static set.
+#[derive(Drop)]
+struct AuthorizedCounts<'a> {
+    tables: &'a Tables,
+}
+
+impl Numbering for AuthorizedCounts<'_> {
+    ghost number = { λ counts set user. count_by_tables counts.tables.now set user };
+
+    ghost is_numbered = { λ counts _ user. not (breaks_some counts.tables.now user) };
+
+    fn number(&self, set: &Name, user: &Name) -> u32 {
+        count_of(self.tables, set, user)
     }
 }
 
@@ -74,13 +74,13 @@ fn forget(command: &Command, counts: &mut Counts)
 pub(crate) fn recount_affected(
     tables: &Tables,
     command: &Command,
-    pairs: Vec<(Name, Name)>,
+    plan: CountPlan,
     counts: &mut Counts,
 )
-    requires prepared { IsPrepared command.now pairs.items counts.old tables.now }
-    requires room { length pairs.items ≤ counts.old.room }
+    requires prepared { IsPrepared command.now plan counts.old tables.now }
+    requires room { length plan ≤ counts.old.room }
     ensures { AreCountsBy tables.now counts.new }
 {
-    recount(tables, pairs, counts);
+    counts.commit(plan, &AuthorizedCounts { tables });
     forget(command, counts);
 }

@@ -67,7 +67,7 @@ impl Policy {
 impl Policy {
     ghost use Rattle.rbac_decide.specs.Asking.{is_check, is_question};
 
-    // Makes the change of a command that asks nothing: in place, after all that may be refused.
+    // Makes the change of a command that asks nothing: all plans, and then all that was planned, which wants no memory.
     fn change(&mut self, alloc: Global, command: &Command) -> Result<Answer, AllocError>
         requires { is_question command.now ≡ false }
         ensures reply { IfOk result (λ answer. answer ≡ reply command.now self.old) }
@@ -80,10 +80,12 @@ impl Policy {
             Err(Hindrance::Denied(denial)) => return Ok(Answer::Denied(denial)),
             Err(Hindrance::NoMemory) => return Err(AllocError),
         }
-        let pairs = affected_pairs(alloc, &self.tables, command)?;
-        self.counts.reserve(pairs.len())?;
-        self.tables.change(alloc, command)?;
-        recount_affected(&self.tables, command, pairs, &mut self.counts);
+        let counts = self
+            .counts
+            .plan(affected_pairs(alloc, &self.tables, command)?)?;
+        let tables = self.tables.plan(alloc, command)?;
+        self.tables.commit(command, tables);
+        recount_affected(&self.tables, command, counts, &mut self.counts);
         Ok(Answer::Done)
     }
 

@@ -1,22 +1,19 @@
 //! The sets that commands change.
-ghost use Rattle.std.specs.Prelude.{◌≡◌, ◌↔◌, IsTrue, IfOk, OnOk, OnErr};
-ghost use Rattle.sorted_keys.specs.Keys.{has};
-ghost use Rattle.rbac_terms.specs.Name.{name_cmp};
-ghost use Rattle.rbac_terms.specs.Authorization.{purge};
+ghost use Rattle.std.specs.Prelude.{◌≡◌, ◌↔◌, IsTrue, IfOk};
 ghost use Rattle.rbac_terms.specs.Change.{change};
 ghost use Rattle.rbac_terms.specs.Vocabulary.{Vocabulary as VocabularyValue};
 ghost use Rattle.rbac_terms.specs.State.{founding_state};
 
-use crate::ending::{OwnedBy, OwnedWithActive, Unentitled, WithActive};
+use crate::tables::planning::{TablesPlan, plan_order, plan_role_sets, plan_sessions, plan_sets};
 use rbac_hierarchy::{Hierarchy, RoleOrder};
 use rbac_rolesets::RoleSets;
 use rbac_separation::SetTable;
 use rbac_sessions::Sessions;
-use rbac_terms::{Command, Name};
+use rbac_terms::{Command, Separation};
 use std::alloc::{AllocError, Global};
 
-mod roles;
-mod sets;
+mod planning;
+mod taking_out;
 
 /// Users and roles with their pairs and grants, the hierarchy of the same roles, the sets of separation, and the sessions.
 #[derive(Drop)]
@@ -29,6 +26,7 @@ pub(crate) struct Tables {
 }
 
 impl Tables {
+    ghost use Rattle.rbac_decide.specs.Planning.{IsPlanned, IsGrown};
     ghost use Rattle.rbac_decide.specs.Tables.{state_of, HasSameRoles, HaveSameSets, IsUndenied};
 
     /// No users, no roles and no sessions.
@@ -72,107 +70,49 @@ impl Tables {
             && self.sessions.same(&other.sessions)
     }
 
-    // Ends the sessions that are not entitled to an active role.
-    fn purge(&mut self)
-        ensures state { (v : VocabularyValue) → state_of self.new v ≡ purge (state_of self.old v) }
-        ensures same_roles { HasSameRoles self.old → HasSameRoles self.new }
+    /// Makes the plans of what a command changes of each table, as far as it may want memory. The sets stay as they are, also where
+    /// memory ends.
+    ///
+    /// # Errors
+    /// `AllocError` where there is no memory for a plan.
+    pub fn plan(&mut self, alloc: Global, command: &Command) -> Result<TablesPlan, AllocError>
+        ensures unchanged { HaveSameSets self.new self.old }
+        ensures planned { IfOk result (λ plan. IsPlanned command.now plan self.new) }
     {
-        self.sessions.delete_where(&Unentitled {
-            sets: &self.sets,
-            hierarchy: &self.hierarchy,
-        });
+        Ok(TablesPlan {
+            sets: plan_sets(alloc, &mut self.sets, command)?,
+            hierarchy: plan_order(alloc, &mut self.hierarchy, command)?,
+            static_sets: plan_role_sets(alloc, &mut self.static_sets, Separation::Static, command)?,
+            dynamic_sets: plan_role_sets(
+                alloc,
+                &mut self.dynamic_sets,
+                Separation::Dynamic,
+                command,
+            )?,
+            sessions: plan_sessions(alloc, &mut self.sessions, command)?,
+        })
     }
 
-    fn delete_user(&mut self, user: &Name)
-        ensures state { (v : VocabularyValue) → state_of self.new v ≡ change (Command.DeleteUser user.now) (state_of self.old v) }
-        ensures same_roles { HasSameRoles self.old → HasSameRoles self.new }
+    // Makes what was planned for each table.
+    fn grow(&mut self, command: &Command, plan: TablesPlan)
+        requires { IsPlanned command.now plan self.old }
+        ensures { IsGrown command.now self.old self.new }
     {
-        self.sets.remove_user(user);
-        self.sessions.delete_where(&OwnedBy { user });
+        self.sets.commit(plan.sets);
+        self.hierarchy.commit(plan.hierarchy);
+        self.static_sets.commit(plan.static_sets);
+        self.dynamic_sets.commit(plan.dynamic_sets);
+        self.sessions.commit(plan.sessions);
     }
 
-    fn deassign_user(&mut self, user: &Name, role: &Name)
-        ensures state { (v : VocabularyValue) → state_of self.new v ≡ change (Command.DeassignUser user.now role.now) (state_of self.old v) }
-        ensures same_roles { HasSameRoles self.old → HasSameRoles self.new }
-    {
-        self.sets.deassign(user, role);
-        self.sessions.delete_where(&OwnedWithActive { user, role });
-        self.purge();
-    }
-
-    /// Makes the change of a command that is not denied. Where memory ends the sets stay as they are.
-    pub fn change(&mut self, alloc: Global, command: &Command) -> Result<(), AllocError>
+    /// Makes the change of a command that is not denied, by its plan. Takes no memory.
+    pub fn commit(&mut self, command: &Command, plan: TablesPlan)
         requires undenied { IsUndenied command.now self.old }
-        ensures state { OnOk result ((v : VocabularyValue) → state_of self.new v ≡ change command.now (state_of self.old v)) }
-        ensures same_roles { HasSameRoles self.old → OnOk result (HasSameRoles self.new) }
-        ensures unchanged { OnErr result (HaveSameSets self.new self.old) }
+        requires planned { IsPlanned command.now plan self.old }
+        ensures state { (v : VocabularyValue) → state_of self.new v ≡ change command.now (state_of self.old v) }
+        ensures same_roles { HasSameRoles self.old → HasSameRoles self.new }
     {
-        match command {
-            Command::AddUser { user } => self.sets.add_user(user.copy()?)?,
-            Command::DeleteUser { user } => self.delete_user(user),
-            Command::AddRole { role } => self.add_role(alloc, role)?,
-            Command::DeleteRole { role } => self.delete_role(alloc, role)?,
-            Command::AssignUser { user, role } => { self.sets.assign(user.copy()?, role.copy()?)? }
-            Command::DeassignUser { user, role } => self.deassign_user(user, role),
-            Command::GrantPermission {
-                operation,
-                object,
-                role,
-            } => self
-                .sets
-                .grant(operation.copy()?, object.copy()?, role.copy()?)?,
-            Command::RevokePermission {
-                operation,
-                object,
-                role,
-            } => self.sets.revoke(operation, object, role),
-            Command::AddInheritance {
-                ascendant,
-                descendant,
-            } => self.hierarchy.declare(alloc, ascendant, descendant)?,
-            Command::DeleteInheritance {
-                ascendant,
-                descendant,
-            } => self.delete_inheritance(alloc, ascendant, descendant)?,
-            Command::AddAscendant {
-                ascendant,
-                descendant,
-            } => self.add_role_with_pair(alloc, ascendant, ascendant, descendant)?,
-            Command::AddDescendant {
-                ascendant,
-                descendant,
-            } => self.add_role_with_pair(alloc, descendant, ascendant, descendant)?,
-            Command::CreateSet {
-                kind,
-                set,
-                roles,
-                n,
-            } => self.create_set(*kind, set, roles, *n)?,
-            Command::DeleteSet { kind, set } => self.delete_set(*kind, set),
-            Command::AddRoleMember { kind, set, role } => {
-                self.add_role_member(*kind, set, role)?
-            }
-            Command::DeleteRoleMember { kind, set, role } => {
-                self.delete_role_member(*kind, set, role)
-            }
-            Command::SetCardinality { kind, set, n } => self.set_cardinality(*kind, set, *n),
-            Command::CreateSession {
-                user,
-                session,
-                roles,
-            } => self
-                .sessions
-                .create(session.copy()?, user.copy()?, roles.copy()?)?,
-            Command::DeleteSession { session, .. } => self.sessions.delete(session),
-            Command::AddActiveRole { session, role, .. } => {
-                self.sessions.activate(session, role.copy()?)?
-            }
-            Command::DropActiveRole { session, role, .. } => {
-                self.sessions.drop_role(session, role)
-            }
-            Command::CheckAccess { .. } => {}
-            Command::Review(_) => {}
-        }
-        Ok(())
+        self.grow(command, plan);
+        self.take_out(command);
     }
 }

@@ -196,13 +196,13 @@ sound_add_inheritance a d s none h =
     sound_with_pair a d s are.0 are.1 (λ back. false≢true (sym holds.1.1.0 ∙ (inherits_iff s.roles s.declared d a).1 back)) holds.1.1.1.0 holds.1.1.1.1.0 h
 
 -- a new role that no pair names is inherited by no other
-not_inherited : (role other : Name) (s : State) → has name_cmp role s.roles ≡ false → has name_cmp other s.roles ≡ true → IsSound s → ¬ (Inherits (with_key name_cmp role s.roles) s.declared other role)
+pub not_inherited : (role other : Name) (s : State) → has name_cmp role s.roles ≡ false → has name_cmp other s.roles ≡ true → IsSound s → ¬ (Inherits (with_key name_cmp role s.roles) s.declared other role)
 not_inherited role other s new is h i =
     let was = inherits_without role s.roles s.declared h.references.declared other role is i in
     false≢true (sym new ∙ chain_end s.roles s.declared other was.0 role was.1)
 
 -- nor does it inherit any other
-inherits_nothing : (role other : Name) (s : State) → has name_cmp role s.roles ≡ false → has name_cmp other s.roles ≡ true → IsSound s → ¬ (Inherits (with_key name_cmp role s.roles) s.declared role other)
+pub inherits_nothing : (role other : Name) (s : State) → has name_cmp role s.roles ≡ false → has name_cmp other s.roles ≡ true → IsSound s → ¬ (Inherits (with_key name_cmp role s.roles) s.declared role other)
 inherits_nothing role other s new is h i = go i.0 i.1
   where
     go : (rest : List Name) → IsChain (with_key name_cmp role s.roles) s.declared role rest other → ⊥

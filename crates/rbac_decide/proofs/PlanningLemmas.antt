@@ -1,0 +1,106 @@
+-- What is planned of a command, and then what it takes out, is its change.
+use Rattle.std.proofs.Common.{◌≡◌, true, false, cond, not, ◌&&◌, refl, sym, ap, ◌∙◌}
+use Rattle.std.proofs.lemmas.Bool.{and_parts, false≢true, not-false}
+use Rattle.sorted_keys.specs.Keys.{has, with_key}
+use Rattle.sorted_keys.proofs.Kept.{still}
+use Rattle.rbac_terms.specs.Name.{Name, name_cmp, pair_cmp}
+use Rattle.rbac_terms.specs.Inheritance.{inherits}
+use Rattle.rbac_terms.specs.State.{State}
+use Rattle.rbac_terms.specs.Vocabulary.{Vocabulary}
+use Rattle.rbac_terms.specs.Rows.{preconditions}
+use Rattle.rbac_terms.specs.Change.{change}
+use Rattle.rbac_terms.specs.declared.separation.Separation.TheVariants.{Static, Dynamic}
+use Rattle.rbac_terms.specs.declared.command.Command.{Command}
+use Rattle.rbac_terms.specs.declared.command.Command.TheVariants.{AddUser, DeleteUser, AddRole, DeleteRole, AssignUser, DeassignUser, GrantPermission, RevokePermission, AddInheritance, DeleteInheritance, AddAscendant, AddDescendant, CreateSet, DeleteSet, AddRoleMember, DeleteRoleMember, SetCardinality, CreateSession, DeleteSession, AddActiveRole, DropActiveRole, CheckAccess, Review as ReviewCommand}
+use Rattle.rbac_terms.proofs.NameLemmas.{names_total}
+use Rattle.rbac_rules.proofs.InheritanceLemmas.{inherits_iff}
+use Rattle.rbac_rules.proofs.SoundParts.{none_fails}
+use Rattle.rbac_rules.proofs.SoundRoles.{is_there, not_inherited, inherits_nothing}
+use Rattle.rbac_rules.proofs.SoundSeparation.{is_false}
+use Rattle.rbac_hierarchy.specs.Changes.{with_pair}
+use Rattle.rbac_hierarchy.specs.Order.{Order}
+use Rattle.rbac_decide.specs.declared.tables.Tables.{Tables}
+use Rattle.rbac_decide.specs.Planning.{sets_after, order_after, role_sets_after, sessions_after, taken_out, IsGrown}
+use Rattle.rbac_decide.specs.Tables.{state_of, IsUndenied}
+
+-- the state of tables with what a command makes of each
+abbrev grown : Command → Tables → Vocabulary → State
+grown c t v =
+    let sets = sets_after c t.sets.content in
+    let order = order_after c t.hierarchy.content in
+    record {
+      users = sets.users;
+      roles = order.roles;
+      assigned = sets.assigned;
+      granted = sets.granted;
+      declared = order.declared;
+      static_sets = role_sets_after Static c t.static_sets.content;
+      dynamic_sets = role_sets_after Dynamic c t.dynamic_sets.content;
+      sessions = sessions_after c t.sessions.content;
+      vocabulary = v;
+    }
+
+grown_state : (c : Command) (t g : Tables) → IsGrown c t g → (v : Vocabulary) → state_of g v ≡ grown c t v
+grown_state c t g h v = λ i. record {
+  users = (h.sets i).users;
+  roles = (h.hierarchy i).roles;
+  assigned = (h.sets i).assigned;
+  granted = (h.sets i).granted;
+  declared = (h.hierarchy i).declared;
+  static_sets = h.static_sets i;
+  dynamic_sets = h.dynamic_sets i;
+  sessions = h.sessions i;
+  vocabulary = v;
+}
+
+-- a pair of two roles that closes no cycle is declared
+declares : (a d : Name) (h : Order) → has name_cmp a h.roles ≡ true → has name_cmp d h.roles ≡ true → inherits h.roles h.declared d a ≡ false
+    → with_pair a d h ≡ record h { declared = with_key pair_cmp (a, d) h.declared }
+declares a d h is_a is_d acyclic = λ i. cond (is_a i && (is_d i && not (acyclic i))) (record h { declared = with_key pair_cmp (a, d) h.declared }) h
+
+-- the state in which its pairs are these
+abbrev with_order : Tables → Vocabulary → Order → State
+with_order t v h = record (state_of t v) { roles = h.roles; declared = h.declared }
+
+module _ (t : Tables) (v : Vocabulary) where
+  abbrev order : Order
+  order = t.hierarchy.content
+
+  inheritance : (a d : Name) → IsUndenied (AddInheritance a d) t → with_order t v (with_pair a d order) ≡ change (AddInheritance a d) (state_of t v)
+  inheritance a d u =
+      let holds = none_fails (preconditions (AddInheritance a d) (state_of t u.vocabulary)) u.undenied in
+      let are = and_parts _ _ (not-false _ holds.0) in
+      ap (with_order t v) (declares a d order are.0 are.1 holds.1.1.0)
+
+  ascendant : (a d : Name) → IsUndenied (AddAscendant a d) t
+      → with_order t v (with_pair a d (record order { roles = with_key name_cmp a order.roles })) ≡ change (AddAscendant a d) (state_of t v)
+  ascendant a d u =
+      let s = state_of t u.vocabulary in
+      let holds = none_fails (preconditions (AddAscendant a d) s) u.undenied in
+      let is_d = not-false _ holds.1.0 in
+      let acyclic : inherits (with_key name_cmp a order.roles) order.declared d a ≡ false =
+      is_false _ (λ back. not_inherited a d s holds.0 is_d u.sound ((inherits_iff (with_key name_cmp a order.roles) order.declared d a).0 back)) in
+      ap (with_order t v) (declares a d (record order { roles = with_key name_cmp a order.roles }) (is_there a order.roles) (still names_total a order.roles d is_d) acyclic)
+
+  descendant : (a d : Name) → IsUndenied (AddDescendant a d) t
+      → with_order t v (with_pair a d (record order { roles = with_key name_cmp d order.roles })) ≡ change (AddDescendant a d) (state_of t v)
+  descendant a d u =
+      let s = state_of t u.vocabulary in
+      let holds = none_fails (preconditions (AddDescendant a d) s) u.undenied in
+      let is_a = not-false _ holds.1.0 in
+      let acyclic : inherits (with_key name_cmp d order.roles) order.declared d a ≡ false =
+      is_false _ (λ back. inherits_nothing d a s holds.0 is_a u.sound ((inherits_iff (with_key name_cmp d order.roles) order.declared d a).0 back)) in
+      ap (with_order t v) (declares a d (record order { roles = with_key name_cmp d order.roles }) (still names_total d order.roles a is_a) (is_there d order.roles) acyclic)
+
+  then_taken_out : (c : Command) → IsUndenied c t → taken_out c (grown c t v) ≡ change c (state_of t v)
+  then_taken_out (AddInheritance a d) u = inheritance a d u
+  then_taken_out (AddAscendant a d) u = ascendant a d u
+  then_taken_out (AddDescendant a d) u = descendant a d u
+  then_taken_out (CreateSet Static set roles n) u = refl
+  then_taken_out (CreateSet Dynamic set roles n) u = refl
+  then_taken_out (AddRoleMember Static set role) u = refl
+  then_taken_out (AddRoleMember Dynamic set role) u = refl
+  then_taken_out c u = refl
+
+pub made_by_plan : (c : Command) (t g : Tables) → IsGrown c t g → IsUndenied c t → (v : Vocabulary) → taken_out c (state_of g v) ≡ change c (state_of t v)
+made_by_plan c t g h u v = ap (taken_out c) (grown_state c t g h v) ∙ then_taken_out t v c u

@@ -1,0 +1,119 @@
+//! What a command takes out, which wants no memory: what a deletion takes out, sessions that end, and the purge.
+ghost use Rattle.std.specs.Prelude.{◌≡◌};
+ghost use Rattle.rbac_terms.specs.Authorization.{purge};
+ghost use Rattle.rbac_terms.specs.Change.{change};
+ghost use Rattle.rbac_terms.specs.Vocabulary.{Vocabulary as VocabularyValue};
+ghost use Rattle.rbac_terms.specs.declared.command.Command.TheVariants.{DeleteUser, DeleteRole, DeassignUser, DeleteSet, DeleteRoleMember, SetCardinality};
+
+use crate::ending::{OwnedBy, OwnedWithActive, Unentitled, WithActive};
+use crate::tables::Tables;
+use rbac_terms::{Command, Name, Separation};
+
+impl Tables {
+    ghost use Rattle.rbac_decide.specs.Planning.{taken_out, roles_left};
+    ghost use Rattle.rbac_decide.specs.Tables.{state_of};
+
+    // Ends the sessions that are not entitled to an active role.
+    fn purge(&mut self)
+        ensures state { (v : VocabularyValue) → state_of self.new v ≡ purge (state_of self.old v) }
+        ensures sets { self.new.sets.content ≡ self.old.sets.content }
+        ensures hierarchy { self.new.hierarchy.content ≡ self.old.hierarchy.content }
+    {
+        self.sessions.delete_where(&Unentitled {
+            sets: &self.sets,
+            hierarchy: &self.hierarchy,
+        });
+    }
+
+    fn delete_user(&mut self, user: &Name)
+        ensures state { (v : VocabularyValue) → state_of self.new v ≡ change (DeleteUser user.now) (state_of self.old v) }
+        ensures roles { self.new.sets.content.roles ≡ self.old.sets.content.roles }
+        ensures hierarchy { self.new.hierarchy.content ≡ self.old.hierarchy.content }
+    {
+        self.sets.remove_user(user);
+        self.sessions.delete_where(&OwnedBy { user });
+    }
+
+    // Takes a role that is no more in the hierarchy out of the other tables.
+    fn delete_role(&mut self, role: &Name)
+        ensures state { (v : VocabularyValue) → state_of self.new v ≡ taken_out (DeleteRole role.now) (state_of self.old v) }
+        ensures roles { self.new.sets.content.roles ≡ roles_left (DeleteRole role.now) self.old.sets.content.roles }
+        ensures hierarchy { self.new.hierarchy.content ≡ self.old.hierarchy.content }
+    {
+        self.sets.remove_role(role);
+        self.sessions.delete_where(&WithActive { role });
+        self.purge();
+    }
+
+    fn deassign_user(&mut self, user: &Name, role: &Name)
+        ensures state { (v : VocabularyValue) → state_of self.new v ≡ change (DeassignUser user.now role.now) (state_of self.old v) }
+        ensures roles { self.new.sets.content.roles ≡ self.old.sets.content.roles }
+        ensures hierarchy { self.new.hierarchy.content ≡ self.old.hierarchy.content }
+    {
+        self.sets.deassign(user, role);
+        self.sessions.delete_where(&OwnedWithActive { user, role });
+        self.purge();
+    }
+
+    fn delete_set(&mut self, kind: Separation, set: &Name)
+        ensures state { (v : VocabularyValue) → state_of self.new v ≡ change (DeleteSet kind set.now) (state_of self.old v) }
+        ensures sets { self.new.sets.content ≡ self.old.sets.content }
+        ensures hierarchy { self.new.hierarchy.content ≡ self.old.hierarchy.content }
+    {
+        match kind {
+            Separation::Static => self.static_sets.delete(set),
+            Separation::Dynamic => self.dynamic_sets.delete(set),
+        }
+    }
+
+    fn delete_role_member(&mut self, kind: Separation, set: &Name, role: &Name)
+        ensures state { (v : VocabularyValue) → state_of self.new v ≡ change (DeleteRoleMember kind set.now role.now) (state_of self.old v) }
+        ensures sets { self.new.sets.content ≡ self.old.sets.content }
+        ensures hierarchy { self.new.hierarchy.content ≡ self.old.hierarchy.content }
+    {
+        match kind {
+            Separation::Static => self.static_sets.remove_member(set, role),
+            Separation::Dynamic => self.dynamic_sets.remove_member(set, role),
+        }
+    }
+
+    fn set_cardinality(&mut self, kind: Separation, set: &Name, n: u32)
+        ensures state { (v : VocabularyValue) → state_of self.new v ≡ change (SetCardinality kind set.now n) (state_of self.old v) }
+        ensures sets { self.new.sets.content ≡ self.old.sets.content }
+        ensures hierarchy { self.new.hierarchy.content ≡ self.old.hierarchy.content }
+    {
+        match kind {
+            Separation::Static => self.static_sets.set_cardinality(set, n),
+            Separation::Dynamic => self.dynamic_sets.set_cardinality(set, n),
+        }
+    }
+
+    /// Takes out what a command takes out. Takes no memory.
+    pub(crate) fn take_out(&mut self, command: &Command)
+        ensures state { (v : VocabularyValue) → state_of self.new v ≡ taken_out command.now (state_of self.old v) }
+        ensures roles { self.new.sets.content.roles ≡ roles_left command.now self.old.sets.content.roles }
+        ensures hierarchy { self.new.hierarchy.content ≡ self.old.hierarchy.content }
+    {
+        match command {
+            Command::DeleteUser { user } => self.delete_user(user),
+            Command::DeleteRole { role } => self.delete_role(role),
+            Command::DeassignUser { user, role } => self.deassign_user(user, role),
+            Command::RevokePermission {
+                operation,
+                object,
+                role,
+            } => self.sets.revoke(operation, object, role),
+            Command::DeleteInheritance { .. } => self.purge(),
+            Command::DeleteSet { kind, set } => self.delete_set(*kind, set),
+            Command::DeleteRoleMember { kind, set, role } => {
+                self.delete_role_member(*kind, set, role)
+            }
+            Command::SetCardinality { kind, set, n } => self.set_cardinality(*kind, set, *n),
+            Command::DeleteSession { session, .. } => self.sessions.delete(session),
+            Command::DropActiveRole { session, role, .. } => {
+                self.sessions.drop_role(session, role)
+            }
+            _ => {}
+        }
+    }
+}
