@@ -7,6 +7,7 @@ mod descendant;
 pub mod laws;
 mod list_order;
 mod order;
+mod plan;
 mod removal;
 mod rows;
 mod seniors;
@@ -16,6 +17,7 @@ pub use bit_order::BitOrder;
 pub use change::Change;
 pub use list_order::ListOrder;
 pub use order::RoleOrder;
+pub use plan::Plan;
 
 /// The hierarchy that a policy keeps.
 pub type Hierarchy = BitOrder;
