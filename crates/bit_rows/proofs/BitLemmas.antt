@@ -1,5 +1,5 @@
 -- Bits of words that are written.
-use Rattle.std.proofs.Common.{ℕ, suc, zero, ◌≡◌, ◌+◌, ◌-◌, ◌*◌, ◌/◌, ◌%◌, ◌^◌, ◌<◌, ◌≤◌, Bool, max, true, false, ◌||◌, cond, nat_eq, nat_lt, List, [], ◌∷◌, ◌++◌, length, get_or, slice_set, bit_and, bit_or, w64, refl, sym, ap, ◌∙◌, subst, ◌⊎◌, ⊎_elim, arith}
+use Rattle.std.proofs.Common.{ℕ, suc, zero, ◌≡◌, ◌+◌, ◌-◌, ◌*◌, ◌/◌, ◌%◌, ◌^◌, ◌<◌, ◌≤◌, Bool, max, true, false, ◌||◌, cond, nat_eq, nat_lt, List, [], ◌∷◌, ◌++◌, length, get_or, replicate, slice_set, bit_and, bit_or, w64, refl, sym, ap, ◌∙◌, subst, ◌⊎◌, ⊎_elim, arith}
 use Rattle.std.specs.Int.{bit_at, bit_not}
 use Rattle.std.proofs.lemmas.Bool.{eq-eqb, ne_eqb, ltb-true, ltb-false, lt-ltb, le-ltb, cases_lt, true≢false, false≢true}
 use Rattle.std.proofs.lemmas.Bool.Decides.{eqb_tells}
@@ -44,14 +44,18 @@ has_bit-zeros words k j zeros all = ⊎_elim
     (λ (le : k ≤ j / 64). has_bit-past words j (omega arith))
     (cases_lt (j / 64) k)
 
--- the same words, and one of zero more
-pub has_bit-wider : (words : List ℕ) (j : ℕ) → has_bit (words ++ 0 ∷ []) j ≡ has_bit words j
+-- the same words, and some of zero more
+pub has_bit-wider : (words : List ℕ) (more j : ℕ) → has_bit (words ++ replicate more 0) j ≡ has_bit words j
 unfolding has_bit
-has_bit-wider words j = ap (λ w. nat_eq (bit_at w (j % 64)) 1) (go words (j / 64))
+has_bit-wider words more j = ap (λ w. nat_eq (bit_at w (j % 64)) 1) (go words (j / 64))
   where
-    go : (words : List ℕ) (k : ℕ) → get_or (words ++ 0 ∷ []) k 0 ≡ get_or words k 0
-    go [] zero = refl
-    go [] (suc k) = refl
+    zeros : (n k : ℕ) → ◌≡◌ {A = ℕ} (get_or (replicate n 0) k 0) 0
+    zeros zero k = refl
+    zeros (suc n) zero = refl
+    zeros (suc n) (suc k) = zeros n k
+
+    go : (words : List ℕ) (k : ℕ) → get_or (words ++ replicate more 0) k 0 ≡ get_or words k 0
+    go [] k = zeros more k
     go (w ∷ words) zero = refl
     go (w ∷ words) (suc k) = go words k
 

@@ -6,7 +6,7 @@ use Rattle.std.proofs.lemmas.Bool.Decides.{eqb_tells}
 use Rattle.std.proofs.lemmas.List.{get_or-set_other, length-set, get_or_append_left}
 use Rattle.std.proofs.lemmas.Grind.{get_or-set_at}
 use Rattle.bit_rows.specs.Bits.{has_bit, bit, AreWide, AreBelow, AreJoined, IsRelation, moved, first_of, second_of}
-use Rattle.bit_rows.specs.Room.{unset, unset_of_all, ArePreserved}
+use Rattle.bit_rows.specs.Room.{unset, unset_of_all, ArePreserved, AreWidened}
 use Rattle.bit_rows.proofs.BitLemmas.{past_end, no_words, has_bit-past}
 
 -- what is written in the whole of a vector is all of it
@@ -45,6 +45,62 @@ preserved-set rows at row lt same = record {
 
 pub wide_still : (old new : List (List ℕ)) (n : ℕ) → ArePreserved old new → AreWide old n → AreWide new n
 wide_still old new n kept wide = λ i lt. subst (λ m. n ≤ 64 * m) (sym (kept.words i)) (wide i (subst (λ m. i < m) kept.rows lt))
+
+-- rows that are widened
+pub widened : (rows : List (List ℕ)) → AreWidened rows rows
+widened rows = record { rows = refl; words = λ i. omega arith }
+
+pub wide_widened : (old new : List (List ℕ)) (n : ℕ) → AreWidened old new → AreWide old n → AreWide new n
+wide_widened old new n more wide = λ i lt. omega (arith, more.words i, wide i (subst (λ m. i < m) more.rows lt))
+
+pub relation_widened : (old new : List (List ℕ)) → IsRelation old → AreWidened old new → ((i j : ℕ) → bit new i j ≡ bit old i j) → IsRelation new
+relation_widened old new was more same = record {
+  wide = subst (AreWide new) (sym more.rows) (wide_widened old new (length old) more was.wide);
+  outside = λ i j le. same i j ∙ was.outside i j (subst (λ n. n ≤ j) more.rows le);
+}
+
+-- one row is widened
+module _ (rows : List (List ℕ)) (at : ℕ) (row : List ℕ) (lt : at < length rows) where
+  pub widened_more : (old : List (List ℕ)) → AreWidened old rows → length (get_or rows at []) ≤ length row → AreWidened old (slice_set rows at row)
+  widened_more old so_far more = record {
+    rows = length-set rows at row ∙ so_far.rows;
+    words = λ i. ⊎_elim
+        (λ here. omega (arith, so_far.words i, more, ap (λ n. length (get_or rows n [])) here.1, ap length (get_or-set_at rows at i row [] here.1 lt)))
+        (λ there. omega (arith, so_far.words i, ap length (get_or-set_other rows at i row [] there.1)))
+        (eqb_tells i at);
+  }
+
+  pub wide_more : (n : ℕ) → ((i : ℕ) → i < at → n ≤ length (get_or rows i [])) → n ≤ length row → (i : ℕ) → i < at + 1 → n ≤ length (get_or (slice_set rows at row) i [])
+  wide_more n before here i in_front = ⊎_elim
+      (λ same. subst (λ r. n ≤ length r) (sym (get_or-set_at rows at i row [] same.1 lt)) here)
+      (λ other. subst (λ r. n ≤ length r) (sym (get_or-set_other rows at i row [] other.1)) (before i (omega (arith, other.1))))
+      (eqb_tells i at)
+
+  pub same_bits : ((j : ℕ) → has_bit row j ≡ has_bit (get_or rows at []) j) → (i j : ℕ) → bit (slice_set rows at row) i j ≡ bit rows i j
+  same_bits same i j = ⊎_elim
+      (λ here. ap (λ r. has_bit r j) (get_or-set_at rows at i row [] here.1 lt) ∙ same j ∙ ap (λ n. bit rows n j) (sym here.1))
+      (λ there. ap (λ r. has_bit r j) (get_or-set_other rows at i row [] there.1))
+      (eqb_tells i at)
+
+-- a row more at the end
+module _ (rows : List (List ℕ)) (row : List ℕ) (n : ℕ) where
+  at_end : get_or (rows ++ row ∷ []) (length rows) [] ≡ row
+  at_end = get_or-append_seam rows row [] []
+
+  before_end : (i : ℕ) → i < length rows → get_or (rows ++ row ∷ []) i [] ≡ get_or rows i []
+  before_end i lt = get_or_append_left rows (row ∷ []) [] i lt
+
+  pub wide_with : AreWide rows n → n ≤ 64 * length row → AreWide (rows ++ row ∷ []) n
+  wide_with wide own i lt = ⊎_elim
+      (λ (before : i < length rows). subst (λ r. n ≤ 64 * length r) (sym (before_end i before)) (wide i before))
+      (λ (past : length rows ≤ i). let last : i ≡ length rows = omega (arith, length-append rows (row ∷ []), lt, past) in subst (λ r. n ≤ 64 * length r) (sym (ap (λ k. get_or (rows ++ row ∷ []) k []) last ∙ at_end)) own)
+      (cases_lt i (length rows))
+
+  pub wide_without : AreWide (rows ++ row ∷ []) n → AreWide rows n
+  wide_without wide i lt = subst (λ r. n ≤ 64 * length r) (before_end i lt) (wide i (omega (arith, length-append rows (row ∷ []))))
+
+  pub wide_last : AreWide (rows ++ row ∷ []) n → n ≤ 64 * length row
+  wide_last wide = subst (λ r. n ≤ 64 * length r) at_end (wide (length rows) (omega (arith, length-append rows (row ∷ []))))
 
 -- the rows before a place are as they are to be, and the others as they were
 pub record AreDone (Is : ℕ → List ℕ → Type 0) (old : List (List ℕ)) (at : ℕ) (new : List (List ℕ)) : Type 0 where
@@ -310,6 +366,11 @@ module _ (old mid new : List (List ℕ)) (gap : ℕ) (was : IsRelation old) (in_
 
   moved_below : (i : ℕ) → i < last → moved gap last i < length old
   moved_below i lt = elim (nat_eq i gap) as (λ b. cond b last i < length old) [ true ↦ omega (arith, in_gap) | false ↦ omega (arith, in_gap, lt) ]
+
+  pub wide_removed : (n : ℕ) → AreWide old n → AreWide new n
+  wide_removed n wide i lt =
+      let before : i < last = omega (arith, fewer, kept.rows) in
+      subst (λ m. n ≤ 64 * m) (sym (kept.words i ∙ ap length (taken i before))) (wide (moved gap last i) (moved_below i before))
 
   pub relation_removed : IsRelation new
   relation_removed = record {

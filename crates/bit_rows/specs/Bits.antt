@@ -10,9 +10,10 @@ has_bit words j = nat_eq (bit_at (get_or words (j / 64) 0) (j % 64)) 1
 abbrev pub bit : List (List ℕ) → ℕ → ℕ → Bool
 bit rows i j = has_bit (get_or rows i []) j
 
--- a row of words for each number
+-- a row of words for each number, and for how many more numbers there is room
 pub record Rows : Type 0 where
   pub rows : List (List ℕ)
+  pub room : ℕ
 
 -- how many numbers there are: those below it
 abbrev pub count : Rows → ℕ
@@ -30,6 +31,12 @@ AreWide rows n = (i : ℕ) → i < length rows → n ≤ 64 * length (get_or row
 pub record IsRelation (rows : List (List ℕ)) : Type 0 where
   pub wide : AreWide rows (length rows)
   pub outside : (i j : ℕ) → length rows ≤ j → bit rows i j ≡ false
+
+-- the rows of a relation, and those for numbers to come: each has so many words
+pub record AreReady (rows spare : List (List ℕ)) (width : ℕ) : Type 0 where
+  pub relation : IsRelation rows
+  pub wide : AreWide rows (64 * width)
+  pub spare_wide : AreWide spare (64 * width)
 
 -- the number that goes by the number i, after the last number went into the gap of another
 abbrev pub moved : ℕ → ℕ → ℕ → ℕ

@@ -1,5 +1,5 @@
 -- What rows have left to set: it gets less with each bit that is set.
-use Rattle.std.specs.Prelude.{ℕ, ◌≡◌, ◌-◌, ◌^◌, ◌+◌, List, [], ◌∷◌, length, get_or}
+use Rattle.std.specs.Prelude.{ℕ, ◌≡◌, ◌≤◌, ◌-◌, ◌^◌, ◌+◌, List, [], ◌∷◌, length, get_or}
 
 abbrev pub unset : List ℕ → ℕ
 unset [] = 0
@@ -13,3 +13,8 @@ unset_of_all (row ∷ rows) = unset row + unset_of_all rows
 pub record ArePreserved (old new : List (List ℕ)) : Type 0 where
   pub rows : length new ≡ length old
   pub words : (i : ℕ) → length (get_or new i []) ≡ length (get_or old i [])
+
+-- as many rows, and none is narrower
+pub record AreWidened (old new : List (List ℕ)) : Type 0 where
+  pub rows : length new ≡ length old
+  pub words : (i : ℕ) → length (get_or old i []) ≤ length (get_or new i [])

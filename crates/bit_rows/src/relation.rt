@@ -3,24 +3,29 @@ ghost use Rattle.std.specs.Prelude.{◌≡◌, ◌<◌, ◌≤◌, ◌+◌, ◌-
 ghost use Rattle.bit_rows.specs.Bits.{AreBelow, AreJoined, count, moved, related};
 
 use crate::row::BitRow;
-use crate::rows::{join_above, join_until_closed, move_bits, reset_above, widen_all};
+use crate::rows::{add_spare, join_above, join_until_closed, move_bits, reset_above, widen_both};
 use std::alloc::{AllocError, Global};
 use std::marker::Model;
 
 /// A relation on the numbers below a count, as a row of bits for each number.
+///
+/// Each row, and each that is spare, has `width` words at least.
 #[derive(Drop)]
 pub struct Relation {
     rows: Vec<BitRow>,
+    spare: Vec<BitRow>,
+    width: usize,
 }
 
 impl Model for Relation {
-    ghost use Rattle.bit_rows.specs.Bits.{IsRelation, Rows};
+    ghost use Rattle.std.specs.Prelude.{◌*◌, ◌-◌, length, min, vec_len, vec_capacity};
+    ghost use Rattle.bit_rows.specs.Bits.{AreReady, Rows};
 
     ghost Value = { Rows };
 
-    ghost view = { λ r. record { rows = r.rows.items } };
+    ghost view = { λ r. record { rows = r.rows.items; room = min (vec_capacity r.rows - vec_len r.rows) (min (length r.spare.items) (64 * r.width - length r.rows.items)) } };
 
-    ghost invariant = { λ r. IsRelation r.rows.items };
+    ghost invariant = { λ r. AreReady r.rows.items r.spare.items r.width };
 }
 
 impl Relation {
@@ -30,6 +35,8 @@ impl Relation {
     {
         Relation {
             rows: Vec::new(alloc),
+            spare: Vec::new(alloc),
+            width: 0,
         }
     }
 
@@ -54,6 +61,35 @@ impl Relation {
         first < self.rows.len() && self.rows[first].has(second)
     }
 
+    /// Makes room for so many more numbers.
+    ///
+    /// # Errors
+    /// `AllocError` where there is less room and no memory. The relation is as before.
+    pub fn reserve(&mut self, alloc: Global, more: usize) -> Result<(), AllocError>
+        ensures count { count self.new ≡ count self.old }
+        ensures relation { (i j : ℕ) → related self.new i j ≡ related self.old i j }
+        ensures room { OnOk result (more ≤ self.new.room) }
+        ensures not_smaller { self.old.room ≤ self.new.room }
+    {
+        self.rows.reserve(more)?;
+        let words = (self.rows.len() + more) / 64 + 1;
+        self.width = widen_both(&mut self.rows, &mut self.spare, self.width, words)?;
+        add_spare(alloc, &mut self.spare, more, self.width)
+    }
+
+    /// One more number, related to itself alone, where there is room for it. Takes no memory.
+    pub fn add_ready(&mut self)
+        requires { 0 < self.old.room }
+        ensures longer { count self.new ≡ count self.old + 1 }
+        ensures related_to_itself { (i j : ℕ) → related self.new i j ≡ (related self.old i j || (nat_eq i (count self.old) && nat_eq j (count self.old))) }
+        ensures room { self.old.room ≤ self.new.room + 1 }
+    {
+        let number = self.rows.len();
+        let mut row = self.spare.take_last();
+        row.leave(number);
+        self.rows.push_reserved(row);
+    }
+
     /// One more number, related to itself alone.
     ///
     /// # Errors
@@ -64,25 +100,26 @@ impl Relation {
         ensures same_count { OnErr result (count self.new ≡ count self.old) }
         ensures same_relation { OnErr result ((i j : ℕ) → related self.new i j ≡ related self.old i j) }
     {
-        let number = self.rows.len();
-        widen_all(&mut self.rows)?;
-        let row = BitRow::lone(alloc, number)?;
-        Ok(self.rows.push(row)?)
+        self.reserve(alloc, 1)?;
+        self.add_ready();
+        Ok(())
     }
 
     /// Relates what is related to one number to all that another is related to.
-    pub fn join_above(&mut self, alloc: Global, above: usize, below: usize)
+    pub fn join_above(&mut self, above: usize, below: usize)
         requires { below < count self.old }
         ensures count { count self.new ≡ count self.old }
         ensures related { (i j : ℕ) → related self.new i j ≡ (related self.old i j || (related self.old i above && related self.old below j)) }
+        ensures room { self.old.room ≤ self.new.room }
     {
-        join_above(alloc, &mut self.rows, above, below);
+        join_above(&mut self.rows, above, below);
     }
 
     /// Relates each number that is related to a number to itself alone.
     pub fn reset_above(&mut self, above: usize)
         ensures count { count self.new ≡ count self.old }
         ensures related { (i j : ℕ) → related self.new i j ≡ (if related self.old i above then nat_eq j i else related self.old i j) }
+        ensures room { self.old.room ≤ self.new.room }
     {
         reset_above(&mut self.rows, above);
     }
@@ -90,14 +127,15 @@ impl Relation {
     /// Relates as little more as need be, so that the first number of each pair is related to all that its second is
     /// related to. Where each pair comes after those whose first number is its second, the pairs are gone through twice;
     /// else as often as it takes.
-    pub fn join_pairs(&mut self, alloc: Global, pairs: &[(usize, usize)])
+    pub fn join_pairs(&mut self, pairs: &[(usize, usize)])
         requires { AreBelow pairs.now (count self.old) }
         ensures count { count self.new ≡ count self.old }
         ensures still { (i j : ℕ) → IsTrue (related self.old i j) → IsTrue (related self.new i j) }
         ensures joined { AreJoined (related self.new) pairs.now }
         ensures least { (R : ℕ → ℕ → Bool) → ((i j : ℕ) → IsTrue (related self.old i j) → IsTrue (R i j)) → AreJoined R pairs.now → (i j : ℕ) → IsTrue (related self.new i j) → IsTrue (R i j) }
+        ensures room { self.old.room ≤ self.new.room }
     {
-        join_until_closed(alloc, &mut self.rows, pairs);
+        join_until_closed(&mut self.rows, pairs);
     }
 
     /// Takes a number out. The last number goes into its gap.
@@ -105,6 +143,7 @@ impl Relation {
         requires { gap < count self.old }
         ensures count { count self.new + 1 ≡ count self.old }
         ensures related { let last = count self.old - 1 in (i j : ℕ) → i < last → j < last → related self.new i j ≡ related self.old (moved gap last i) (moved gap last j) }
+        ensures room { self.old.room ≤ self.new.room }
     {
         let last = self.rows.len() - 1;
         self.rows.swap_remove(gap);
@@ -116,10 +155,12 @@ impl Relation {
     /// # Errors
     /// `AllocError` where the copy gets no memory.
     pub fn copy(&self) -> Result<Relation, AllocError>
-        ensures { IfOk result (λ copy. copy ≡ self.now) }
+        ensures { IfOk result (λ copy. copy.rows ≡ self.now.rows) }
     {
         Ok(Relation {
             rows: self.rows.clone()?,
+            spare: Vec::new(*self.rows.allocator()),
+            width: self.width,
         })
     }
 }

@@ -30,16 +30,20 @@ impl BitRow {
         }
     }
 
-    /// The row with one bit set, and no words past it.
-    pub(crate) fn lone(alloc: Global, bit: usize) -> Result<BitRow, AllocError>
-        ensures { IfOk result (λ row. (bit < 64 * length row) × ((j : ℕ) → has_bit row j ≡ nat_eq j bit)) }
+    /// A row with so many words.
+    pub(crate) fn wide(alloc: Global, words: usize) -> Result<BitRow, AllocError>
+        ensures { IfOk result (λ row. words ≤ length row) }
     {
         let mut row = BitRow::new(alloc);
-        for _ in 0..bit / 64 + 1 {
-            row.widen()?;
-        }
-        row.leave(bit);
+        row.widen(words)?;
         Ok(row)
+    }
+
+    /// A row without words, which takes no memory.
+    pub(crate) fn without_words(&self) -> BitRow
+        ensures { result ≡ [] }
+    {
+        BitRow::new(*self.words.allocator())
     }
 
     /// Whether the bit is set.
@@ -106,13 +110,16 @@ impl BitRow {
         self.clear(from);
     }
 
-    /// Makes room for 64 more bits.
-    pub(crate) fn widen(&mut self) -> Result<(), AllocError>
-        ensures longer { OnOk result (length self.new ≡ length self.old + 1) }
-        ensures unchanged { OnErr result (self.new ≡ self.old) }
+    /// Makes it as wide as so many words, unless it is.
+    pub(crate) fn widen(&mut self, words: usize) -> Result<(), AllocError>
+        ensures wide { OnOk result (words ≤ length self.new) }
+        ensures not_narrower { length self.old ≤ length self.new }
         ensures bits { (j : ℕ) → has_bit self.new j ≡ has_bit self.old j }
     {
-        Ok(self.words.push(0)?)
+        if self.words.len() < words {
+            self.words.resize(words, 0)?;
+        }
+        Ok(())
     }
 
     /// Sets the bits that are set in another row, as far as this one has room. Whether one of them was not.

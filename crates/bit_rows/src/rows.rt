@@ -1,14 +1,14 @@
 //! Rows of bits that are written one after the other.
-ghost use Rattle.std.specs.Prelude.{◌≡◌, ◌<◌, ◌≤◌, ◌+◌, ◌*◌, ◌||◌, ◌&&◌, ℕ, Bool, IsTrue, [], true, false, nat_eq, length, get_or, OnOk, OnErr, if◌then◌else◌};
+ghost use Rattle.std.specs.Prelude.{◌≡◌, ◌<◌, ◌≤◌, ◌+◌, ◌*◌, ◌||◌, ◌&&◌, ℕ, Bool, IsTrue, [], true, false, nat_eq, length, get_or, IfOk, OnOk, if◌then◌else◌};
 ghost use Rattle.bit_rows.specs.Bits.{bit, AreWide, AreBelow, AreJoined, IsRelation, first_of, second_of};
-ghost use Rattle.bit_rows.specs.Room.{unset_of_all, ArePreserved};
+ghost use Rattle.bit_rows.specs.Room.{unset_of_all, ArePreserved, AreWidened};
 
 use crate::row::BitRow;
 use std::alloc::{AllocError, Global};
 use std::mem::replace;
 
 /// Joins one row into another. Whether it had a bit more.
-pub(crate) fn join_row(alloc: Global, rows: &mut [BitRow], above: usize, below: usize) -> bool
+pub(crate) fn join_row(rows: &mut [BitRow], above: usize, below: usize) -> bool
     requires above { above < length rows.old }
     requires below { below < length rows.old }
     ensures lengths { ArePreserved rows.old rows.new }
@@ -21,14 +21,15 @@ pub(crate) fn join_row(alloc: Global, rows: &mut [BitRow], above: usize, below: 
     if above == below {
         return false;
     }
-    let added = replace(&mut rows[below], BitRow::new(alloc));
+    let lent = rows[below].without_words();
+    let added = replace(&mut rows[below], lent);
     let grown = rows[above].join(&added);
     rows[below] = added;
     grown
 }
 
 /// Joins a row into each row that has a bit.
-pub(crate) fn join_above(alloc: Global, rows: &mut [BitRow], above: usize, below: usize)
+pub(crate) fn join_above(rows: &mut [BitRow], above: usize, below: usize)
     requires below { below < length rows.old }
     requires relation { IsRelation rows.old }
     ensures lengths { ArePreserved rows.old rows.new }
@@ -37,7 +38,7 @@ pub(crate) fn join_above(alloc: Global, rows: &mut [BitRow], above: usize, below
 {
     for at in 0..rows.len() {
         if rows[at].has(above) {
-            join_row(alloc, rows, at, below);
+            join_row(rows, at, below);
         }
     }
 }
@@ -56,7 +57,7 @@ pub(crate) fn reset_above(rows: &mut [BitRow], above: usize)
 }
 
 /// Joins the row of each pair's second number into that of its first. Whether a row had a bit more.
-pub(crate) fn join_pairs(alloc: Global, rows: &mut [BitRow], pairs: &[(usize, usize)]) -> bool
+pub(crate) fn join_pairs(rows: &mut [BitRow], pairs: &[(usize, usize)]) -> bool
     requires below { AreBelow pairs.now (length rows.old) }
     ensures lengths { ArePreserved rows.old rows.new }
     ensures still { (i j : ℕ) → IsTrue (bit rows.old i j) → IsTrue (bit rows.new i j) }
@@ -66,7 +67,7 @@ pub(crate) fn join_pairs(alloc: Global, rows: &mut [BitRow], pairs: &[(usize, us
 {
     let mut grown = false;
     for pair in pairs {
-        if join_row(alloc, rows, pair.0, pair.1) {
+        if join_row(rows, pair.0, pair.1) {
             grown = true;
         }
     }
@@ -74,7 +75,7 @@ pub(crate) fn join_pairs(alloc: Global, rows: &mut [BitRow], pairs: &[(usize, us
 }
 
 /// Joins the row of each pair's second number into that of its first, until no row has a bit more by it.
-pub(crate) fn join_until_closed(alloc: Global, rows: &mut [BitRow], pairs: &[(usize, usize)])
+pub(crate) fn join_until_closed(rows: &mut [BitRow], pairs: &[(usize, usize)])
     requires below { AreBelow pairs.now (length rows.old) }
     requires relation { IsRelation rows.old }
     ensures lengths { ArePreserved rows.old rows.new }
@@ -82,21 +83,58 @@ pub(crate) fn join_until_closed(alloc: Global, rows: &mut [BitRow], pairs: &[(us
     ensures joined { AreJoined (bit rows.new) pairs.now }
     ensures least { (R : ℕ → ℕ → Bool) → ((i j : ℕ) → IsTrue (bit rows.old i j) → IsTrue (R i j)) → AreJoined R pairs.now → (i j : ℕ) → IsTrue (bit rows.new i j) → IsTrue (R i j) }
 {
-    while join_pairs(alloc, rows, pairs) {}
+    while join_pairs(rows, pairs) {}
 }
 
-/// Makes room for one more number in each row.
-pub(crate) fn widen_all(rows: &mut [BitRow]) -> Result<(), AllocError>
-    requires wide { AreWide rows.old (length rows.old) }
-    ensures length { length rows.new ≡ length rows.old }
-    ensures wider { OnOk result (AreWide rows.new (length rows.old + 1)) }
-    ensures still_wide { OnErr result (AreWide rows.new (length rows.old)) }
+/// Makes each row as wide as so many words, unless it is.
+pub(crate) fn widen_all(rows: &mut [BitRow], words: usize) -> Result<(), AllocError>
+    ensures wide { OnOk result (AreWide rows.new (64 * words)) }
+    ensures widened { AreWidened rows.old rows.new }
     ensures bits { (i j : ℕ) → bit rows.new i j ≡ bit rows.old i j }
 {
-    if rows.len() % 64 == 0 {
-        for at in 0..rows.len() {
-            rows[at].widen()?;
-        }
+    for at in 0..rows.len() {
+        rows[at].widen(words)?;
+    }
+    Ok(())
+}
+
+/// The number of words that each row has at least, after the rows, and those that are spare, are as wide as so many words.
+pub(crate) fn widen_both(
+    rows: &mut [BitRow],
+    spare: &mut [BitRow],
+    width: usize,
+    words: usize,
+) -> Result<usize, AllocError>
+    requires rows { AreWide rows.old (64 * width) }
+    requires spare { AreWide spare.old (64 * width) }
+    ensures wide { IfOk result (λ now. (words ≤ now) × (width ≤ now) × AreWide rows.new (64 * now) × AreWide spare.new (64 * now)) }
+    ensures rows { AreWidened rows.old rows.new }
+    ensures spare { AreWidened spare.old spare.new }
+    ensures bits { (i j : ℕ) → bit rows.new i j ≡ bit rows.old i j }
+{
+    if words <= width {
+        return Ok(width);
+    }
+    widen_all(rows, words)?;
+    widen_all(spare, words)?;
+    Ok(words)
+}
+
+/// Adds rows with so many words, until there are as many as that.
+pub(crate) fn add_spare(
+    alloc: Global,
+    spare: &mut Vec<BitRow>,
+    many: usize,
+    words: usize,
+) -> Result<(), AllocError>
+    requires { AreWide spare.old.items (64 * words) }
+    ensures wide { AreWide spare.new.items (64 * words) }
+    ensures enough { OnOk result (many ≤ length spare.new.items) }
+    ensures not_fewer { length spare.old.items ≤ length spare.new.items }
+{
+    while spare.len() < many {
+        let row = BitRow::wide(alloc, words)?;
+        spare.push(row)?;
     }
     Ok(())
 }

@@ -75,7 +75,11 @@ impl Tables {
     ///
     /// # Errors
     /// `AllocError` where there is no memory for a plan.
-    pub fn plan(&mut self, alloc: Global, command: &Command) -> Result<TablesPlan, AllocError>
+    pub fn plan<'a>(
+        &mut self,
+        alloc: Global,
+        command: &'a Command,
+    ) -> Result<TablesPlan<'a>, AllocError>
         ensures unchanged { HaveSameSets self.new self.old }
         ensures planned { IfOk result (λ plan. IsPlanned command.now plan self.new) }
     {

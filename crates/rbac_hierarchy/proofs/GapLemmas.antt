@@ -1,5 +1,5 @@
 -- A role that is taken out of numbered roles: the last role gets its number.
-use Rattle.std.proofs.Common.{ℕ, zero, suc, ◌≡◌, ◌≢◌, ◌<◌, ◌≤◌, ◌+◌, ◌-◌, Bool, true, false, not, ◌||◌, ◌&&◌, cond, nat_eq, List, [], ◌∷◌, length, take, swap_remove, slice_set, slice_index_or, get_or, filter, refl, sym, ap, ◌∙◌, subst, ⊎_elim, arith}
+use Rattle.std.proofs.Common.{ℕ, zero, suc, ◌≡◌, ◌≢◌, ◌<◌, ◌+◌, ◌-◌, Bool, true, false, not, cond, nat_eq, List, [], ◌∷◌, length, swap_remove, slice_set, slice_index_or, get_or, filter, refl, sym, ap, ◌∙◌, subst, ⊎_elim, arith}
 use Rattle.std.specs.Ordering.{eq_by_cmp}
 use Rattle.std.specs.declared.cmp.Ordering.{Ordering}
 use Rattle.std.specs.Cmp.{IsTotalOrder}
@@ -10,7 +10,7 @@ use Rattle.std.proofs.lemmas.List.Kept.{IsStrictlySortedBy-filter}
 use Rattle.sorted_keys.specs.Keys.{has, without}
 use Rattle.sorted_keys.proofs.Gathered.{sorted_set_of}
 use Rattle.sorted_keys.proofs.Members.{has-without, same_keys}
-use Rattle.rbac_terms.specs.Name.{Name, name_cmp, pair_cmp}
+use Rattle.rbac_terms.specs.Name.{Name, name_cmp}
 use Rattle.rbac_terms.specs.Inheritance.{inherits}
 use Rattle.sorted_keys.proofs.Ties.{one_key, same_bits, ties_itself}
 use Rattle.rbac_terms.proofs.NameLemmas.{names_total, names_exact}

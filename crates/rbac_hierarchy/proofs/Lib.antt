@@ -11,3 +11,4 @@ pub mod GatherLemmas
 pub mod GapLemmas
 pub mod PairLemmas
 pub mod ChangeLemmas
+pub mod RoomLemmas

@@ -1,8 +1,8 @@
 -- Declared pairs by their numbers.
-use Rattle.std.proofs.Common.{ℕ, zero, suc, cond, ◌≡◌, ◌<◌, ◌≤◌, ◌+◌, Bool, true, false, not, ◌||◌, ◌&&◌, IsTrue, List, [], ◌∷◌, ◌++◌, length, length-append, get_or, filter, take, refl, sym, ap, ◌∙◌, subst, ⊎_elim, arith}
+use Rattle.std.proofs.Common.{ℕ, zero, suc, cond, ◌≡◌, ◌<◌, ◌≤◌, ◌+◌, Bool, true, false, not, ◌||◌, IsTrue, List, [], ◌∷◌, ◌++◌, length, length-append, get_or, filter, take, refl, sym, ap, ◌∙◌, subst, ⊎_elim, arith}
 use Rattle.std.specs.Ordering.{eq_by_cmp}
 use Rattle.std.proofs.Math.Seq.{get_or-append_seam}
-use Rattle.std.proofs.lemmas.Bool.{and_parts, and_from, or_left, or_right, or_cases, both_ways, cases_lt, not-true, or_parts}
+use Rattle.std.proofs.lemmas.Bool.{and_parts, and_from, or_left, or_right, or_cases, both_ways, cases_lt}
 use Rattle.std.proofs.lemmas.List.{append-nil, get_or_append_left, take_more}
 use Rattle.std.proofs.lemmas.List.Elements.{filter-append}
 use Rattle.sorted_keys.specs.Keys.{has, without}
@@ -14,7 +14,7 @@ use Rattle.sorted_keys.proofs.Ties.{one_key, ties_itself}
 use Rattle.rbac_terms.proofs.NameLemmas.{names_total, names_exact, pairs_total, pairs_exact}
 use Rattle.rbac_rules.proofs.InheritanceLemmas.{inherits_iff}
 use Rattle.bit_rows.specs.Bits.{Rows, AreBelow, first_of, related, second_of}
-use Rattle.rbac_hierarchy.specs.Numbers.{role_at, roles_of, ArePairsAbove, AreNumbered, IsExact}
+use Rattle.rbac_hierarchy.specs.Numbers.{role_at, ArePairsAbove, AreNumbered}
 use Rattle.rbac_hierarchy.specs.Renewal.{HasPairsOf}
 use Rattle.rbac_hierarchy.specs.Rows.{RangesOver}
 use Rattle.rbac_hierarchy.proofs.ExactLemmas.{fails}

@@ -7,7 +7,7 @@ pub record Order : Type 0 where
   pub roles : List Name
   pub declared : List (Name × Name)
 
--- and for how many more declared pairs there is room
+-- and for how many more changes there is room
 pub record Hierarchy : Type 0 where
   pub content : Order
   pub room : ℕ

@@ -1,19 +1,14 @@
 //! A hierarchy as a row of bits for each role.
-ghost use Rattle.std.specs.Prelude.{◌≡◌, ◌<◌, ◌≤◌, IsTrue, OnOk, OnErr};
-ghost use Rattle.sorted_keys.specs.Keys.{has, with_key};
-ghost use Rattle.rbac_terms.specs.Name.{name_cmp, pair_cmp};
-
 mod numbers;
 mod renewal;
+mod steps;
 
 use crate::descendant::has_descendant;
 use crate::order::RoleOrder;
-use crate::removal::{OtherPair, OtherPairs};
 use bit_rows::Relation;
 use indexmap::IndexSet;
-use numbers::{ByName, JuniorsOf, number, number_of, same_roles, with_roles_where};
+use numbers::{ByName, JuniorsOf, number_of, same_roles, with_roles_where};
 use rbac_terms::{Name, NameSet};
-use renewal::{pairs_above, renew};
 use sorted_keys::{KeyTest, PairProbe, SortedSet};
 use std::alloc::{AllocError, Global};
 use std::marker::Model;
@@ -27,49 +22,21 @@ pub struct BitOrder {
     declared: SortedSet<(Name, Name)>,
     numbers: IndexSet<Name>,
     inherited: Relation,
+    // Where a change gathers pairs.
+    pairs: Vec<(usize, usize)>,
 }
 
 impl Model for BitOrder {
+    ghost use Rattle.std.specs.Prelude.{◌-◌, length, min, vec_capacity};
+    ghost use Rattle.indexmap.specs.IndexSet.{spare};
     ghost use Rattle.rbac_hierarchy.specs.Order.{Hierarchy as HierarchyValue};
     ghost use Rattle.rbac_hierarchy.specs.Numbers.{IsExact, roles_of};
 
     ghost Value = { HierarchyValue };
 
-    ghost view = { λ h. record { content = record { roles = roles_of h.numbers.keys; declared = h.declared.content }; room = h.declared.room } };
+    ghost view = { λ h. record { content = record { roles = roles_of h.numbers.keys; declared = h.declared.content }; room = min (min h.declared.room (spare h.numbers)) (min h.inherited.room (vec_capacity h.pairs - length h.declared.content)) } };
 
     ghost invariant = { λ h. IsExact h.numbers.keys h.declared.content h.inherited };
-}
-
-impl BitOrder {
-    // Adds a role. Where it is there, nothing changes. There is room for as many pairs as before.
-    fn put_role(&mut self, alloc: Global, role: &Name) -> Result<(), AllocError>
-        ensures added { let h = self.old.content in OnOk result (self.new.content ≡ record h { roles = with_key name_cmp role.now h.roles }) }
-        ensures unchanged { OnErr result (self.new.content ≡ self.old.content) }
-        ensures room { self.new.room ≡ self.old.room }
-    {
-        if number_of(&self.numbers, role).is_some() {
-            return Ok(());
-        }
-        let role = role.copy()?;
-        self.numbers.reserve(1)?;
-        self.inherited.invariants();
-        self.inherited.add(alloc)?;
-        self.numbers.insert_full(role).unwrap();
-        Ok(())
-    }
-
-    // Declares a pair of roles where there is room for it. Takes no memory.
-    fn put_pair(&mut self, alloc: Global, pair: (Name, Name))
-        requires room { 0 < self.old.room }
-        requires ascendant { IsTrue (has name_cmp pair.0 self.old.content.roles) }
-        requires descendant { IsTrue (has name_cmp pair.1 self.old.content.roles) }
-        ensures { let h = self.old.content in self.new.content ≡ record h { declared = with_key pair_cmp pair h.declared } }
-    {
-        let above = number(&self.numbers, &pair.0);
-        let below = number(&self.numbers, &pair.1);
-        self.declared.put(pair);
-        self.inherited.join_above(alloc, above, below);
-    }
 }
 
 impl RoleOrder for BitOrder {
@@ -80,6 +47,7 @@ impl RoleOrder for BitOrder {
             declared: SortedSet::new(alloc),
             numbers: IndexSet::new(alloc),
             inherited: Relation::new(alloc),
+            pairs: Vec::new(alloc),
         }
     }
 
@@ -109,26 +77,15 @@ impl RoleOrder for BitOrder {
     }
 
     fn add_role(&mut self, alloc: Global, role: &Name) -> Result<(), AllocError> {
-        self.put_role(alloc, role)
+        let role = role.copy()?;
+        self.reserve(alloc, 1)?;
+        self.put_role(role);
+        Ok(())
     }
 
     fn remove_role(&mut self, alloc: Global, role: &Name) -> Result<(), AllocError> {
-        let Some(gap) = number_of(&self.numbers, role) else {
-            return Ok(());
-        };
-        let others = OtherPairs { role };
-        let pairs = pairs_above(
-            alloc,
-            &self.numbers,
-            &self.declared,
-            &self.inherited,
-            gap,
-            &others,
-        )?;
-        self.declared.retain(&others);
-        renew(alloc, &mut self.inherited, gap, &pairs);
-        self.inherited.remove(gap);
-        self.numbers.swap_remove_index(gap);
+        self.reserve(alloc, 1)?;
+        self.take_role(role);
         Ok(())
     }
 
@@ -139,8 +96,8 @@ impl RoleOrder for BitOrder {
         descendant: &Name,
     ) -> Result<(), AllocError> {
         let pair = (ascendant.copy()?, descendant.copy()?);
-        self.declared.reserve(1)?;
-        self.put_pair(alloc, pair);
+        self.reserve(alloc, 1)?;
+        self.put_pair(pair);
         Ok(())
     }
 
@@ -152,9 +109,10 @@ impl RoleOrder for BitOrder {
         descendant: &Name,
     ) -> Result<(), AllocError> {
         let pair = (ascendant.copy()?, descendant.copy()?);
-        self.declared.reserve(1)?;
-        self.put_role(alloc, role)?;
-        self.put_pair(alloc, pair);
+        let role = role.copy()?;
+        self.reserve(alloc, 2)?;
+        self.put_role(role);
+        self.put_pair(pair);
         Ok(())
     }
 
@@ -164,25 +122,8 @@ impl RoleOrder for BitOrder {
         ascendant: &Name,
         descendant: &Name,
     ) -> Result<(), AllocError> {
-        let Some(above) = number_of(&self.numbers, ascendant) else {
-            return Ok(());
-        };
-        let pairs = pairs_above(
-            alloc,
-            &self.numbers,
-            &self.declared,
-            &self.inherited,
-            above,
-            &OtherPair {
-                ascendant,
-                descendant,
-            },
-        )?;
-        self.declared.remove(&PairProbe {
-            first: ascendant,
-            second: descendant,
-        });
-        renew(alloc, &mut self.inherited, above, &pairs);
+        self.reserve(alloc, 1)?;
+        self.take_pair(ascendant, descendant);
         Ok(())
     }
 
@@ -217,6 +158,7 @@ impl RoleOrder for BitOrder {
             declared: self.declared.copy()?,
             numbers: self.numbers.clone()?,
             inherited: self.inherited.copy()?,
+            pairs: Vec::new(*self.pairs.allocator()),
         })
     }
 

@@ -1,6 +1,5 @@
 //! Changes of a role hierarchy.
 use rbac_terms::Name;
-use std::convert::Infallible;
 
 /// One change of a role hierarchy.
 #[derive(Clone, Copy)]
@@ -21,14 +20,21 @@ pub enum Change<'a> {
     },
 }
 
-// stand-in
+// A change with names of its own, where it puts them into the hierarchy.
 #[derive(Drop)]
-pub struct Step {
-    never: Infallible,
-}
-
-impl Step {
-    pub fn never(self) -> Infallible {
-        self.never
-    }
+pub enum Step<'a> {
+    AddRole {
+        role: Name,
+    },
+    RemoveRole {
+        role: &'a Name,
+    },
+    Declare {
+        ascendant: Name,
+        descendant: Name,
+    },
+    Retract {
+        ascendant: &'a Name,
+        descendant: &'a Name,
+    },
 }

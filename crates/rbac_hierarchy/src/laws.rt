@@ -22,7 +22,7 @@ fn make<O: RoleOrder>(alloc: Global, order: &mut O, change: &Change) -> Result<(
     ensures made { OnOk result (O.content order.new ≡ after_one change.now (O.content order.old)) }
     ensures unchanged { OnErr result (O.content order.new ≡ O.content order.old) }
 {
-    match change {
+    match *change {
         Change::AddRole { role } => order.add_role(alloc, role),
         Change::RemoveRole { role } => order.remove_role(alloc, role),
         Change::Retract {

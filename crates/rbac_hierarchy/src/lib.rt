@@ -14,7 +14,7 @@ mod seniors;
 mod walk;
 
 pub use bit_order::BitOrder;
-pub use change::{Change, Step};
+pub use change::Change;
 pub use list_order::ListOrder;
 pub use order::RoleOrder;
 pub use plan::Plan;

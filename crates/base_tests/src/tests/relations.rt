@@ -13,16 +13,16 @@ fn numbers(rt: &impl Abort, alloc: Global, count: usize) -> Relation {
     relation
 }
 
-fn join(rt: &impl Abort, alloc: Global, relation: &mut Relation, above: usize, below: usize) {
+fn join(rt: &impl Abort, relation: &mut Relation, above: usize, below: usize) {
     assert!(rt; below < relation.len());
-    relation.join_above(alloc, above, below);
+    relation.join_above(above, below);
 }
 
 // So many numbers, of which these pairs were joined one after the other.
 fn joined(rt: &impl Abort, alloc: Global, count: usize, pairs: &[(usize, usize)]) -> Relation {
     let mut relation = numbers(rt, alloc, count);
     for (above, below) in pairs {
-        join(rt, alloc, &mut relation, *above, *below);
+        join(rt, &mut relation, *above, *below);
     }
     relation
 }
@@ -51,6 +51,22 @@ fn a_new_number_is_related_to_itself_alone(rt: HostRuntime) {
     let relation = numbers(&rt, alloc, 2);
     assert_eq!(rt; relation.len(), 2);
     expect_rows(&rt, &relation, &["100", "010", "000"]);
+}
+
+// The rows that were made ready before are wide enough, and what is in them does not count.
+#[test]
+fn numbers_come_into_room_that_was_made_before(rt: HostRuntime) {
+    let alloc = rt.alloc();
+    let mut relation = joined(&rt, alloc, 63, &[(0, 62)]);
+    relation.reserve(alloc, 2).expect(&rt, "memory");
+    assert_eq!(rt; relation.len(), 63);
+    relation.add_ready();
+    relation.add_ready();
+    assert_eq!(rt; relation.len(), 65);
+    assert!(rt; relation.has(0, 62));
+    assert!(rt; relation.has(64, 64));
+    assert!(rt; !relation.has(64, 63));
+    assert!(rt; !relation.has(0, 64));
 }
 
 // More numbers than one word of bits has.
@@ -85,7 +101,7 @@ fn pairs_are_joined_until_nothing_comes(rt: HostRuntime) {
     let alloc = rt.alloc();
     let mut relation = numbers(&rt, alloc, 4);
     assert_eq!(rt; relation.len(), 4);
-    relation.join_pairs(alloc, &[(0, 1), (1, 2), (2, 0)]);
+    relation.join_pairs(&[(0, 1), (1, 2), (2, 0)]);
     expect_rows(&rt, &relation, &["1110", "1110", "1110", "0001"]);
 }
 
@@ -104,7 +120,7 @@ fn a_copy_does_not_change_with_its_source(rt: HostRuntime) -> Result<(), Fail> {
     let alloc = rt.alloc();
     let mut relation = numbers(&rt, alloc, 2);
     let copy = relation.copy()?;
-    join(&rt, alloc, &mut relation, 0, 1);
+    join(&rt, &mut relation, 0, 1);
     assert!(rt; relation.has(0, 1));
     expect_rows(&rt, &copy, &["10"]);
     Ok(())

@@ -17,9 +17,9 @@ use std::alloc::{AllocError, Global};
 
 /// A plan for each table: the changes of a command that may want memory, with all that they want but room.
 #[derive(Drop)]
-pub(crate) struct TablesPlan {
+pub(crate) struct TablesPlan<'a> {
     pub sets: SetsPlan,
-    pub hierarchy: OrderPlan,
+    pub hierarchy: OrderPlan<'a>,
     pub static_sets: SetPlan,
     pub dynamic_sets: SetPlan,
     pub sessions: SessionPlan,
@@ -64,11 +64,11 @@ pub(crate) fn plan_sets(
 }
 
 /// Plans what a command makes of the roles of the hierarchy and of the declared pairs.
-pub(crate) fn plan_order(
+pub(crate) fn plan_order<'a>(
     alloc: Global,
     hierarchy: &mut Hierarchy,
-    command: &Command,
-) -> Result<OrderPlan, AllocError>
+    command: &'a Command,
+) -> Result<OrderPlan<'a>, AllocError>
     ensures content { hierarchy.new.content ≡ hierarchy.old.content }
     ensures made { IfOk result (λ plan. made_all made_order plan hierarchy.old.content ≡ order_after command.now hierarchy.old.content) }
     ensures room { IfOk result (λ plan. length plan ≤ hierarchy.new.room) }

@@ -19,7 +19,7 @@ left c =
     let below = c.args.below in
     let row = c.join-grown.new.self in
     let apart = ne_eqb above below c.if-above-below.false in
-    let empty : c.replace-added.new.dest ≡ [] = c.replace-added.ensures.after ∙ c.new.ensures in
+    let empty : c.replace-added.new.dest ≡ [] = c.replace-added.ensures.after ∙ c.without_words-lent.ensures in
     let back : c.replace-added.result ≡ get_or old below [] = c.replace-added.ensures.value ∙ any_default old below _ [] c.requires.below in
     let was : seen c ≡ get_or old above [] = any_default _ above _ [] (subst (λ n. above < n) (sym (length-set old below c.replace-added.new.dest)) c.requires.above) ∙ ap (λ r. get_or (slice_set old below r) above []) empty ∙ at_above_lent old above below row c.requires.above c.requires.below apart in
     (λ i. unset_of_all (slice_set (slice_set (slice_set old below (empty i)) above row) below (back i)) + unset (was i))

@@ -1,4 +1,4 @@
-use Rattle.std.proofs.Common.{◌≡◌, ◌∙◌, ◌==◌, not, ap, length, List}
+use Rattle.std.proofs.Common.{◌∙◌, ◌==◌, not, ap, length, List}
 use Rattle.std.specs.Ordering.{eq_by_cmp}
 use Rattle.rbac_terms.specs.Name.{Name, name_cmp}
 use Rattle.rbac_hierarchy.proofs.Kept.{some_kept}

@@ -1,4 +1,4 @@
-use Rattle.std.proofs.Common.{◌≡◌, true, false, refl, sym, ap, ◌∙◌}
+use Rattle.std.proofs.Common.{refl, sym, ◌∙◌}
 use Rattle.std.proofs.lemmas.Bool.{and_parts}
 use Rattle.rbac_hierarchy.proofs.ChangeLemmas.{both_roles}
 use Rattle.rbac_hierarchy.proofs.laws.make.Goals as goal

@@ -1,6 +1,6 @@
-use Rattle.std.proofs.Common.{◌≡◌, take, drop, ◌++◌, length, sym, subst, ap, ◌∙◌}
-use Rattle.bit_rows.specs.Bits.{Rows, bit, related, AreJoined, IsRelation}
-use Rattle.bit_rows.proofs.RowLemmas.{whole, relation_least}
+use Rattle.std.proofs.Common.{◌≡◌, ◌*◌, take, drop, ◌++◌, length, sym, subst, ap, ◌∙◌}
+use Rattle.bit_rows.specs.Bits.{Rows, bit, related, AreJoined, AreReady}
+use Rattle.bit_rows.proofs.RowLemmas.{whole, wide_still, relation_least}
 use Rattle.bit_rows.proofs.relation.Relation.join_pairs.Goals as goal
 
 written : (c : goal.After-self-1) → take c.self.inside.rows.len (c.join_until_closed.new.rows ++ drop (length c.join_until_closed.new.rows) c.self.inside.rows.items) ≡ c.join_until_closed.new.rows
@@ -11,7 +11,11 @@ written c =
 pub invariant_of-self : goal.invariant_of-self
 invariant_of-self c =
     let same = c.deref_mut.ensures.value in
-    subst IsRelation (sym (written c)) (relation_least c.self.inside.rows.items c.join_until_closed.new.rows c.args.pairs.now c.self.invariant (rw same at c.join_until_closed.ensures.lengths) (rw same at c.join_until_closed.ensures.least))
+    subst (λ rows. AreReady rows c.self.inside.spare.items c.self.inside.width) (sym (written c)) (record {
+      relation = relation_least c.self.inside.rows.items c.join_until_closed.new.rows c.args.pairs.now c.self.invariant.relation (rw same at c.join_until_closed.ensures.lengths) (rw same at c.join_until_closed.ensures.least);
+      wide = wide_still c.self.inside.rows.items c.join_until_closed.new.rows (64 * c.self.inside.width) (rw same at c.join_until_closed.ensures.lengths) c.self.invariant.wide;
+      spare_wide = c.self.invariant.spare_wide;
+    })
 
 pub returns-clause-joined : goal.returns-clause-joined
 returns-clause-joined c = subst (λ rows. AreJoined (bit rows) c.args.pairs.now) (sym (written c)) c.join_until_closed.ensures.joined

@@ -1,7 +1,7 @@
-use Rattle.std.proofs.Common.{ℕ, ◌≡◌, ◌<◌, ◌+◌, ◌-◌, ◌++◌, [], nat_eq, false, cond, take, drop, length, get_or, sym, subst, ap, ◌∙◌, arith, ⊎_elim}
+use Rattle.std.proofs.Common.{ℕ, ◌≡◌, ◌<◌, ◌+◌, ◌-◌, ◌*◌, ◌++◌, [], nat_eq, false, cond, take, drop, length, get_or, sym, subst, ap, ◌∙◌, arith, ⊎_elim}
 use Rattle.std.proofs.lemmas.Bool.Decides.{eqb_tells}
-use Rattle.bit_rows.specs.Bits.{Rows, bit, related, count, moved, IsRelation}
-use Rattle.bit_rows.proofs.RowLemmas.{whole, relation_removed, related_removed}
+use Rattle.bit_rows.specs.Bits.{Rows, bit, related, count, moved, AreReady}
+use Rattle.bit_rows.proofs.RowLemmas.{whole, wide_removed, relation_removed, related_removed}
 use Rattle.bit_rows.proofs.relation.Relation.remove.Goals as goal
 
 written : (c : goal.After-self-1) → take c.swap_remove.new.self.len (c.move_bits.new.rows ++ drop (length c.move_bits.new.rows) c.swap_remove.new.self.items) ≡ c.move_bits.new.rows
@@ -41,7 +41,12 @@ invariant_of-self c =
     let old = c.self.inside.rows.items in
     let mid = c.swap_remove.new.self in
     let same = c.deref_mut.ensures.value in
-    subst IsRelation (sym (written c)) (relation_removed old mid.items c.move_bits.new.rows c.args.gap c.self.invariant (in_gap c) (fewer c) (taken c) (rw same at c.move_bits.ensures.lengths) (bits c))
+    let kept = rw same at c.move_bits.ensures.lengths in
+    subst (λ rows. AreReady rows c.self.inside.spare.items c.self.inside.width) (sym (written c)) (record {
+      relation = relation_removed old mid.items c.move_bits.new.rows c.args.gap c.self.invariant.relation (in_gap c) (fewer c) (taken c) kept (bits c);
+      wide = wide_removed old mid.items c.move_bits.new.rows c.args.gap c.self.invariant.relation (in_gap c) (fewer c) (taken c) kept (bits c) (64 * c.self.inside.width) c.self.invariant.wide;
+      spare_wide = c.self.invariant.spare_wide;
+    })
 
 pub returns-clause-related : goal.returns-clause-related
 returns-clause-related c =
@@ -49,4 +54,4 @@ returns-clause-related c =
     let mid = c.swap_remove.new.self in
     let same = c.deref_mut.ensures.value in
     subst (λ (r : Rows). (i j : ℕ) → i < count r - 1 → j < count r - 1 → bit (take mid.len (c.move_bits.new.rows ++ drop (length c.move_bits.new.rows) mid.items)) i j ≡ related r (moved c.args.gap (count r - 1) i) (moved c.args.gap (count r - 1) j)) c.self.view_is
-    (λ i j in_i in_j. ap (λ rows. bit rows i j) (written c) ∙ related_removed old mid.items c.move_bits.new.rows c.args.gap c.self.invariant (in_gap c) (fewer c) (taken c) (rw same at c.move_bits.ensures.lengths) (bits c) i j in_i in_j)
+    (λ i j in_i in_j. ap (λ rows. bit rows i j) (written c) ∙ related_removed old mid.items c.move_bits.new.rows c.args.gap c.self.invariant.relation (in_gap c) (fewer c) (taken c) (rw same at c.move_bits.ensures.lengths) (bits c) i j in_i in_j)

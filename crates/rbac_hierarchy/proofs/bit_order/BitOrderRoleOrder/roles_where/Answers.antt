@@ -1,6 +1,5 @@
-use Rattle.std.proofs.Common.{◌≡◌, ◌||◌, ◌&&◌, refl, ap, sym, ◌∙◌}
+use Rattle.std.proofs.Common.{◌&&◌, refl, ap, sym, ◌∙◌}
 use Rattle.std.proofs.lemmas.List.Kept.{IsStrictlySortedBy-filter}
-use Rattle.sorted_keys.specs.Keys.{has}
 use Rattle.sorted_keys.proofs.Gathered.{sorted_set_of}
 use Rattle.sorted_keys.proofs.Members.{has-filter, same_keys}
 use Rattle.rbac_terms.specs.Name.{name_cmp}

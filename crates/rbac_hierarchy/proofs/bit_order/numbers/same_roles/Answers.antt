@@ -1,4 +1,4 @@
-use Rattle.std.proofs.Common.{sym, ◌∙◌}
+use Rattle.std.proofs.Common.{sym}
 use Rattle.std.proofs.lemmas.Bool.{both_ways}
 use Rattle.rbac_hierarchy.proofs.NumberLemmas.{roles_same, roles_among}
 use Rattle.rbac_hierarchy.proofs.bit_order.numbers.same_roles.Goals as goal
