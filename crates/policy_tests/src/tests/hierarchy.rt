@@ -1,7 +1,9 @@
 //! Each public call of `rbac_hierarchy` with ample memory. What is expected was written by hand.
+ghost use Rattle.std.specs.Prelude.{◌≤◌, length};
+
 use super::named::{After, assert_found, assert_names, name};
 use rbac_hierarchy::laws::run_order;
-use rbac_hierarchy::{BitOrder, Change, ListOrder, RoleOrder};
+use rbac_hierarchy::{BitOrder, Change, ListOrder, Plan, RoleOrder};
 use rbac_terms::{Name, NameSet};
 use std::alloc::{AllocError, Global};
 use std::process::Abort;
@@ -328,62 +330,67 @@ fn the_last_role_takes_the_place_of_a_removed_one<O: RoleOrder + Drop>(
     drop(hierarchy);
 }
 
+// A change, with the names of its roles.
+#[derive(Clone, Copy)]
+enum Ask {
+    Add(&'static str),
+    Remove(&'static str),
+    Declare(&'static str, &'static str),
+    Retract(&'static str, &'static str),
+}
+
+// The names of the roles of a change.
+fn roles_of(ask: Ask) -> (&'static str, &'static str) {
+    match ask {
+        Ask::Add(role) | Ask::Remove(role) => (role, role),
+        Ask::Declare(ascendant, descendant) | Ask::Retract(ascendant, descendant) => {
+            (ascendant, descendant)
+        }
+    }
+}
+
+fn change_of<'a>(ask: Ask, first: &'a Name, second: &'a Name) -> Change<'a> {
+    match ask {
+        Ask::Add(_) => Change::AddRole { role: first },
+        Ask::Remove(_) => Change::RemoveRole { role: first },
+        Ask::Declare(_, _) => Change::Declare {
+            ascendant: first,
+            descendant: second,
+        },
+        Ask::Retract(_, _) => Change::Retract {
+            ascendant: first,
+            descendant: second,
+        },
+    }
+}
+
 // Makes one change.
-fn run<O: RoleOrder>(rt: &impl Abort, alloc: Global, hierarchy: &mut O, change: Change) {
-    let changes = [change];
+fn run<O: RoleOrder>(rt: &impl Abort, alloc: Global, hierarchy: &mut O, ask: Ask) {
+    let (first, second) = roles_of(ask);
+    let (first, second) = (name(rt, alloc, first), name(rt, alloc, second));
+    let changes = [change_of(ask, &first, &second)];
     run_order(alloc, hierarchy, &changes).expect(rt, "memory");
-    drop(changes);
-}
-
-fn adding(rt: &impl Abort, alloc: Global, role: &str) -> Change {
-    let role = name(rt, alloc, role);
-    Change::AddRole { role }
-}
-
-fn removing(rt: &impl Abort, alloc: Global, role: &str) -> Change {
-    let role = name(rt, alloc, role);
-    Change::RemoveRole { role }
-}
-
-fn declaring(rt: &impl Abort, alloc: Global, ascendant: &str, descendant: &str) -> Change {
-    Change::Declare {
-        ascendant: name(rt, alloc, ascendant),
-        descendant: name(rt, alloc, descendant),
-    }
-}
-
-fn retracting(rt: &impl Abort, alloc: Global, ascendant: &str, descendant: &str) -> Change {
-    let (ascendant, descendant) = (name(rt, alloc, ascendant), name(rt, alloc, descendant));
-    Change::Retract {
-        ascendant,
-        descendant,
-    }
 }
 
 // Four roles, and two ways from a to d.
 fn run_two_ways<O: RoleOrder>(rt: &impl Abort, alloc: Global, hierarchy: &mut O) {
     for role in ["a", "b", "c", "d"] {
-        run(rt, alloc, hierarchy, adding(rt, alloc, role));
+        run(rt, alloc, hierarchy, Ask::Add(role));
     }
     for (ascendant, descendant) in [("a", "b"), ("a", "c"), ("b", "d"), ("c", "d")] {
-        let change = declaring(rt, alloc, ascendant, descendant);
-        run(rt, alloc, hierarchy, change);
+        run(rt, alloc, hierarchy, Ask::Declare(ascendant, descendant));
     }
 }
 
 fn changes_are_made_in_order<O: RoleOrder + Drop>(rt: &impl Abort, alloc: Global) {
     let mut hierarchy = O::empty(alloc);
     run_two_ways(rt, alloc, &mut hierarchy);
-    for (change, b_of_a, d_of_a) in [
-        (
-            retracting(rt, alloc, "b", "d"),
-            Link::Declared,
-            Link::Inherited,
-        ),
-        (removing(rt, alloc, "b"), Link::Absent, Link::Inherited),
-        (retracting(rt, alloc, "c", "d"), Link::Absent, Link::Absent),
+    for (ask, b_of_a, d_of_a) in [
+        (Ask::Retract("b", "d"), Link::Declared, Link::Inherited),
+        (Ask::Remove("b"), Link::Absent, Link::Inherited),
+        (Ask::Retract("c", "d"), Link::Absent, Link::Absent),
     ] {
-        run(rt, alloc, &mut hierarchy, change);
+        run(rt, alloc, &mut hierarchy, ask);
         let rows = [("a", "b", b_of_a), ("a", "d", d_of_a)];
         assert_links(rt, alloc, &hierarchy, &rows);
         assert_links(rt, alloc, &hierarchy, &[("b", "d", Link::Absent)]);
@@ -395,14 +402,14 @@ fn changes_are_made_in_order<O: RoleOrder + Drop>(rt: &impl Abort, alloc: Global
 fn changes_that_do_not_hold_are_passed_over<O: RoleOrder + Drop>(rt: &impl Abort, alloc: Global) {
     let mut hierarchy: O = hierarchy_of(rt, alloc, &TWO_PATHS);
     let before = copy_of(rt, alloc, &hierarchy);
-    for change in [
-        declaring(rt, alloc, "c", "a"),
-        declaring(rt, alloc, "a", "z"),
-        adding(rt, alloc, "a"),
-        removing(rt, alloc, "z"),
-        retracting(rt, alloc, "c", "a"),
+    for ask in [
+        Ask::Declare("c", "a"),
+        Ask::Declare("a", "z"),
+        Ask::Add("a"),
+        Ask::Remove("z"),
+        Ask::Retract("c", "a"),
     ] {
-        run(rt, alloc, &mut hierarchy, change);
+        run(rt, alloc, &mut hierarchy, ask);
     }
     assert!(rt; hierarchy.same(&before));
     drop(hierarchy);
@@ -443,6 +450,80 @@ fn rules_of_lists(rt: HostRuntime) -> Result<(), Fail> {
     Ok(())
 }
 
+// Plans that the path from a to c that leads past b goes past d.
+fn plan_a_way<'a>(
+    rt: &impl Abort,
+    alloc: Global,
+    hierarchy: &mut BitOrder,
+    a: &'a Name,
+    b: &'a Name,
+    c: &'a Name,
+    d: &'a Name,
+) -> Plan<'a>
+    ensures { length result ≤ hierarchy.new.room }
+{
+    let changes = [
+        Change::AddRole { role: d },
+        Change::Declare {
+            ascendant: a,
+            descendant: d,
+        },
+        Change::Declare {
+            ascendant: d,
+            descendant: c,
+        },
+        Change::Declare {
+            ascendant: c,
+            descendant: a,
+        },
+        Change::Retract {
+            ascendant: a,
+            descendant: c,
+        },
+        Change::RemoveRole { role: b },
+    ];
+    hierarchy.plan(alloc, &changes).expect(rt, "memory")
+}
+
+// Plans it, and makes the changes where that is wanted.
+fn go_past_d(rt: &impl Abort, alloc: Global, hierarchy: &mut BitOrder, is_made: bool) {
+    let (a, b) = (name(rt, alloc, "a"), name(rt, alloc, "b"));
+    let (c, d) = (name(rt, alloc, "c"), name(rt, alloc, "d"));
+    let plan = plan_a_way(rt, alloc, hierarchy, &a, &b, &c, &d);
+    if is_made {
+        hierarchy.commit(plan);
+    }
+}
+
+#[test]
+fn a_plan_that_is_dropped_changes_nothing(rt: HostRuntime) {
+    let alloc = rt.alloc();
+    let mut hierarchy: BitOrder = hierarchy_of(&rt, alloc, &TWO_PATHS);
+    let before = copy_of(&rt, alloc, &hierarchy);
+    go_past_d(&rt, alloc, &mut hierarchy, false);
+    assert!(rt; hierarchy.same(&before));
+    drop(hierarchy);
+    drop(before);
+}
+
+#[test]
+fn planned_changes_are_made_in_order(rt: HostRuntime) {
+    let alloc = rt.alloc();
+    let mut hierarchy: BitOrder = hierarchy_of(&rt, alloc, &TWO_PATHS);
+    go_past_d(&rt, alloc, &mut hierarchy, true);
+    let rows = [
+        ("a", "d", Link::Declared),
+        ("d", "c", Link::Declared),
+        // A pair that would close a circle is passed over, and the second path still gives what one gave.
+        ("c", "a", Link::Absent),
+        ("a", "c", Link::Inherited),
+        ("a", "b", Link::Absent),
+    ];
+    assert_links(&rt, alloc, &hierarchy, &rows);
+    assert_around(&rt, alloc, &hierarchy, "a", &["a", "c", "d"], &["a"]);
+    drop(hierarchy);
+}
+
 // Seventy roles: their rows take more than one word.
 fn add_seventy(rt: &impl Abort, alloc: Global, hierarchy: &mut BitOrder) {
     for at in 0..70u8 {
@@ -456,11 +537,8 @@ fn rows_grow_past_a_word(rt: HostRuntime) -> Result<(), Fail> {
     let alloc = rt.alloc();
     let mut hierarchy = BitOrder::empty(alloc);
     add_seventy(&rt, alloc, &mut hierarchy);
-    for change in [
-        declaring(&rt, alloc, "r00", "r69"),
-        declaring(&rt, alloc, "r69", "r63"),
-    ] {
-        run(&rt, alloc, &mut hierarchy, change);
+    for ask in [Ask::Declare("r00", "r69"), Ask::Declare("r69", "r63")] {
+        run(&rt, alloc, &mut hierarchy, ask);
     }
     let rows = [
         ("r00", "r63", Link::Inherited),
@@ -470,8 +548,7 @@ fn rows_grow_past_a_word(rt: HostRuntime) -> Result<(), Fail> {
     assert_links(&rt, alloc, &hierarchy, &rows);
     let row = ["r00", "r63", "r69"];
     assert_around(&rt, alloc, &hierarchy, "r63", &["r63"], &row);
-    let change = removing(&rt, alloc, "r01");
-    run(&rt, alloc, &mut hierarchy, change);
+    run(&rt, alloc, &mut hierarchy, Ask::Remove("r01"));
     assert_around(&rt, alloc, &hierarchy, "r00", &row, &["r00"]);
     drop(hierarchy);
     Ok(())
