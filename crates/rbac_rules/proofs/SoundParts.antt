@@ -1,6 +1,6 @@
 -- What the proofs share that a command keeps a policy sound: preconditions that hold, and what stays of sets and sessions.
-use Rattle.std.proofs.Common.{List, [], ◌∷◌, length, Bool, true, false, not, cond, ◌||◌, ◌&&◌, ◌≡◌, ◌≤◌, ◌+◌, IsTrue, Some, None, refl, ◌∙◌}
-use Rattle.std.proofs.lemmas.Bool.{and_parts, false≢true}
+use Rattle.std.proofs.Common.{List, [], ◌∷◌, length, Bool, true, false, not, cond, ◌&&◌, ◌≡◌, ◌≤◌, IsTrue, Some, None, refl}
+use Rattle.std.proofs.lemmas.Bool.{and_parts}
 use Rattle.std.specs.List.{AllByRecursion as Each}
 use Rattle.std.specs.List.Sorted.{IsStrictlySortedBy}
 use Rattle.sorted_keys.specs.Keys.{has, by_key}

@@ -2,7 +2,8 @@
 ghost use Rattle.std.specs.Prelude.{◌≤◌, length};
 
 use super::named::{assert_names, name, name_set};
-use rbac_separation::{CountChange, CountPlan, Counts, RoleSet, SetChange, SetPlan, SetTable};
+use rbac_separation::{CountPlan, Counts, Numbering, RoleSet, SetChange, SetPlan, SetTable};
+use rbac_terms::Name;
 use sorted_keys::{Duplicate, Same};
 use std::alloc::Global;
 use std::process::Abort;
@@ -372,24 +373,32 @@ fn a_plan_of_sets_changes_nothing_until_its_commit(rt: HostRuntime) {
     drop(sets);
 }
 
-// Plans the number 3 of d and ann, and then another.
-fn plan_numbers(rt: &impl Abort, alloc: Global, counts: &mut Counts, last: u32) -> CountPlan
+// The same number for all.
+#[derive(Drop)]
+struct OneNumber {
+    number: u32,
+}
+
+impl Numbering for OneNumber {
+    ghost use Rattle.std.specs.Prelude.{true};
+
+    ghost number = { λ one _ _. one.number };
+
+    ghost is_numbered = { λ _ _ _. true };
+
+    fn number(&self, _set: &Name, _user: &Name) -> u32 {
+        self.number
+    }
+}
+
+// Plans another number of d and ann.
+fn plan_number(rt: &impl Abort, alloc: Global, counts: &mut Counts) -> CountPlan
     ensures { length result ≤ counts.new.room }
 {
-    let (set, user) = (name(rt, alloc, "d"), name(rt, alloc, "ann"));
-    let changes = [
-        CountChange::Put {
-            set: &set,
-            user: &user,
-            number: 3,
-        },
-        CountChange::Put {
-            set: &set,
-            user: &user,
-            number: last,
-        },
-    ];
-    counts.plan(alloc, &changes).expect(rt, "memory")
+    let mut pairs = Vec::new(alloc);
+    let pair = (name(rt, alloc, "d"), name(rt, alloc, "ann"));
+    pairs.push(pair).expect(rt, "memory");
+    counts.plan(pairs).expect(rt, "memory")
 }
 
 fn number_of_ann(rt: &impl Abort, alloc: Global, counts: &Counts) -> u32 {
@@ -400,12 +409,12 @@ fn number_of_ann(rt: &impl Abort, alloc: Global, counts: &Counts) -> u32 {
 fn a_plan_of_numbers_changes_nothing_until_its_commit(rt: HostRuntime) {
     let alloc = rt.alloc();
     let mut counts = Counts::empty(alloc);
-    let plan = plan_numbers(&rt, alloc, &mut counts, 2);
+    let plan = plan_number(&rt, alloc, &mut counts);
     assert_eq!(rt; number_of_ann(&rt, alloc, &counts), 0);
-    counts.commit(plan);
+    counts.commit(plan, &OneNumber { number: 2 });
     assert_eq!(rt; number_of_ann(&rt, alloc, &counts), 2);
-    let plan = plan_numbers(&rt, alloc, &mut counts, 0);
-    counts.commit(plan);
+    let plan = plan_number(&rt, alloc, &mut counts);
+    counts.commit(plan, &OneNumber { number: 0 });
     assert_eq!(rt; number_of_ann(&rt, alloc, &counts), 0);
     drop(counts);
 }

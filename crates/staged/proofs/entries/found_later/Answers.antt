@@ -1,4 +1,4 @@
-use Rattle.std.proofs.Common.{◌≡◌, take, ap, sym, ◌∙◌}
+use Rattle.std.proofs.Common.{take, ap, sym, ◌∙◌}
 use Rattle.std.specs.FinMap.Entries.{find}
 use Rattle.staged.specs.Entries.{after_entries, with_entry}
 use Rattle.staged.proofs.MadeLemmas.{made_more}
