@@ -72,7 +72,7 @@ impl Relation {
         ensures not_smaller { self.old.room ≤ self.new.room }
     {
         self.rows.reserve(more)?;
-        let words = (self.rows.len() + more) / 64 + 1;
+        let words = (self.rows.len() + more).div_ceil(64);
         self.width = widen_both(&mut self.rows, &mut self.spare, self.width, words)?;
         add_spare(alloc, &mut self.spare, more, self.width)
     }
