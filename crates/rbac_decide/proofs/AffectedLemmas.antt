@@ -12,12 +12,12 @@ use Rattle.rbac_terms.specs.declared.command.Command.{Command}
 use Rattle.rbac_terms.specs.declared.command.Command.TheVariants.{DeleteUser, DeleteRole, AssignUser, DeassignUser, AddInheritance, DeleteInheritance, CreateSet, DeleteSet, AddRoleMember, DeleteRoleMember}
 use Rattle.rbac_terms.specs.declared.separation.Separation.{Separation}
 use Rattle.rbac_terms.specs.declared.separation.Separation.TheVariants.{Static, Dynamic}
-use Rattle.sorted_keys.proofs.Ties.{one_key, ties_itself, ties_flip, ties-pair}
-use Rattle.rbac_terms.proofs.NameLemmas.{names_total, names_exact, pairs_total}
+use Rattle.sorted_keys.proofs.Ties.{ties_flip, ties-pair}
+use Rattle.rbac_terms.proofs.NameLemmas.{names_total, names_exact}
 use Rattle.rbac_rules.proofs.SoundSeparation.{is_false}
 use Rattle.rbac_hierarchy.proofs.Kept.{any-append}
 use Rattle.rbac_hierarchy.proofs.LoopLemmas.{any_one_more}
-use Rattle.rbac_separation.specs.Counts.{Counts, numbers_of, with_number, without_user}
+use Rattle.rbac_separation.specs.Counts.{Counts, numbers_of, without_user}
 use Rattle.rbac_decide.specs.declared.tables.Tables.{Tables}
 use Rattle.rbac_decide.specs.Tables.{state_of}
 use Rattle.rbac_decide.specs.Counting.{authorized_users_by, juniors_by, count_by_tables, breaks_some, AreCountsBy, IsCommandStep, touches, is_touched, of_touched, of_set, may_change, without_static, remaining}

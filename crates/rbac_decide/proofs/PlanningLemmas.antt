@@ -1,7 +1,7 @@
 -- What is planned of a command, and then what it takes out, is its change.
-use Rattle.std.proofs.Common.{◌≡◌, true, false, cond, not, ◌&&◌, refl, sym, ap, ◌∙◌}
-use Rattle.std.proofs.lemmas.Bool.{and_parts, false≢true, not-false}
-use Rattle.sorted_keys.specs.Keys.{has, with_key}
+use Rattle.std.proofs.Common.{◌≡◌, Bool, true, false, cond, not, ◌&&◌, refl, sym, ap, ◌∙◌}
+use Rattle.std.proofs.lemmas.Bool.{and_parts, not-false}
+use Rattle.sorted_keys.specs.Keys.{has, with_key, without}
 use Rattle.sorted_keys.proofs.Kept.{still}
 use Rattle.rbac_terms.specs.Name.{Name, name_cmp, pair_cmp}
 use Rattle.rbac_terms.specs.Inheritance.{inherits}
@@ -11,7 +11,7 @@ use Rattle.rbac_terms.specs.Rows.{preconditions}
 use Rattle.rbac_terms.specs.Change.{change}
 use Rattle.rbac_terms.specs.declared.separation.Separation.TheVariants.{Static, Dynamic}
 use Rattle.rbac_terms.specs.declared.command.Command.{Command}
-use Rattle.rbac_terms.specs.declared.command.Command.TheVariants.{AddUser, DeleteUser, AddRole, DeleteRole, AssignUser, DeassignUser, GrantPermission, RevokePermission, AddInheritance, DeleteInheritance, AddAscendant, AddDescendant, CreateSet, DeleteSet, AddRoleMember, DeleteRoleMember, SetCardinality, CreateSession, DeleteSession, AddActiveRole, DropActiveRole, CheckAccess, Review as ReviewCommand}
+use Rattle.rbac_terms.specs.declared.command.Command.TheVariants.{AddRole, DeleteRole, AddInheritance, AddAscendant, AddDescendant, CreateSet, AddRoleMember}
 use Rattle.rbac_terms.proofs.NameLemmas.{names_total}
 use Rattle.rbac_rules.proofs.InheritanceLemmas.{inherits_iff}
 use Rattle.rbac_rules.proofs.SoundParts.{none_fails}
@@ -19,9 +19,10 @@ use Rattle.rbac_rules.proofs.SoundRoles.{is_there, not_inherited, inherits_nothi
 use Rattle.rbac_rules.proofs.SoundSeparation.{is_false}
 use Rattle.rbac_hierarchy.specs.Changes.{with_pair}
 use Rattle.rbac_hierarchy.specs.Order.{Order}
+use Rattle.rbac_rolesets.specs.Sets.{Sets}
 use Rattle.rbac_decide.specs.declared.tables.Tables.{Tables}
-use Rattle.rbac_decide.specs.Planning.{sets_after, order_after, role_sets_after, sessions_after, taken_out, IsGrown}
-use Rattle.rbac_decide.specs.Tables.{state_of, IsUndenied}
+use Rattle.rbac_decide.specs.Planning.{sets_after, order_after, role_sets_after, sessions_after, taken_out, roles_left, IsGrown}
+use Rattle.rbac_decide.specs.Tables.{state_of, HasSameRoles, IsUndenied}
 
 -- the state of tables with what a command makes of each
 abbrev grown : Command → Tables → Vocabulary → State
@@ -104,3 +105,26 @@ module _ (t : Tables) (v : Vocabulary) where
 
 pub made_by_plan : (c : Command) (t g : Tables) → IsGrown c t g → IsUndenied c t → (v : Vocabulary) → taken_out c (state_of g v) ≡ change c (state_of t v)
 made_by_plan c t g h u v = ap (taken_out c) (grown_state c t g h v) ∙ then_taken_out t v c u
+
+-- ---- The roles of the role sets go with those of the hierarchy
+
+with_pair_roles : (a d : Name) (h : Order) → (with_pair a d h).roles ≡ h.roles
+with_pair_roles a d h = go (has name_cmp a h.roles && (has name_cmp d h.roles && not (inherits h.roles h.declared d a)))
+  where
+    go : (b : Bool) → (cond b (record h { declared = with_key pair_cmp (a, d) h.declared }) h).roles ≡ h.roles
+    go true = refl
+    go false = refl
+
+roles_after : (c : Command) (h : Order) (s : Sets) → h.roles ≡ s.roles → (order_after c h).roles ≡ roles_left c (sets_after c s).roles
+roles_after (AddRole role) h s same = ap (with_key name_cmp role) same
+roles_after (DeleteRole role) h s same = ap (without name_cmp role) same
+roles_after (AddInheritance a d) h s same = with_pair_roles a d h ∙ same
+roles_after (AddAscendant a d) h s same = with_pair_roles a d (record h { roles = with_key name_cmp a h.roles }) ∙ ap (with_key name_cmp a) same
+roles_after (AddDescendant a d) h s same = with_pair_roles a d (record h { roles = with_key name_cmp d h.roles }) ∙ ap (with_key name_cmp d) same
+roles_after c h s same = same
+
+pub same_roles_by_plan : (c : Command) (t g u : Tables) → IsGrown c t g → u.sets.content.roles ≡ roles_left c g.sets.content.roles → u.hierarchy.content ≡ g.hierarchy.content → HasSameRoles t → HasSameRoles u
+same_roles_by_plan c t g u h roles order same =
+    ap (λ (o : Order). o.roles) (order ∙ h.hierarchy)
+    ∙ roles_after c t.hierarchy.content t.sets.content same
+    ∙ sym (roles ∙ ap (λ (x : Sets). roles_left c x.roles) h.sets)

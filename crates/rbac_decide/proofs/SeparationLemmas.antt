@@ -1,5 +1,5 @@
 -- What separation of duty asks of the state after a change, asked of the state before it.
-use Rattle.std.proofs.Common.{List, [], ◌∷◌, count_by, Bool, true, false, not, cond, ◌||◌, ◌&&◌, ◌≡◌, Option, Some, None, is_some, Result, Ok, Err, IfOk, refl, sym, ap, ◌∙◌, subst, ⊎_elim}
+use Rattle.std.proofs.Common.{List, [], ◌∷◌, Bool, true, false, not, cond, ◌||◌, ◌&&◌, ◌≡◌, Option, Some, None, is_some, Result, Ok, Err, IfOk, refl, sym, ap, ◌∙◌, subst, ⊎_elim}
 use Rattle.std.proofs.lemmas.Bool.{or_cases, or_left, or_right, and_parts, and_from, false≢true}
 use Rattle.std.specs.declared.cmp.Ordering.{Ordering}
 use Rattle.std.specs.declared.cmp.Ordering.TheVariants.{Less, Equal, Greater}
@@ -9,7 +9,6 @@ use Rattle.std.specs.Option.{option_map_or}
 use Rattle.std.specs.FinMap.Entries.{find, put, by_order}
 use Rattle.sorted_keys.specs.Keys.{has, with_key, updated}
 use Rattle.sorted_keys.proofs.Members.{has-with_key}
-use Rattle.sorted_keys.proofs.Lists.{count-same}
 use Rattle.rbac_terms.specs.Name.{Name, name_cmp, pair_cmp}
 use Rattle.rbac_terms.specs.State.{State, Session}
 use Rattle.rbac_terms.specs.Separation.{RoleSet, is_well_sized, is_broken_by, is_broken, first_broken}

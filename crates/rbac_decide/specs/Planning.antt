@@ -1,14 +1,12 @@
 -- The change of a command in two parts: what may want memory, told for each table, and what is taken out after it, which wants none.
-use Rattle.std.specs.Prelude.{◌≡◌, ◌≤◌, List, length}
+use Rattle.std.specs.Prelude.{◌≡◌, ◌≤◌, List, [], Option, length}
 use Rattle.std.specs.FinMap.Entries.{put}
-use Rattle.std.specs.Ordering.{eq_by_cmp}
 use Rattle.sorted_keys.specs.Keys.{has, with_key, without, updated}
 use Rattle.staged.specs.Entries.{after_entries}
 use Rattle.staged.specs.Made.{made_all}
 use Rattle.rbac_terms.specs.Name.{Name, name_cmp, pair_cmp, grant_cmp}
 use Rattle.rbac_terms.specs.Separation.{RoleSet}
 use Rattle.rbac_terms.specs.State.{State, Session}
-use Rattle.rbac_terms.specs.Vocabulary.{Vocabulary}
 use Rattle.rbac_terms.specs.Relations.{without_role, without_pairs_of}
 use Rattle.rbac_terms.specs.Authorization.{purge}
 use Rattle.rbac_terms.specs.Change.{change, end_sessions, with_active, with_member}
@@ -18,10 +16,15 @@ use Rattle.rbac_terms.specs.declared.command.Command.{Command}
 use Rattle.rbac_terms.specs.declared.command.Command.TheVariants.{AddUser, DeleteUser, AddRole, DeleteRole, AssignUser, DeassignUser, GrantPermission, RevokePermission, AddInheritance, DeleteInheritance, AddAscendant, AddDescendant, CreateSet, DeleteSet, AddRoleMember, DeleteRoleMember, SetCardinality, CreateSession, DeleteSession, AddActiveRole, DropActiveRole}
 use Rattle.rbac_rolesets.specs.Changes.{made as made_sets}
 use Rattle.rbac_rolesets.specs.Sets.{Sets}
+use Rattle.rbac_rolesets.specs.declared.change.Step.{Step as SetsStep}
+use Rattle.rbac_hierarchy.specs.declared.change.Step.{Step as OrderStep}
 use Rattle.rbac_hierarchy.specs.Changes.{with_pair, made as made_order}
 use Rattle.rbac_hierarchy.specs.Order.{Order}
+use Rattle.rbac_separation.specs.Changes.{changed as changed_set}
+use Rattle.rbac_separation.specs.declared.set_plan.SetChange.{SetChange}
 use Rattle.rbac_decide.specs.declared.tables.Tables.{Tables}
 use Rattle.rbac_decide.specs.declared.tables.planning.TablesPlan.{TablesPlan}
+use Rattle.rbac_decide.specs.declared.tables.planning.TablesPlan.TheVariants.{OfSets, OfRoles, OfOrder, OfRoleSets, OfSessions}
 
 -- users, roles, UA and PA
 abbrev pub sets_after : Command → Sets → Sets
@@ -86,15 +89,46 @@ pub record IsGrown (command : Command) (t grown : Tables) : Type 0 where
   pub dynamic_sets : grown.dynamic_sets.content ≡ role_sets_after Dynamic command t.dynamic_sets.content
   pub sessions : grown.sessions.content ≡ sessions_after command t.sessions.content
 
--- the plans make of each table what the command makes of it, and there is room for them
-pub record IsPlanned (command : Command) (plan : TablesPlan) (t : Tables) : Type 0 where
-  pub sets : made_all made_sets plan.sets t.sets.content ≡ sets_after command t.sets.content
-  pub hierarchy : made_all made_order plan.hierarchy t.hierarchy.content ≡ order_after command t.hierarchy.content
-  pub static_sets : after_entries name_cmp plan.static_sets t.static_sets.content ≡ role_sets_after Static command t.static_sets.content
-  pub dynamic_sets : after_entries name_cmp plan.dynamic_sets t.dynamic_sets.content ≡ role_sets_after Dynamic command t.dynamic_sets.content
-  pub sessions : after_entries name_cmp plan.sessions t.sessions.content ≡ sessions_after command t.sessions.content
-  pub room_of_sets : length plan.sets ≤ t.sets.room
-  pub room_of_hierarchy : length plan.hierarchy ≤ t.hierarchy.room
-  pub room_of_static_sets : length plan.static_sets ≤ t.static_sets.room
-  pub room_of_dynamic_sets : length plan.dynamic_sets ≤ t.dynamic_sets.room
-  pub room_of_sessions : length plan.sessions ≤ t.sessions.room
+-- what a plan has for each table
+abbrev pub steps_of_sets : TablesPlan → List SetsStep
+steps_of_sets (OfSets sets) = sets
+steps_of_sets (OfRoles sets hierarchy) = sets
+steps_of_sets plan = []
+
+abbrev pub steps_of_order : TablesPlan → List OrderStep
+steps_of_order (OfRoles sets hierarchy) = hierarchy
+steps_of_order (OfOrder hierarchy) = hierarchy
+steps_of_order plan = []
+
+abbrev pub steps_of_role_sets : Separation → TablesPlan → List (Name × Option RoleSet)
+steps_of_role_sets Static (OfRoleSets Static role_sets) = role_sets
+steps_of_role_sets Dynamic (OfRoleSets Dynamic role_sets) = role_sets
+steps_of_role_sets kind plan = []
+
+abbrev pub steps_of_sessions : TablesPlan → List (Name × Option Session)
+steps_of_sessions (OfSessions sessions) = sessions
+steps_of_sessions plan = []
+
+-- a plan makes this of the tables, and there is room for it in each
+pub record MakesOf (plan : TablesPlan) (t : Tables) (new_sets : Sets) (new_order : Order) (new_static new_dynamic : List (Name × RoleSet)) (new_sessions : List (Name × Session)) : Type 0 where
+  pub sets : made_all made_sets (steps_of_sets plan) t.sets.content ≡ new_sets
+  pub hierarchy : made_all made_order (steps_of_order plan) t.hierarchy.content ≡ new_order
+  pub static_sets : after_entries name_cmp (steps_of_role_sets Static plan) t.static_sets.content ≡ new_static
+  pub dynamic_sets : after_entries name_cmp (steps_of_role_sets Dynamic plan) t.dynamic_sets.content ≡ new_dynamic
+  pub sessions : after_entries name_cmp (steps_of_sessions plan) t.sessions.content ≡ new_sessions
+  pub room_of_sets : length (steps_of_sets plan) ≤ t.sets.room
+  pub room_of_hierarchy : length (steps_of_order plan) ≤ t.hierarchy.room
+  pub room_of_static_sets : length (steps_of_role_sets Static plan) ≤ t.static_sets.room
+  pub room_of_dynamic_sets : length (steps_of_role_sets Dynamic plan) ≤ t.dynamic_sets.room
+  pub room_of_sessions : length (steps_of_sessions plan) ≤ t.sessions.room
+
+-- it makes of each table what the command makes of it
+abbrev pub IsPlanned : Command → TablesPlan → Tables → Type 0
+IsPlanned command plan t =
+    MakesOf plan t (sets_after command t.sets.content) (order_after command t.hierarchy.content) (role_sets_after Static command t.static_sets.content) (role_sets_after Dynamic command t.dynamic_sets.content) (sessions_after command t.sessions.content)
+
+-- the sets of a kind after a change of a set of one kind
+abbrev pub changed_of_kind : Separation → Separation → SetChange → List (Name × RoleSet) → List (Name × RoleSet)
+changed_of_kind Static Static change es = changed_set change es
+changed_of_kind Dynamic Dynamic change es = changed_set change es
+changed_of_kind table kind change es = es

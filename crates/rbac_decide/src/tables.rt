@@ -4,7 +4,7 @@ ghost use Rattle.rbac_terms.specs.Change.{change};
 ghost use Rattle.rbac_terms.specs.Vocabulary.{Vocabulary as VocabularyValue};
 ghost use Rattle.rbac_terms.specs.State.{founding_state};
 
-use crate::tables::planning::{TablesPlan, plan_order, plan_role_sets, plan_sessions, plan_sets};
+use crate::tables::planning::TablesPlan;
 use rbac_hierarchy::{Hierarchy, RoleOrder};
 use rbac_rolesets::RoleSets;
 use rbac_separation::SetTable;
@@ -70,43 +70,25 @@ impl Tables {
             && self.sessions.same(&other.sessions)
     }
 
-    /// Makes the plans of what a command changes of each table, as far as it may want memory. The sets stay as they are, also where
-    /// memory ends.
-    ///
-    /// # Errors
-    /// `AllocError` where there is no memory for a plan.
-    pub fn plan<'a>(
-        &mut self,
-        alloc: Global,
-        command: &'a Command,
-    ) -> Result<TablesPlan<'a>, AllocError>
-        ensures unchanged { HaveSameSets self.new self.old }
-        ensures planned { IfOk result (λ plan. IsPlanned command.now plan self.new) }
-    {
-        Ok(TablesPlan {
-            sets: plan_sets(alloc, &mut self.sets, command)?,
-            hierarchy: plan_order(alloc, &mut self.hierarchy, command)?,
-            static_sets: plan_role_sets(alloc, &mut self.static_sets, Separation::Static, command)?,
-            dynamic_sets: plan_role_sets(
-                alloc,
-                &mut self.dynamic_sets,
-                Separation::Dynamic,
-                command,
-            )?,
-            sessions: plan_sessions(alloc, &mut self.sessions, command)?,
-        })
-    }
-
     // Makes what was planned for each table.
     fn grow(&mut self, command: &Command, plan: TablesPlan)
         requires { IsPlanned command.now plan self.old }
         ensures { IsGrown command.now self.old self.new }
     {
-        self.sets.commit(plan.sets);
-        self.hierarchy.commit(plan.hierarchy);
-        self.static_sets.commit(plan.static_sets);
-        self.dynamic_sets.commit(plan.dynamic_sets);
-        self.sessions.commit(plan.sessions);
+        match plan {
+            TablesPlan::OfNone => {}
+            TablesPlan::OfSets { sets } => self.sets.commit(sets),
+            TablesPlan::OfRoles { sets, hierarchy } => {
+                self.sets.commit(sets);
+                self.hierarchy.commit(hierarchy);
+            }
+            TablesPlan::OfOrder { hierarchy } => self.hierarchy.commit(hierarchy),
+            TablesPlan::OfRoleSets { kind, role_sets } => match kind {
+                Separation::Static => self.static_sets.commit(role_sets),
+                Separation::Dynamic => self.dynamic_sets.commit(role_sets),
+            },
+            TablesPlan::OfSessions { sessions } => self.sessions.commit(sessions),
+        }
     }
 
     /// Makes the change of a command that is not denied, by its plan. Takes no memory.

@@ -1,216 +1,249 @@
-//! What a command changes of each table, planned as far as it may want memory.
-ghost use Rattle.std.specs.Prelude.{◌≡◌, ◌≤◌, length, IfOk, if◌then◌else◌};
-ghost use Rattle.staged.specs.Entries.{after_entries};
-ghost use Rattle.staged.specs.Made.{made_all};
+//! What a command changes of the tables, planned as far as it may want memory.
+ghost use Rattle.std.specs.Prelude.{IfOk};
+ghost use Rattle.sorted_keys.specs.Keys.{with_key};
 ghost use Rattle.rbac_terms.specs.Name.{name_cmp};
-ghost use Rattle.rbac_rolesets.specs.Changes.{made as made_sets};
-ghost use Rattle.rbac_hierarchy.specs.Changes.{made as made_order};
-ghost use Rattle.rbac_separation.specs.Changes.{changed};
-ghost use Rattle.rbac_decide.specs.Planning.{sets_after, order_after, role_sets_after, sessions_after};
+ghost use Rattle.rbac_terms.specs.declared.separation.Separation.TheVariants.{Static, Dynamic};
+ghost use Rattle.rbac_rolesets.specs.Changes.{changed as changed_sets};
+ghost use Rattle.rbac_hierarchy.specs.Changes.{after, after_one};
+ghost use Rattle.rbac_sessions.specs.Changes.{changed as changed_sessions};
 
-use rbac_hierarchy::{Change as OrderChange, Hierarchy, Plan as OrderPlan};
-use rbac_rolesets::{Change as SetsChange, Plan as SetsPlan, RoleSets};
-use rbac_separation::{SetChange, SetPlan, SetTable};
-use rbac_sessions::{Change as SessionChange, Plan as SessionPlan, Sessions};
-use rbac_terms::{Command, Separation};
+use crate::tables::Tables;
+use rbac_hierarchy::{Change as OrderChange, Plan as OrderPlan};
+use rbac_rolesets::{Change as SetsChange, Plan as SetsPlan};
+use rbac_separation::{SetChange, SetPlan};
+use rbac_sessions::{Change as SessionChange, Plan as SessionPlan};
+use rbac_terms::{Command, Name, Separation};
 use std::alloc::{AllocError, Global};
 
-/// A plan for each table: the changes of a command that may want memory, with all that they want but room.
+/// The changes of a command that may want memory, with all that they want but room: a plan for each table that it changes.
 #[derive(Drop)]
-pub(crate) struct TablesPlan<'a> {
-    pub sets: SetsPlan,
-    pub hierarchy: OrderPlan<'a>,
-    pub static_sets: SetPlan,
-    pub dynamic_sets: SetPlan,
-    pub sessions: SessionPlan,
+pub(crate) enum TablesPlan<'a> {
+    /// Of none: what the command changes it takes out, or it changes nothing.
+    OfNone,
+    /// Of users, UA or PA.
+    OfSets {
+        sets: SetsPlan,
+    },
+    /// Of the roles, in the role sets and in the hierarchy, and of the declared pairs.
+    OfRoles {
+        sets: SetsPlan,
+        hierarchy: OrderPlan<'a>,
+    },
+    /// Of the hierarchy alone.
+    OfOrder {
+        hierarchy: OrderPlan<'a>,
+    },
+    /// Of the sets of a kind.
+    OfRoleSets {
+        kind: Separation,
+        role_sets: SetPlan,
+    },
+    /// Of the sessions.
+    OfSessions {
+        sessions: SessionPlan,
+    },
 }
 
-/// Plans what a command makes of users, roles, UA and PA.
-pub(crate) fn plan_sets(
-    alloc: Global,
-    sets: &mut RoleSets,
-    command: &Command,
-) -> Result<SetsPlan, AllocError>
-    ensures content { sets.new.content ≡ sets.old.content }
-    ensures made { IfOk result (λ plan. made_all made_sets plan sets.old.content ≡ sets_after command.now sets.old.content) }
-    ensures room { IfOk result (λ plan. length plan ≤ sets.new.room) }
-{
-    match command {
-        Command::AddUser { user } => sets.plan(alloc, &[SetsChange::AddUser { user }]),
-        Command::AddRole { role } => sets.plan(alloc, &[SetsChange::AddRole { role }]),
-        Command::AddAscendant { ascendant, .. } => {
-            sets.plan(alloc, &[SetsChange::AddRole { role: ascendant }])
-        }
-        Command::AddDescendant { descendant, .. } => {
-            sets.plan(alloc, &[SetsChange::AddRole { role: descendant }])
-        }
-        Command::AssignUser { user, role } => {
-            sets.plan(alloc, &[SetsChange::Assign { user, role }])
-        }
-        Command::GrantPermission {
-            operation,
-            object,
-            role,
-        } => sets.plan(
-            alloc,
-            &[SetsChange::Grant {
+impl Tables {
+    ghost use Rattle.rbac_decide.specs.Planning.{changed_of_kind, MakesOf, IsPlanned};
+    ghost use Rattle.rbac_decide.specs.Tables.{HaveSameSets};
+
+    fn plan_sets<'a>(
+        &mut self,
+        alloc: Global,
+        change: SetsChange,
+    ) -> Result<TablesPlan<'a>, AllocError>
+        ensures unchanged { HaveSameSets self.new self.old }
+        ensures planned { let t = self.new in IfOk result (λ plan. MakesOf plan t (changed_sets change.entry t.sets.content) t.hierarchy.content t.static_sets.content t.dynamic_sets.content t.sessions.content) }
+    {
+        Ok(TablesPlan::OfSets {
+            sets: self.sets.plan(alloc, &[change])?,
+        })
+    }
+
+    // Plans a new role, and other changes of the hierarchy with it.
+    fn plan_role<'a>(
+        &mut self,
+        alloc: Global,
+        role: &'a Name,
+        changes: &[OrderChange<'a>],
+    ) -> Result<TablesPlan<'a>, AllocError>
+        ensures unchanged { HaveSameSets self.new self.old }
+        ensures planned { let t = self.new in IfOk result (λ plan. MakesOf plan t (record t.sets.content { roles = with_key name_cmp role.now t.sets.content.roles }) (after changes.now t.hierarchy.content) t.static_sets.content t.dynamic_sets.content t.sessions.content) }
+    {
+        Ok(TablesPlan::OfRoles {
+            sets: self.sets.plan(alloc, &[SetsChange::AddRole { role }])?,
+            hierarchy: self.hierarchy.plan(alloc, changes)?,
+        })
+    }
+
+    fn plan_order<'a>(
+        &mut self,
+        alloc: Global,
+        change: OrderChange<'a>,
+    ) -> Result<TablesPlan<'a>, AllocError>
+        ensures unchanged { HaveSameSets self.new self.old }
+        ensures planned { let t = self.new in IfOk result (λ plan. MakesOf plan t t.sets.content (after_one change.entry t.hierarchy.content) t.static_sets.content t.dynamic_sets.content t.sessions.content) }
+    {
+        Ok(TablesPlan::OfOrder {
+            hierarchy: self.hierarchy.plan(alloc, &[change])?,
+        })
+    }
+
+    fn plan_role_sets<'a>(
+        &mut self,
+        alloc: Global,
+        kind: Separation,
+        change: SetChange,
+    ) -> Result<TablesPlan<'a>, AllocError>
+        ensures unchanged { HaveSameSets self.new self.old }
+        ensures planned { let t = self.new in IfOk result (λ plan. MakesOf plan t t.sets.content t.hierarchy.content (changed_of_kind Static kind change.entry t.static_sets.content) (changed_of_kind Dynamic kind change.entry t.dynamic_sets.content) t.sessions.content) }
+    {
+        let role_sets = match kind {
+            Separation::Static => self.static_sets.plan(alloc, &[change])?,
+            Separation::Dynamic => self.dynamic_sets.plan(alloc, &[change])?,
+        };
+        Ok(TablesPlan::OfRoleSets { kind, role_sets })
+    }
+
+    fn plan_sessions<'a>(
+        &mut self,
+        alloc: Global,
+        change: SessionChange,
+    ) -> Result<TablesPlan<'a>, AllocError>
+        ensures unchanged { HaveSameSets self.new self.old }
+        ensures planned { let t = self.new in IfOk result (λ plan. MakesOf plan t t.sets.content t.hierarchy.content t.static_sets.content t.dynamic_sets.content (changed_sessions change.entry t.sessions.content)) }
+    {
+        Ok(TablesPlan::OfSessions {
+            sessions: self.sessions.plan(alloc, &[change])?,
+        })
+    }
+
+    /// Plans what a command changes of the tables, as far as it may want memory. The sets stay as they are, also where memory ends.
+    ///
+    /// # Errors
+    /// `AllocError` where there is no memory for a plan.
+    pub(crate) fn plan<'a>(
+        &mut self,
+        alloc: Global,
+        command: &'a Command,
+    ) -> Result<TablesPlan<'a>, AllocError>
+        ensures unchanged { HaveSameSets self.new self.old }
+        ensures planned { IfOk result (λ plan. IsPlanned command.now plan self.new) }
+    {
+        match command {
+            Command::AddUser { user } => self.plan_sets(alloc, SetsChange::AddUser { user }),
+            Command::AssignUser { user, role } => {
+                self.plan_sets(alloc, SetsChange::Assign { user, role })
+            }
+            Command::GrantPermission {
                 operation,
                 object,
                 role,
-            }],
-        ),
-        _ => Ok(SetsPlan::empty(alloc)),
-    }
-}
-
-/// Plans what a command makes of the roles of the hierarchy and of the declared pairs.
-pub(crate) fn plan_order<'a>(
-    alloc: Global,
-    hierarchy: &mut Hierarchy,
-    command: &'a Command,
-) -> Result<OrderPlan<'a>, AllocError>
-    ensures content { hierarchy.new.content ≡ hierarchy.old.content }
-    ensures made { IfOk result (λ plan. made_all made_order plan hierarchy.old.content ≡ order_after command.now hierarchy.old.content) }
-    ensures room { IfOk result (λ plan. length plan ≤ hierarchy.new.room) }
-{
-    match command {
-        Command::AddRole { role } => hierarchy.plan(alloc, &[OrderChange::AddRole { role }]),
-        Command::DeleteRole { role } => hierarchy.plan(alloc, &[OrderChange::RemoveRole { role }]),
-        Command::AddInheritance {
-            ascendant,
-            descendant,
-        } => hierarchy.plan(
-            alloc,
-            &[OrderChange::Declare {
+            } => self.plan_sets(
+                alloc,
+                SetsChange::Grant {
+                    operation,
+                    object,
+                    role,
+                },
+            ),
+            Command::AddRole { role } => {
+                self.plan_role(alloc, role, &[OrderChange::AddRole { role }])
+            }
+            Command::AddAscendant {
                 ascendant,
                 descendant,
-            }],
-        ),
-        Command::DeleteInheritance {
-            ascendant,
-            descendant,
-        } => hierarchy.plan(
-            alloc,
-            &[OrderChange::Retract {
+            } => self.plan_role(
+                alloc,
+                ascendant,
+                &[
+                    OrderChange::AddRole { role: ascendant },
+                    OrderChange::Declare {
+                        ascendant,
+                        descendant,
+                    },
+                ],
+            ),
+            Command::AddDescendant {
                 ascendant,
                 descendant,
-            }],
-        ),
-        Command::AddAscendant {
-            ascendant,
-            descendant,
-        } => hierarchy.plan(
-            alloc,
-            &[
-                OrderChange::AddRole { role: ascendant },
+            } => self.plan_role(
+                alloc,
+                descendant,
+                &[
+                    OrderChange::AddRole { role: descendant },
+                    OrderChange::Declare {
+                        ascendant,
+                        descendant,
+                    },
+                ],
+            ),
+            Command::DeleteRole { role } => {
+                self.plan_order(alloc, OrderChange::RemoveRole { role })
+            }
+            Command::AddInheritance {
+                ascendant,
+                descendant,
+            } => self.plan_order(
+                alloc,
                 OrderChange::Declare {
                     ascendant,
                     descendant,
                 },
-            ],
-        ),
-        Command::AddDescendant {
-            ascendant,
-            descendant,
-        } => hierarchy.plan(
-            alloc,
-            &[
-                OrderChange::AddRole { role: descendant },
-                OrderChange::Declare {
+            ),
+            Command::DeleteInheritance {
+                ascendant,
+                descendant,
+            } => self.plan_order(
+                alloc,
+                OrderChange::Retract {
                     ascendant,
                     descendant,
                 },
-            ],
-        ),
-        _ => Ok(OrderPlan::empty(alloc)),
-    }
-}
-
-// Plans a change of a set of one kind in the table of that kind, and nothing in the other.
-fn plan_of_kind(
-    alloc: Global,
-    table: &mut SetTable,
-    is_its_kind: bool,
-    change: SetChange,
-) -> Result<SetPlan, AllocError>
-    ensures content { table.new.content ≡ table.old.content }
-    ensures made { IfOk result (λ plan. after_entries name_cmp plan table.old.content ≡ (if is_its_kind then changed change.entry table.old.content else table.old.content)) }
-    ensures room { IfOk result (λ plan. length plan ≤ table.new.room) }
-{
-    if is_its_kind {
-        table.plan(alloc, &[change])
-    } else {
-        Ok(SetPlan::empty(alloc))
-    }
-}
-
-/// Plans what a command makes of the sets of a kind.
-pub(crate) fn plan_role_sets(
-    alloc: Global,
-    table: &mut SetTable,
-    kind: Separation,
-    command: &Command,
-) -> Result<SetPlan, AllocError>
-    ensures content { table.new.content ≡ table.old.content }
-    ensures made { IfOk result (λ plan. after_entries name_cmp plan table.old.content ≡ role_sets_after kind command.now table.old.content) }
-    ensures room { IfOk result (λ plan. length plan ≤ table.new.room) }
-{
-    match command {
-        Command::CreateSet {
-            kind: own,
-            set,
-            roles,
-            n,
-        } => plan_of_kind(
-            alloc,
-            table,
-            *own == kind,
-            SetChange::Create {
+            ),
+            Command::CreateSet {
+                kind,
                 set,
                 roles,
-                cardinality: *n,
-            },
-        ),
-        Command::AddRoleMember {
-            kind: own,
-            set,
-            role,
-        } => plan_of_kind(
-            alloc,
-            table,
-            *own == kind,
-            SetChange::AddMember { set, role },
-        ),
-        _ => Ok(SetPlan::empty(alloc)),
-    }
-}
-
-/// Plans what a command makes of the sessions.
-pub(crate) fn plan_sessions(
-    alloc: Global,
-    sessions: &mut Sessions,
-    command: &Command,
-) -> Result<SessionPlan, AllocError>
-    ensures content { sessions.new.content ≡ sessions.old.content }
-    ensures made { IfOk result (λ plan. after_entries name_cmp plan sessions.old.content ≡ sessions_after command.now sessions.old.content) }
-    ensures room { IfOk result (λ plan. length plan ≤ sessions.new.room) }
-{
-    match command {
-        Command::CreateSession {
-            user,
-            session,
-            roles,
-        } => sessions.plan(
-            alloc,
-            &[SessionChange::Create {
-                session,
+                n,
+            } => self.plan_role_sets(
+                alloc,
+                *kind,
+                SetChange::Create {
+                    set,
+                    roles,
+                    cardinality: *n,
+                },
+            ),
+            Command::AddRoleMember { kind, set, role } => {
+                self.plan_role_sets(alloc, *kind, SetChange::AddMember { set, role })
+            }
+            Command::CreateSession {
                 user,
+                session,
                 roles,
-            }],
-        ),
-        Command::AddActiveRole { session, role, .. } => {
-            sessions.plan(alloc, &[SessionChange::Activate { session, role }])
+            } => self.plan_sessions(
+                alloc,
+                SessionChange::Create {
+                    session,
+                    user,
+                    roles,
+                },
+            ),
+            Command::AddActiveRole { session, role, .. } => {
+                self.plan_sessions(alloc, SessionChange::Activate { session, role })
+            }
+            Command::DeleteUser { .. }
+            | Command::DeassignUser { .. }
+            | Command::RevokePermission { .. }
+            | Command::DeleteSet { .. }
+            | Command::DeleteRoleMember { .. }
+            | Command::SetCardinality { .. }
+            | Command::DeleteSession { .. }
+            | Command::DropActiveRole { .. }
+            | Command::CheckAccess { .. }
+            | Command::Review(_) => Ok(TablesPlan::OfNone),
         }
-        _ => Ok(SessionPlan::empty(alloc)),
     }
 }
