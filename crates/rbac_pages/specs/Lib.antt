@@ -1,2 +1,5 @@
 pub mod GraphText
+pub mod PageText
+pub mod RefusedText
+pub mod TraceText
 pub mod WhyText

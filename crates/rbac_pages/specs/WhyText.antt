@@ -1,5 +1,5 @@
 -- Why a check is answered as it is.
-use Rattle.std.specs.Prelude.{◌≡◌, ℕ, List, ◌++◌, codes}
+use Rattle.std.specs.Prelude.{ℕ, List, ◌++◌, codes}
 use Rattle.std.specs.List.{flat_map}
 use Rattle.rbac_terms.specs.Name.{Name, Permission}
 use Rattle.rbac_reasons.specs.declared.told.Reason.{Reason}

@@ -4,9 +4,10 @@
 mod marks;
 
 use crate::diagram::marks::{Place, put_arrow, put_cross, put_dot, put_label, put_ring};
-use crate::held::{awaited_of, held_of, put_stamp};
+use crate::held::{awaited_of, held_of};
+use crate::refusing::Sentence;
 use crate::text::put;
-use crate::trace::member_of;
+use crate::trace::{Shown, member_of};
 use rbac_command_text::command_word;
 use rbac_member::Member;
 use rbac_terms::Answer;
@@ -76,8 +77,8 @@ fn put_word(text: &mut Vec<u8>, answer: &Answer) -> Result<(), AllocError> {
 
 // What a submitted event is, behind its stamp.
 fn put_submitted(text: &mut Vec<u8>, event: &Event, stamp: Stamp) -> Result<(), AllocError> {
-    put_stamp(text, stamp)?;
-    text.extend_from_slice(b" ")?;
+    let stamp = Shown { stamp };
+    put(text, format_args!("{stamp} "))?;
     match event {
         Event::Submit { command, .. } => text.extend_from_slice(command_word(command).as_bytes()),
         Event::SubmitBatch { commands, .. } => {
@@ -99,8 +100,8 @@ fn put_waiting(
     let Some(least) = held.first() else {
         return text.extend_from_slice(b"holds nothing");
     };
-    put_stamp(text, *least)?;
-    text.extend_from_slice(b" waits for")?;
+    let stamp = Shown { stamp: *least };
+    put(text, format_args!("{stamp} waits for"))?;
     let awaited = awaited_of(alloc, world, member, *least)?;
     for (place, one) in awaited.iter().enumerate() {
         let (before, number) = (if place == 0 { " " } else { ", " }, one.member);
@@ -172,8 +173,11 @@ impl Diagram {
         put_dot(&mut self.marks, place, "takes")?;
         if let Some(stamp) = acknowledged {
             put_label(&mut self.marks, place)?;
-            put_stamp(&mut self.marks, stamp)?;
-            self.marks.extend_from_slice(b" acknowledges</text>\n")?;
+            let stamp = Shown { stamp };
+            put(
+                &mut self.marks,
+                format_args!("{stamp} acknowledges</text>\n"),
+            )?;
             self.remember(at)?;
         }
         Ok(())
@@ -217,8 +221,10 @@ impl Diagram {
             Some(record) => {
                 put_dot(&mut self.marks, place, "delivers")?;
                 put_label(&mut self.marks, place)?;
-                put_stamp(&mut self.marks, record.stamp)?;
-                self.marks.extend_from_slice(b" ")?;
+                let stamp = Shown {
+                    stamp: record.stamp,
+                };
+                put(&mut self.marks, format_args!("{stamp} "))?;
                 put_word(&mut self.marks, &record.answer)?;
             }
             None => {
@@ -284,7 +290,8 @@ impl Diagram {
         let place = self.place(if known { at } else { 1 }, self.rows);
         put_cross(&mut self.marks, place)?;
         put_label(&mut self.marks, place)?;
-        put(&mut self.marks, format_args!("{refusal}</text>\n"))?;
+        let sentence = Sentence { refusal };
+        put(&mut self.marks, format_args!("{sentence}</text>\n"))?;
         self.rows = self.rows.saturating_add(1);
         Ok(())
     }
