@@ -9,6 +9,7 @@ use Rattle.rbac_lines.specs.Fields.{Reading}
 use Rattle.rbac_lines.specs.Output.{is_read_refused, read_step}
 use Rattle.rbac_pages.specs.RefusedText.{refused_text, refusal_sentence, line_refusal_sentence}
 use Rattle.rbac_pages.specs.TraceText.{step_text}
+use Rattle.rbac_pages.specs.DiagramText.{Drawing, with_row, with_refused_row}
 
 -- the world is that of a run of the schedule, and what is refused there is refused
 abbrev pub MovesLine : World → ℕ → List ℕ → List ℕ → Bool → World → Type 0
@@ -30,3 +31,11 @@ line_traced old number (Err refusal) = refused_text number (line_refusal_sentenc
 abbrev pub TracesLine : World → ℕ → List ℕ → List ℕ → Bool → World → Type 0
 TracesLine old number line text is_refused new =
     (text ≡ line_traced old number (event line)) × (is_refused ≡ is_read_refused old (event line)) × (new ≡ read_step old (event line))
+
+-- the diagram with the row of an event
+abbrev pub drawn_by : World → Drawing → ℕ → Event → Result Outcome Refusal → Drawing
+drawn_by old d number e (Ok outcome) = with_row d number (step old e) e outcome
+drawn_by old d number e (Err refusal) = with_refused_row d number e refusal
+
+abbrev pub drawn_after : World → Drawing → ℕ → Event → Drawing
+drawn_after old d number e = drawn_by old d number e (step_outcome old e)

@@ -2,7 +2,7 @@
 ghost use Rattle.std.specs.Prelude.{◌≡◌, ◌≢◌, ◌⊎◌, ◌++◌, true, ℕ, List, IfOk, OnOk, OnErr, is_err};
 ghost use Rattle.rbac_words.specs.World.{step, step_outcome};
 ghost use Rattle.rbac_pages.specs.RefusedText.{refused_text, line_refusal_sentence};
-ghost use Rattle.rbac_asking.specs.Tracing.{traced_text};
+ghost use Rattle.rbac_asking.specs.Tracing.{traced_text, drawn_after};
 
 use crate::failure::Failure;
 use crate::input::MOST_READS;
@@ -138,6 +138,7 @@ fn draw(
     number: u64,
     event: &Event,
 ) -> Result<bool, AllocError>
+    ensures drawn { OnOk result (diagram.new ≡ drawn_after world.old diagram.old number event.now) }
     ensures refused { IfOk result (λ is_refused. is_refused ≡ is_err (step_outcome world.old event.now)) }
     ensures stepped { OnOk result (world.new ≡ step world.old event.now) }
     ensures starved { OnErr result ((world.new ≡ world.old) ⊎ (world.new ≡ step world.old event.now)) }
@@ -195,7 +196,7 @@ pub(crate) fn picture<'w, R: Read + Drop, W: Write>(
 ) -> Result<(), Failure<'w>> {
     let Founding { group, vocabulary } = founding;
     let world = World::found(alloc, group, vocabulary)?;
-    let diagram = Diagram::new(alloc, &world)?;
+    let diagram = Diagram::new(alloc, &world);
     let mut drawn = Drawn { world, diagram };
     run_lines::<Drawing, R, io::Sink>(
         alloc,

@@ -1,3 +1,4 @@
+pub mod DiagramText
 pub mod GraphText
 pub mod PageText
 pub mod RefusedText

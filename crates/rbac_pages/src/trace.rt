@@ -225,8 +225,8 @@ fn put_taken(
     text.extend_from_slice(b"\n")
 }
 
-// The record at a place of a history.
-fn record_of(history: &[Record], place: Option<usize>) -> Option<&Record>
+/// The record at a place of a history.
+pub(crate) fn record_of(history: &[Record], place: Option<usize>) -> Option<&Record>
     ensures { option_copied result ≡ record_at history.now place }
 {
     match place {
