@@ -1,5 +1,5 @@
 //! A schedule played line by line, with what each line does to its member.
-ghost use Rattle.std.specs.Prelude.{◌≡◌, ◌≢◌, ◌⊎◌, ◌++◌, true, ℕ, List, IfOk, OnOk, OnErr, is_err};
+ghost use Rattle.std.specs.Prelude.{◌≡◌, ◌≢◌, ◌⊎◌, ◌++◌, true, IfOk, OnOk, OnErr, is_err};
 ghost use Rattle.rbac_words.specs.World.{step, step_outcome};
 ghost use Rattle.rbac_pages.specs.RefusedText.{refused_text, line_refusal_sentence};
 ghost use Rattle.rbac_asking.specs.Tracing.{traced_text, drawn_after};

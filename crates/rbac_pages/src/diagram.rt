@@ -5,7 +5,7 @@ ghost use Rattle.std.specs.Option.{option_copied};
 ghost use Rattle.rbac_words.specs.World.{is_member};
 ghost use Rattle.rbac_words.specs.Keeping.Member.{node_of};
 ghost use Rattle.rbac_pages.specs.RefusedText.{refusal_sentence};
-ghost use Rattle.rbac_pages.specs.TraceText.{held_stamps, member_numbers, record_at};
+ghost use Rattle.rbac_pages.specs.TraceText.{member_numbers};
 ghost use Rattle.rbac_pages.specs.DiagramText.{place_at, answer_word, submitted_word, submitted_words, other_number, numbers_of, waiting_words, delivered_words, acknowledged_words, sent_mark, acknowledged_mark, taken_mark, received_mark, delivered_mark, delivery_mark, event_mark, number_mark, arrow_from, event_arrow, taken_arrow, sent_with, begun, with_row, refused_at, refused_mark, with_refused_row, line_number, width_text, size_text, view_width, view_height, view_text, frame_text, style_text, meaning_text, refused_meaning, first_meanings, other_meanings, name_text, member_name, member_text, member_of_number, picture_text};
 
 mod marks;

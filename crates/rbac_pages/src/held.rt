@@ -1,9 +1,9 @@
 //! What a member of a world holds back, and what it waits for, read off what was sent, taken and delivered.
-ghost use Rattle.std.specs.Prelude.{◌≡◌, ◌≤◌, ◌<◌, ◌+◌, ◌^◌, ◌∷◌, [], ◌++◌, ◌&&◌, false, length, filter, Some, None, if◌then◌else◌, IfOk, OnOk};
+ghost use Rattle.std.specs.Prelude.{◌≡◌, ◌<◌, ◌+◌, ◌^◌, ◌∷◌, [], ◌++◌, false, length, filter, IfOk, OnOk};
 ghost use Rattle.std.specs.List.{flat_map, AllByRecursion as Each};
 ghost use Rattle.rbac_words.specs.Stamp.{is_after, has_passed, last_stamp};
 ghost use Rattle.rbac_words.specs.Message.{stamp_of, submitted_at, commands_of, has_bad_batch, has_later};
-ghost use Rattle.rbac_words.specs.World.{is_member, node, heard_of};
+ghost use Rattle.rbac_words.specs.World.{heard_of};
 ghost use Rattle.rbac_words.specs.Keeping.Member.{node_of};
 ghost use Rattle.rbac_pages.specs.TraceText.{stamps_from, held_in, held_of_number, held_stamps, is_awaited, awaited_of_number, awaited};
 

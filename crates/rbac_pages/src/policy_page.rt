@@ -1,6 +1,5 @@
 //! What a policy holds, as a page for people.
-ghost use Rattle.std.specs.Prelude.{◌≡◌, ◌++◌, codes, decimal, IfOk, OnOk};
-ghost use Rattle.std.specs.List.{flat_map};
+ghost use Rattle.std.specs.Prelude.{◌≡◌, ◌++◌, IfOk, OnOk};
 ghost use Rattle.rbac_pages.specs.PageText.{none_text, part_text, user_text, descendants_text, grant_text, role_line, role_text, session_text, set_text, page_text};
 
 use crate::text::{NameTeller, SecondTeller, Teller, put, put_all};

@@ -1,6 +1,6 @@
 //! Why an event of a schedule, or a line of it, is refused, as text. A contract names none of what `thiserror` shows, so the sentences
 //! stand here.
-ghost use Rattle.std.specs.Prelude.{◌≡◌, ◌++◌, IfOk, OnOk};
+ghost use Rattle.std.specs.Prelude.{◌≡◌, IfOk};
 ghost use Rattle.rbac_pages.specs.RefusedText.{refusal_sentence, line_refusal_sentence, refused_text};
 
 use crate::text::put;

@@ -1,8 +1,8 @@
 //! What a line of a schedule does to a member, as text: what it sent, what it holds back, and whom it waits for.
-ghost use Rattle.std.specs.Prelude.{◌≡◌, ◌++◌, codes, IfOk, OnOk};
+ghost use Rattle.std.specs.Prelude.{◌≡◌, ◌++◌, IfOk, OnOk};
 ghost use Rattle.std.specs.Option.{option_copied};
 ghost use Rattle.rbac_words.specs.Keeping.Member.{node_of};
-ghost use Rattle.rbac_pages.specs.TraceText.{line_text, asked_text, sent_text, acknowledged_text, taken_text, delivered_text, record_at, member_of, submitted_text, received_text, done_text, named_text, others_text, held_text, last_text, awaited_text, waits_text, waiting_text, holding_text, state_text, event_text, step_text, numbers_text, standing_text, end_text, held_stamps};
+ghost use Rattle.rbac_pages.specs.TraceText.{asked_text, sent_text, acknowledged_text, taken_text, delivered_text, record_at, member_of, submitted_text, received_text, done_text, named_text, others_text, held_text, last_text, awaited_text, waits_text, waiting_text, holding_text, state_text, event_text, step_text, numbers_text, standing_text, end_text};
 
 use crate::held::{Awaited, MEMBER_NUMBERS, awaited_of, held_of};
 use crate::text::{Teller, put, put_all};

@@ -1,8 +1,8 @@
 //! What a policy holds of one user or of one role.
-ghost use Rattle.std.specs.Prelude.{◌≡◌, ◌∷◌, [], if◌then◌else◌, false, filter, map, IfOk};
+ghost use Rattle.std.specs.Prelude.{◌≡◌, ◌∷◌, [], if◌then◌else◌, filter, map, IfOk};
 ghost use Rattle.std.specs.List.Sorted.{IsStrictlySortedBy};
 ghost use Rattle.std.specs.Ordering.{eq_by_cmp};
-ghost use Rattle.sorted_keys.specs.Keys.{has, repeats};
+ghost use Rattle.sorted_keys.specs.Keys.{has};
 ghost use Rattle.rbac_terms.specs.Name.{Name as NameValue, Permission, name_cmp, pair_cmp, grant_cmp};
 ghost use Rattle.rbac_terms.specs.Inheritance.{juniors, seniors};
 ghost use Rattle.rbac_reasons.specs.Lists.{turned, granted_to};

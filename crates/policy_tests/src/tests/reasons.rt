@@ -94,7 +94,13 @@ fn what_a_policy_holds_of_a_role_is_told(rt: HostRuntime) {
     let policy = a_line_of_roles(&rt, rt.alloc());
     let all = ["boss", "clerk", "head"];
     expect_around(&rt, rt.alloc(), &policy, "head", (&all, &["head"], 0));
-    expect_around(&rt, rt.alloc(), &policy, "boss", (&["boss", "clerk"], &["boss", "head"], 0));
+    expect_around(
+        &rt,
+        rt.alloc(),
+        &policy,
+        "boss",
+        (&["boss", "clerk"], &["boss", "head"], 0),
+    );
     expect_around(&rt, rt.alloc(), &policy, "clerk", (&["clerk"], &all, 1));
     expect_around(&rt, rt.alloc(), &policy, "zz", (&[], &[], 0));
     expect_lent(&rt, rt.alloc(), &policy, "ann", "head");

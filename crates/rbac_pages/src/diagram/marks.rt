@@ -1,5 +1,5 @@
 //! The marks of a diagram.
-ghost use Rattle.std.specs.Prelude.{◌≡◌, ◌++◌, codes, OnOk};
+ghost use Rattle.std.specs.Prelude.{◌≡◌, ◌++◌, OnOk};
 ghost use Rattle.rbac_pages.specs.DiagramText.{arrow_text, circle_right, circle_at, cross_text, dot_text, label_text, line_text, radius_text, stroke_text, text_at, words_at};
 
 use crate::text::{Teller, put};
