@@ -1,6 +1,8 @@
 //! A schedule played line by line, with what each line does to its member.
-ghost use Rattle.std.specs.Prelude.{◌≡◌, ◌≢◌, ◌⊎◌, ◌++◌, true, ℕ, List, IfOk, OnOk, OnErr, is_err};
+ghost use Rattle.std.specs.Prelude.{◌≡◌, ◌≢◌, ◌⊎◌, ◌++◌, true, IfOk, OnOk, OnErr, is_err};
 ghost use Rattle.rbac_words.specs.World.{step, step_outcome};
+ghost use Rattle.rbac_pages.specs.RefusedText.{refused_text, line_refusal_sentence};
+ghost use Rattle.rbac_asking.specs.Tracing.{traced_text, drawn_after};
 
 use crate::failure::Failure;
 use crate::input::MOST_READS;
@@ -21,13 +23,13 @@ impl Taking for Tracing {
     type Over = World;
 
     ghost use Rattle.rbac_words.specs.World.{World as WorldValue};
-    ghost use Rattle.rbac_asking.specs.Tracing.{MovesLine};
+    ghost use Rattle.rbac_asking.specs.Tracing.{TracesLine};
 
     ghost State = { WorldValue };
 
     ghost state = { λ w. w };
 
-    ghost takes = { MovesLine };
+    ghost takes = { TracesLine };
 
     fn take_line(
         world: &mut World,
@@ -51,7 +53,7 @@ fn trace(
     event: &Event,
     text: &mut Vec<u8>,
 ) -> Result<bool, AllocError>
-    ensures grown { OnOk result ((own : List ℕ) × (text.new.items ≡ text.old.items ++ own)) }
+    ensures text { OnOk result (text.new.items ≡ text.old.items ++ traced_text world.old number event.now) }
     ensures refused { IfOk result (λ is_refused. is_refused ≡ is_err (step_outcome world.old event.now)) }
     ensures stepped { OnOk result (world.new ≡ step world.old event.now) }
     ensures starved { OnErr result ((world.new ≡ world.old) ⊎ (world.new ≡ step world.old event.now)) }
@@ -78,7 +80,7 @@ fn refuse(
     refusal: LineRefusal,
     text: &mut Vec<u8>,
 ) -> Result<bool, AllocError>
-    ensures grown { OnOk result ((own : List ℕ) × (text.new.items ≡ text.old.items ++ own)) }
+    ensures text { OnOk result (text.new.items ≡ text.old.items ++ refused_text number (line_refusal_sentence refusal)) }
     ensures refused { IfOk result (λ is_refused. is_refused ≡ true) }
     ensures other { OnOk result (refusal ≢ LineRefusal.NoMemory) }
 {
@@ -136,6 +138,7 @@ fn draw(
     number: u64,
     event: &Event,
 ) -> Result<bool, AllocError>
+    ensures drawn { OnOk result (diagram.new ≡ drawn_after world.old diagram.old number event.now) }
     ensures refused { IfOk result (λ is_refused. is_refused ≡ is_err (step_outcome world.old event.now)) }
     ensures stepped { OnOk result (world.new ≡ step world.old event.now) }
     ensures starved { OnErr result ((world.new ≡ world.old) ⊎ (world.new ≡ step world.old event.now)) }
@@ -193,7 +196,7 @@ pub(crate) fn picture<'w, R: Read + Drop, W: Write>(
 ) -> Result<(), Failure<'w>> {
     let Founding { group, vocabulary } = founding;
     let world = World::found(alloc, group, vocabulary)?;
-    let diagram = Diagram::new(alloc, &world)?;
+    let diagram = Diagram::new(alloc, &world);
     let mut drawn = Drawn { world, diagram };
     run_lines::<Drawing, R, io::Sink>(
         alloc,

@@ -1,1 +1,3 @@
+pub mod HeldLemmas
+pub mod MatchLemmas
 pub mod TextLemmas

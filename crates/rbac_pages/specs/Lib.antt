@@ -1,2 +1,6 @@
+pub mod DiagramText
 pub mod GraphText
+pub mod PageText
+pub mod RefusedText
+pub mod TraceText
 pub mod WhyText

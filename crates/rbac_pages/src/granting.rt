@@ -1,12 +1,13 @@
 //! Why a check is answered as it is.
-ghost use Rattle.std.specs.Prelude.{◌≡◌, ◌++◌, codes, IfOk, OnOk};
+ghost use Rattle.std.specs.Prelude.{◌≡◌, ◌≢◌, ◌++◌, codes, IfOk, OnOk};
 ghost use Rattle.std.specs.List.{flat_map};
 ghost use Rattle.rbac_terms.specs.Effect.{reply};
+ghost use Rattle.rbac_terms.specs.Rows.{first_denial};
 ghost use Rattle.rbac_terms.specs.declared.answer.Answer.TheVariants.{Granted};
 ghost use Rattle.rbac_terms.specs.declared.command.Command.TheVariants.{CheckAccess};
 ghost use Rattle.rbac_reasons.specs.Reason.{IsReason};
 ghost use Rattle.rbac_reasons.specs.declared.told.Reason.{Reason as ReasonValue};
-ghost use Rattle.rbac_pages.specs.WhyText.{inherits_text, granted_text, reason_text};
+ghost use Rattle.rbac_pages.specs.WhyText.{inherits_text, granted_text, reason_text, not_granted_text};
 
 use rbac_decide::Policy;
 use rbac_reasons::{Reason, reason};
@@ -78,7 +79,9 @@ fn refusal_text(
     session: &Name,
     operation: &Name,
     object: &Name,
-) -> Result<Vec<u8>, AllocError> {
+) -> Result<Vec<u8>, AllocError>
+    ensures { IfOk result (λ text. text.items ≡ not_granted_text (first_denial (CheckAccess session.now operation.now object.now) policy.now)) }
+{
     let mut text = Vec::new(alloc);
     match policy.check(session, operation, object) {
         Ok(_) => text.extend_from_slice(
@@ -105,9 +108,10 @@ pub fn why(
     operation: &Name,
     object: &Name,
 ) -> Result<Vec<u8>, AllocError>
-    ensures { reply (CheckAccess session.now operation.now object.now) policy.now ≡ Granted → IfOk result (λ text. (found : ReasonValue)
+    ensures granted { reply (CheckAccess session.now operation.now object.now) policy.now ≡ Granted → IfOk result (λ text. (found : ReasonValue)
         × IsReason policy.now session.now (operation.now, object.now) found
         × (text.items ≡ reason_text session.now (operation.now, object.now) found)) }
+    ensures other { reply (CheckAccess session.now operation.now object.now) policy.now ≢ Granted → IfOk result (λ text. text.items ≡ not_granted_text (first_denial (CheckAccess session.now operation.now object.now) policy.now)) }
 {
     match reason(alloc, policy, session, operation, object)? {
         Some(found) => text_of(alloc, session, operation, object, &found),

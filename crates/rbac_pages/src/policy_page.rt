@@ -1,158 +1,151 @@
 //! What a policy holds, as a page for people.
+ghost use Rattle.std.specs.Prelude.{◌≡◌, ◌++◌, IfOk, OnOk};
+ghost use Rattle.rbac_pages.specs.PageText.{none_text, part_text, user_text, descendants_text, grant_text, role_line, role_text, session_text, set_text, page_text};
 
-use crate::text::{put, put_names};
+use crate::text::{NameTeller, SecondTeller, Teller, put, put_all};
 use rbac_decide::{Policy, RoleSet, Session};
+use rbac_reasons::{assignments_of, declarations_of};
 use rbac_terms::{Name, Separation};
 use std::alloc::{AllocError, Global};
 
-// The pairs at the front whose first name is this one, and the others.
-fn split_first<'p>(
-    pairs: &'p [(Name, Name)],
-    name: &Name,
-) -> (&'p [(Name, Name)], &'p [(Name, Name)]) {
-    let own = pairs.iter().take_while(|pair| pair.0 == *name).count();
-    pairs.split_at(own)
-}
-
-// A grant with its role first.
-type RoleGrant = (Name, (Name, Name));
-
-// The grants from a place on whose role is this one. They are sorted by their roles.
-fn own_grants<'p>(grants: &'p [RoleGrant], from: usize, role: &Name) -> &'p [RoleGrant] {
-    let rest = grants.get(from..).unwrap_or(&[]);
-    let own = rest.iter().take_while(|grant| grant.0 == *role).count();
-    rest.get(..own).unwrap_or(&[])
-}
-
 // Says so where a part of the page has nothing.
-fn put_none(text: &mut Vec<u8>, is_empty: bool) -> Result<(), AllocError> {
-    if is_empty {
-        text.extend_from_slice(b"  none\n")?;
+fn put_none<T>(text: &mut Vec<u8>, things: &[T]) -> Result<(), AllocError>
+    ensures { OnOk result (text.new.items ≡ text.old.items ++ none_text things.now) }
+{
+    match things {
+        [] => text.extend_from_slice(b"  none\n"),
+        _ => Ok(()),
     }
-    Ok(())
 }
 
-// The second names of pairs, each behind a blank.
-fn put_seconds(text: &mut Vec<u8>, pairs: &[(Name, Name)]) -> Result<(), AllocError> {
-    for pair in pairs {
-        text.extend_from_slice(b" ")?;
-        text.extend_from_slice(pair.1.as_bytes())?;
-    }
-    Ok(())
+// A part of the page: what it is about, and a text for each thing of it.
+#[tactic(auto, unfolding(crate::specs::PageText::part_text))]
+fn put_part<T, L: Teller<T, u8>>(
+    text: &mut Vec<u8>,
+    head: &str,
+    teller: &L,
+    things: &[T],
+) -> Result<(), AllocError>
+    ensures { OnOk result (text.new.items ≡ text.old.items ++ part_text head.now (L.told_of teller.now) things.now) }
+{
+    text.extend_from_slice(head.as_bytes())?;
+    put_none(text, things)?;
+    put_all(text, teller, things)
 }
 
-// Each user with the roles that it is assigned.
-fn put_users(text: &mut Vec<u8>, policy: &Policy) -> Result<(), AllocError> {
-    text.extend_from_slice(b"users, and the roles that each is assigned\n")?;
-    put_none(text, policy.users().is_empty())?;
-    let mut pairs = policy.assignments();
-    for user in policy.users() {
-        let (own, others) = split_first(pairs, user);
+// A user with the roles that it is assigned.
+#[derive(Drop)]
+struct UserTeller<'p> {
+    policy: &'p Policy,
+}
+
+impl Teller<Name, u8> for UserTeller<'_> {
+    ghost told_of = { λ teller user. user_text teller.policy.now user };
+
+    fn put(&self, text: &mut Vec<u8>, user: &Name) -> Result<(), AllocError> {
         text.extend_from_slice(b"  ")?;
         text.extend_from_slice(user.as_bytes())?;
         text.extend_from_slice(b":")?;
-        put_seconds(text, own)?;
-        text.extend_from_slice(b"\n")?;
-        pairs = others;
+        put_all(text, &SecondTeller, assignments_of(self.policy, user))?;
+        text.extend_from_slice(b"\n")
     }
-    Ok(())
 }
 
-// A copy of a grant.
-fn role_grant(grant: &((Name, Name), Name)) -> Result<RoleGrant, AllocError> {
-    let role = grant.1.copy()?;
-    let operation = grant.0.0.copy()?;
-    let object = grant.0.1.copy()?;
-    Ok((role, (operation, object)))
+// A grant of the role.
+#[derive(Drop)]
+struct GrantTeller<'r> {
+    role: &'r Name,
 }
 
-// The grants, sorted by their roles.
-fn grants_by_role(alloc: Global, policy: &Policy) -> Result<Vec<RoleGrant>, AllocError> {
-    let mut grants = Vec::new(alloc);
-    for grant in policy.grants() {
-        grants.push(role_grant(grant)?)?;
-    }
-    grants.sort_by(|one, other| one.0.cmp(&other.0))?;
-    Ok(grants)
-}
+impl Teller<((Name, Name), Name), u8> for GrantTeller<'_> {
+    ghost told_of = { λ teller grant. grant_text teller.role.now grant };
 
-// The permissions of some grants, each on a line.
-fn put_grants(text: &mut Vec<u8>, grants: &[RoleGrant]) -> Result<(), AllocError> {
-    for (_role, permission) in grants {
+    fn put(&self, text: &mut Vec<u8>, grant: &((Name, Name), Name)) -> Result<(), AllocError> {
+        if !self.role.cmp(&grant.1).is_eq() {
+            return Ok(());
+        }
         text.extend_from_slice(b"    may ")?;
-        text.extend_from_slice(permission.0.as_bytes())?;
+        text.extend_from_slice(grant.0.0.as_bytes())?;
         text.extend_from_slice(b" ")?;
-        text.extend_from_slice(permission.1.as_bytes())?;
-        text.extend_from_slice(b"\n")?;
+        text.extend_from_slice(grant.0.1.as_bytes())?;
+        text.extend_from_slice(b"\n")
     }
-    Ok(())
 }
 
-// One role, with the roles that it is declared above and its own grants.
-fn put_role(
-    text: &mut Vec<u8>,
-    role: &Name,
-    declared: &[(Name, Name)],
-    grants: &[RoleGrant],
-) -> Result<(), AllocError> {
+// The roles that a role is declared above.
+fn put_inherits(text: &mut Vec<u8>, declared: &[(Name, Name)]) -> Result<(), AllocError>
+    ensures { OnOk result (text.new.items ≡ text.old.items ++ descendants_text declared.now) }
+{
+    match declared {
+        [] => Ok(()),
+        _ => {
+            text.extend_from_slice(b" inherits")?;
+            put_all(text, &SecondTeller, declared)
+        }
+    }
+}
+
+// A role with the roles that it is declared above.
+#[tactic(auto, unfolding(crate::specs::PageText::role_line))]
+fn put_role_line(text: &mut Vec<u8>, policy: &Policy, role: &Name) -> Result<(), AllocError>
+    ensures { OnOk result (text.new.items ≡ text.old.items ++ role_line policy.now role.now) }
+{
     text.extend_from_slice(b"  ")?;
     text.extend_from_slice(role.as_bytes())?;
-    if !declared.is_empty() {
-        text.extend_from_slice(b" inherits")?;
-        put_seconds(text, declared)?;
-    }
-    text.extend_from_slice(b"\n")?;
-    put_grants(text, grants)
+    put_inherits(text, declarations_of(policy, role))?;
+    text.extend_from_slice(b"\n")
 }
 
-// Each role with its declared pairs and its own grants.
-fn put_roles(alloc: Global, text: &mut Vec<u8>, policy: &Policy) -> Result<(), AllocError> {
-    text.extend_from_slice(
-        b"roles, the roles that each is declared to inherit, and its own grants\n",
-    )?;
-    put_none(text, policy.roles().is_empty())?;
-    let sorted = grants_by_role(alloc, policy)?;
-    let mut from = 0usize;
-    let mut pairs = policy.declarations();
-    for role in policy.roles() {
-        let (declared, others) = split_first(pairs, role);
-        let own = own_grants(&sorted, from, role);
-        put_role(text, role, declared, own)?;
-        from = from.saturating_add(own.len());
-        pairs = others;
-    }
-    Ok(())
+// A role with the roles that it is declared above and its own grants.
+#[derive(Drop)]
+struct RoleTeller<'p> {
+    policy: &'p Policy,
 }
 
-// Each session with its owner and its active roles.
-fn put_sessions(text: &mut Vec<u8>, sessions: &[(Name, Session)]) -> Result<(), AllocError> {
-    text.extend_from_slice(b"sessions, the owner of each, and its active roles\n")?;
-    put_none(text, sessions.is_empty())?;
-    for (name, session) in sessions {
+impl Teller<Name, u8> for RoleTeller<'_> {
+    ghost told_of = { λ teller role. role_text teller.policy.now role };
+
+    fn put(&self, text: &mut Vec<u8>, role: &Name) -> Result<(), AllocError> {
+        put_role_line(text, self.policy, role)?;
+        put_all(text, &GrantTeller { role }, self.policy.grants())
+    }
+}
+
+// A session with its owner and its active roles.
+#[derive(Drop)]
+struct SessionTeller;
+
+impl Teller<(Name, Session), u8> for SessionTeller {
+    ghost told_of = { λ teller entry. session_text entry };
+
+    fn put(&self, text: &mut Vec<u8>, entry: &(Name, Session)) -> Result<(), AllocError> {
+        let (name, session) = entry;
         text.extend_from_slice(b"  ")?;
         text.extend_from_slice(name.as_bytes())?;
         text.extend_from_slice(b" of ")?;
         text.extend_from_slice(session.owner.as_bytes())?;
         text.extend_from_slice(b":")?;
-        put_names(text, session.active.names())?;
-        text.extend_from_slice(b"\n")?;
+        put_all(text, &NameTeller, session.active.names())?;
+        text.extend_from_slice(b"\n")
     }
-    Ok(())
 }
 
-// Each set of a kind with its number and its roles.
-fn put_sets(text: &mut Vec<u8>, head: &str, sets: &[(Name, RoleSet)]) -> Result<(), AllocError> {
-    text.extend_from_slice(head.as_bytes())?;
-    put_none(text, sets.is_empty())?;
-    for (name, set) in sets {
+// A set with its number and its roles.
+#[derive(Drop)]
+struct SetTeller;
+
+impl Teller<(Name, RoleSet), u8> for SetTeller {
+    ghost told_of = { λ teller entry. set_text entry };
+
+    fn put(&self, text: &mut Vec<u8>, entry: &(Name, RoleSet)) -> Result<(), AllocError> {
+        let (name, set) = entry;
         text.extend_from_slice(b"  ")?;
         text.extend_from_slice(name.as_bytes())?;
         let most = set.cardinality;
         put(text, format_args!(", n = {most}:"))?;
-        put_names(text, set.roles.names())?;
-        text.extend_from_slice(b"\n")?;
+        put_all(text, &NameTeller, set.roles.names())?;
+        text.extend_from_slice(b"\n")
     }
-    Ok(())
 }
 
 /// The page of a policy: users with the roles that they are assigned, roles with their declared pairs and their own grants, sessions
@@ -160,19 +153,38 @@ fn put_sets(text: &mut Vec<u8>, head: &str, sets: &[(Name, RoleSet)]) -> Result<
 ///
 /// # Errors
 /// `AllocError` where there is no memory for it.
-pub fn page(alloc: Global, policy: &Policy) -> Result<Vec<u8>, AllocError> {
+pub fn page(alloc: Global, policy: &Policy) -> Result<Vec<u8>, AllocError>
+    ensures { IfOk result (λ text. text.items ≡ page_text policy.now) }
+{
     let mut text = Vec::new(alloc);
-    put_users(&mut text, policy)?;
-    put_roles(alloc, &mut text, policy)?;
-    put_sessions(&mut text, policy.sessions())?;
-    put_sets(
+    put_part(
+        &mut text,
+        "users, and the roles that each is assigned\n",
+        &UserTeller { policy },
+        policy.users(),
+    )?;
+    put_part(
+        &mut text,
+        "roles, the roles that each is declared to inherit, and its own grants\n",
+        &RoleTeller { policy },
+        policy.roles(),
+    )?;
+    put_part(
+        &mut text,
+        "sessions, the owner of each, and its active roles\n",
+        &SessionTeller,
+        policy.sessions(),
+    )?;
+    put_part(
         &mut text,
         "static sets: no user is authorized for n or more of the roles\n",
+        &SetTeller,
         policy.separation_sets(Separation::Static),
     )?;
-    put_sets(
+    put_part(
         &mut text,
         "dynamic sets: no session has n or more of the roles active\n",
+        &SetTeller,
         policy.separation_sets(Separation::Dynamic),
     )?;
     Ok(text)

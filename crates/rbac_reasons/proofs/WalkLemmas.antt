@@ -26,6 +26,11 @@ pub chain_of_path : (roles : List Name) (declared : List (Name × Name)) → ((a
 chain_of_path roles declared ranges r [] q is p = (is, p)
 chain_of_path roles declared ranges r (x ∷ rest) q is p = (is, p.0, chain_of_path roles declared ranges x rest q (ranges r x p.0).1 p.1)
 
+-- a path that goes on by one pair
+pub path_on : (declared : List (Name × Name)) (r : Name) (rest : List Name) (p q : Name) → IsPath declared r rest p → has pair_cmp (p, q) declared ≡ true → IsPath declared r (rest ++ q ∷ []) q
+path_on declared r [] p q path pair = (subst (λ z. has pair_cmp (z, q) declared ≡ true) (sym path) pair, refl)
+path_on declared r (x ∷ rest) p q path pair = (path.0, path_on declared x rest p q path.1 pair)
+
 -- ---- Members of lists
 
 module _ (xs : List Name) (x : Name) where
@@ -256,16 +261,12 @@ module _ (starts goals : List Name) (declared : List (Name × Name)) where
   pub walk_ends : (w : Walk) → next_of w ≡ None → IsWalk w → NoneLeads declared starts goals
   walk_ends w none h = λ r rest q m path. ⊎_elim (λ p. absurd (no_more w.pending none q p)) (λ f. f) (h.failed q (walk_finds w none h r rest q m path))
 
-  path_on : (r : Name) (rest : List Name) (p q : Name) → IsPath declared r rest p → has pair_cmp (p, q) declared ≡ true → IsPath declared r (rest ++ q ∷ []) q
-  path_on r [] p q path pair = (subst (λ z. has pair_cmp (z, q) declared ≡ true) (sym path) pair, refl)
-  path_on r (x ∷ rest) p q path pair = (path.0, path_on x rest p q path.1 pair)
-
   trail_reaches : (trail : List (Name × Name)) → IsTrail starts declared trail → (q : Name) → has name_cmp q (found_by starts trail) ≡ true → Reaches declared starts q
   trail_reaches [] t q m = (q, [], m, refl)
   trail_reaches (p ∷ older) t q m = ⊎_elim
       (λ e.
       let before = trail_reaches older t.2 p.0 t.1 in
-      subst (Reaches declared starts) (sym e) (before.0, before.1 ++ p.1 ∷ [], before.2, path_on before.0 before.1 p.0 p.1 before.3 t.0))
+      subst (Reaches declared starts) (sym e) (before.0, before.1 ++ p.1 ∷ [], before.2, path_on declared before.0 before.1 p.0 p.1 before.3 t.0))
       (λ there. trail_reaches older t.2 q there)
       (head_or_rest (found_by starts older) p.1 q m)
 

@@ -1,4 +1,5 @@
 pub mod Hindrance
+pub mod Lists
 pub mod Naming
 pub mod Path
 pub mod Reason

@@ -30,7 +30,7 @@ fn is_granted(policy: &Policy, session: &Name, operation: &Name, object: &Name) 
 }
 
 /// Why a check of access is granted: a role that is active in the session, and the roles from it down the declared pairs to one
-/// that is granted the permission, as few as there can be; or none where the check is not answered Granted.
+/// that is granted the permission; or none where the check is not answered Granted.
 ///
 /// # Errors
 /// `AllocError` where there is no memory for it.

@@ -109,7 +109,7 @@ fn chain_to(alloc: Global, pairs: Vec<(Name, Name)>, last: Name) -> Result<Chain
     Ok(Chain { first, rest, last })
 }
 
-/// A chain from one of the roles to one of the goals, none of fewer roles; or none where there is no chain.
+/// A chain from one of the roles to one of the goals; or none where there is no chain.
 pub(crate) fn find_chain(
     alloc: Global,
     declared: &[(Name, Name)],

@@ -1,10 +1,13 @@
 //! Why access is granted and commands are denied, of small policies. What is expected was written by hand.
 
 use super::dump::a_policy_of_each_thing;
-use super::named::{assert_called, name};
+use super::named::{assert_called, assert_found, name};
 use super::policy::{add_role, add_user, assign, founded, grant, inherit, open_session};
 use rbac_decide::Policy;
-use rbac_reasons::{Hindrance, Reason, hindrance, reason};
+use rbac_reasons::{
+    Hindrance, Reason, assignments_of, declarations_of, hindrance, juniors, permissions_of, reason,
+    seniors,
+};
 use rbac_terms::{Command, Separation};
 use std::alloc::Global;
 use std::process::Abort;
@@ -57,6 +60,50 @@ fn the_roles_by_which_access_is_granted_are_told(rt: HostRuntime) {
     drop(found);
     expect_no_reason(&rt, rt.alloc(), &policy, "s2");
     expect_no_reason(&rt, rt.alloc(), &policy, "zz");
+    drop(policy);
+}
+
+// Compares the juniors and the seniors of a role, and how many permissions it is granted itself.
+fn expect_around(
+    rt: &impl Abort,
+    alloc: Global,
+    policy: &Policy,
+    role: &str,
+    wanted: (&[&str], &[&str], usize),
+) {
+    let role = name(rt, alloc, role);
+    assert_found(rt, juniors(alloc, policy, &role), wanted.0);
+    assert_found(rt, seniors(alloc, policy, &role), wanted.1);
+    let own = permissions_of(alloc, policy, &role).expect(rt, "memory");
+    assert_eq!(rt; own.permissions().len(), wanted.2);
+    drop(own);
+    drop(role);
+}
+
+// Compares how many roles a user is assigned, and how many one is declared above.
+fn expect_lent(rt: &impl Abort, alloc: Global, policy: &Policy, user: &str, role: &str) {
+    let (user, role) = (name(rt, alloc, user), name(rt, alloc, role));
+    assert_eq!(rt; assignments_of(policy, &user).len(), 1);
+    assert_eq!(rt; declarations_of(policy, &role).len(), 1);
+    drop(user);
+    drop(role);
+}
+
+#[test]
+fn what_a_policy_holds_of_a_role_is_told(rt: HostRuntime) {
+    let policy = a_line_of_roles(&rt, rt.alloc());
+    let all = ["boss", "clerk", "head"];
+    expect_around(&rt, rt.alloc(), &policy, "head", (&all, &["head"], 0));
+    expect_around(
+        &rt,
+        rt.alloc(),
+        &policy,
+        "boss",
+        (&["boss", "clerk"], &["boss", "head"], 0),
+    );
+    expect_around(&rt, rt.alloc(), &policy, "clerk", (&["clerk"], &all, 1));
+    expect_around(&rt, rt.alloc(), &policy, "zz", (&[], &[], 0));
+    expect_lent(&rt, rt.alloc(), &policy, "ann", "head");
     drop(policy);
 }
 
