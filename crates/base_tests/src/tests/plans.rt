@@ -3,7 +3,7 @@ ghost use Rattle.std.specs.Prelude.{◌++◌, ◌∷◌, ◌-◌, [], List, ℕ,
 ghost use Rattle.std.specs.Option.{option_map};
 
 use sorted_keys::SortedMap;
-use staged::{EntryChange, Staged, commit, make_plan};
+use staged::{EntryChange, Plan, Staged, commit, make_plan};
 use std::alloc::{AllocError, Global};
 use std::process::Abort;
 
@@ -35,7 +35,7 @@ impl Staged<OneMore> for Numbers {
     fn prepare(
         &self,
         _alloc: Global,
-        _before: &[u32],
+        _before: &Plan<u32>,
         change: &OneMore,
     ) -> Result<u32, AllocError> {
         Ok(change.number)
