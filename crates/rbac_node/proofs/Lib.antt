@@ -1,5 +1,6 @@
 mod AuditLemmas
 mod DeliveryLemmas
+mod FoundLemmas
 mod FrontLemmas
 mod KeptLemmas
 mod LearnedLemmas
