@@ -20,8 +20,8 @@ use Rattle.rbac_hierarchy.proofs.LoopLemmas.{any_one_more}
 use Rattle.rbac_separation.specs.Counts.{Counts, numbers_of, without_user}
 use Rattle.rbac_decide.specs.declared.tables.Tables.{Tables}
 use Rattle.rbac_decide.specs.Tables.{state_of}
-use Rattle.rbac_decide.specs.Counting.{authorized_users_by, juniors_by, count_by_tables, breaks_some, AreCountsBy, IsCommandStep, touches, is_touched, of_touched, of_set, may_change, without_static, remaining}
-use Rattle.rbac_decide.proofs.CountingSteps.{IsShift, IsSetStep, left, unchanged, assigned_shift, deassigned_shift, deleted_role_shift, inheritance_shift, deleted_inheritance_shift, created_set, added_member, deleted_member, deleted_set, deleted_user}
+use Rattle.rbac_decide.specs.Counting.{authorized_users_by, juniors_by, count_by_tables, breaks_some, AreCountsBy, IsCommandStep, touches, is_touched, of_touched, of_set, may_change, gives_roles, without_static, remaining}
+use Rattle.rbac_decide.proofs.CountingSteps.{IsShift, IsSetStep, left, unchanged, deassigned_shift, deleted_role_shift, deleted_inheritance_shift, created_set, added_member, deleted_member, deleted_set, deleted_user}
 
 abbrev pub Pairs : Type 0
 Pairs = List (Name × Name)
@@ -153,23 +153,21 @@ module _ (before after : Tables) (counts : Counts) (counted : AreCountsBy before
       same : (n : Name → Name → ℕ) → ((set user : Name) → n set user ≡ cond (has pair_cmp (set, user) pairs) (count_by_tables after set user) (numbers_of counts set user)) → n ≡ numbers_of counts
       same n made = λ i set user. (made set user ∙ ap (λ b. cond b (count_by_tables after set user) (numbers_of counts set user)) (none set user)) i
 
-  pub recountable : (c : Command) → IsCommandStep c before after → ((set user : Name) → has pair_cmp (set, user) pairs ≡ may_change c before set user) → IsRecountable (remaining c) after counts pairs
-  recountable (AssignUser user role) step told =
-      by_shift (user ∷ []) (juniors_by before role) (assigned_shift before after counts counted user role step) (sym (ap (λ (x : State). x.static_sets) step.made)) told
-  recountable (DeassignUser user role) step told =
+  pub recountable : (c : Command) → IsCommandStep c before after → gives_roles c ≡ false → ((set user : Name) → has pair_cmp (set, user) pairs ≡ may_change c before set user) → IsRecountable (remaining c) after counts pairs
+  recountable (AssignUser user role) step takes told = absurd (false≢true (sym takes))
+  recountable (DeassignUser user role) step takes told =
       by_shift (user ∷ []) (juniors_by before role) (deassigned_shift before after counts counted user role step) (sym (ap (λ (x : State). x.static_sets) step.made)) told
-  recountable (DeleteRole role) step told =
+  recountable (DeleteRole role) step takes told =
       by_shift (authorized_users_by before role) (juniors_by before role) (deleted_role_shift before after counts counted role step) (sym (ap (λ (x : State). x.static_sets) step.made)) told
-  recountable (AddInheritance a d) step told =
-      by_shift (authorized_users_by before a) (juniors_by before d) (inheritance_shift before after counts counted a d step) (sym (ap (λ (x : State). x.static_sets) step.made)) told
-  recountable (DeleteInheritance a d) step told =
+  recountable (AddInheritance a d) step takes told = absurd (false≢true (sym takes))
+  recountable (DeleteInheritance a d) step takes told =
       by_shift (authorized_users_by before a) (juniors_by before d) (deleted_inheritance_shift before after counts counted a d step) (sym (ap (λ (x : State). x.static_sets) step.made)) told
-  recountable (CreateSet Static name roles n) step told = by_set Static name (created_set before after counts counted Static name roles n step) (ap (λ (x : State). x.users) step.made) told
-  recountable (CreateSet Dynamic name roles n) step told = by_set Dynamic name (created_set before after counts counted Dynamic name roles n step) (ap (λ (x : State). x.users) step.made) told
-  recountable (AddRoleMember Static name role) step told = by_set Static name (added_member before after counts counted Static name role step) (ap (λ (x : State). x.users) step.made) told
-  recountable (AddRoleMember Dynamic name role) step told = by_set Dynamic name (added_member before after counts counted Dynamic name role step) (ap (λ (x : State). x.users) step.made) told
-  recountable (DeleteRoleMember Static name role) step told = by_set Static name (deleted_member before after counts counted Static name role step) (ap (λ (x : State). x.users) step.made) told
-  recountable (DeleteRoleMember Dynamic name role) step told = by_set Dynamic name (deleted_member before after counts counted Dynamic name role step) (ap (λ (x : State). x.users) step.made) told
-  recountable (DeleteUser user) step told = by_none (without_user user) told (deleted_user before after counts counted user step)
-  recountable (DeleteSet kind name) step told = by_none (without_static kind name) told (deleted_set before after counts counted kind name step)
-  recountable c step told = by_none (λ n. n) told (λ set user. left c before after step counts counted set user (unchanged c (state_of before step.vocabulary) step.sound step.undenied refl set user))
+  recountable (CreateSet Static name roles n) step takes told = by_set Static name (created_set before after counts counted Static name roles n step) (ap (λ (x : State). x.users) step.made) told
+  recountable (CreateSet Dynamic name roles n) step takes told = by_set Dynamic name (created_set before after counts counted Dynamic name roles n step) (ap (λ (x : State). x.users) step.made) told
+  recountable (AddRoleMember Static name role) step takes told = by_set Static name (added_member before after counts counted Static name role step) (ap (λ (x : State). x.users) step.made) told
+  recountable (AddRoleMember Dynamic name role) step takes told = by_set Dynamic name (added_member before after counts counted Dynamic name role step) (ap (λ (x : State). x.users) step.made) told
+  recountable (DeleteRoleMember Static name role) step takes told = by_set Static name (deleted_member before after counts counted Static name role step) (ap (λ (x : State). x.users) step.made) told
+  recountable (DeleteRoleMember Dynamic name role) step takes told = by_set Dynamic name (deleted_member before after counts counted Dynamic name role step) (ap (λ (x : State). x.users) step.made) told
+  recountable (DeleteUser user) step takes told = by_none (without_user user) told (deleted_user before after counts counted user step)
+  recountable (DeleteSet kind name) step takes told = by_none (without_static kind name) told (deleted_set before after counts counted kind name step)
+  recountable c step takes told = by_none (λ n. n) told (λ set user. left c before after step counts counted set user (unchanged c (state_of before step.vocabulary) step.sound step.undenied refl set user))

@@ -41,7 +41,7 @@ none_in test None none = refl
 none_in test (Some set) none = count_none test set.roles none
 
 -- what passes one test or another is what passes the other, and what passes the one and not the other
-count_split : (f a : Name → Bool) (xs : List Name) → count_by (λ r. f r || a r) xs ≡ count_by a xs + count_by (λ r. f r && not (a r)) xs
+pub count_split : (f a : Name → Bool) (xs : List Name) → count_by (λ r. f r || a r) xs ≡ count_by a xs + count_by (λ r. f r && not (a r)) xs
 count_split f a [] = refl
 count_split f a (x ∷ xs) =
     let rest = count_split f a xs in
@@ -61,6 +61,11 @@ count_split f a (x ∷ xs) =
 module _ (numbers : Name → ℕ) (f a : Name → Bool) (fresh : List Name) (told : (r : Name) → has name_cmp r fresh ≡ (f r && not (a r))) where
   over_one : (e : Name × RoleSet) → numbers e.0 ≡ count_by a e.1.roles → is_over (numbers e.0) fresh e.1 ≡ is_broken_by (λ r. f r || a r) e.1
   over_one e is = ap (nat_le e.1.cardinality) ((λ i. is i + count_by (λ r. told r i) e.1.roles) ∙ sym (count_split f a e.1.roles))
+
+  -- the sets that are over are those that are broken
+  pub over_any : (sets : List (Name × RoleSet)) → Each (λ e. numbers e.0 ≡ count_by a e.1.roles) sets → list_any (λ e. is_over (numbers e.0) fresh e.1) sets ≡ list_any (λ e. is_broken_by (λ r. f r || a r) e.1) sets
+  over_any [] all = refl
+  over_any (e ∷ es) all = λ i. over_one e all.0 i || over_any es all.1 i
 
   pub over_is : (sets : List (Name × RoleSet)) → Each (λ e. numbers e.0 ≡ count_by a e.1.roles) sets → is_some (first_over numbers fresh sets) ≡ list_any (λ e. is_broken_by (λ r. f r || a r) e.1) sets
   over_is [] all = refl

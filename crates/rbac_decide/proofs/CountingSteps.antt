@@ -86,7 +86,7 @@ shared less more users below stays gained user (Some x) e =
 
 -- the users that are authorized for a role, and what it inherits
 module _ (s : State) (h : IsSound s) where
-  among_users : (user role : Name) → IsAuthorized s user role → has name_cmp user (filter (λ u. is_authorized s u role) s.users) ≡ true
+  pub among_users : (user role : Name) → IsAuthorized s user role → has name_cmp user (filter (λ u. is_authorized s u role) s.users) ≡ true
   among_users user role a =
       is_kept names_total names_exact (λ u. is_authorized s u role) s.users user ((is_authorized_iff s user role).1 a) (h.references.assigned user a.0 a.1).0
 
@@ -94,24 +94,6 @@ module _ (s : State) (h : IsSound s) where
   among_juniors role r i = has_juniors s.roles s.declared role r ∙ (inherits_iff s.roles s.declared role r).1 i
 
 -- ---- Commands that change what one user, or who is authorized for one role, is authorized for
-
-pub after_assignment : (user role : Name) (s : State) → IsSound s → (set other : Name)
-    → (touches (juniors s.roles s.declared role) (find name_cmp set s.static_sets) && has name_cmp other (user ∷ [])) ≡ false
-    → authorized_count (change (AssignUser user role) s) set other ≡ authorized_count s set other
-after_assignment user role s h set other =
-    shared s t (user ∷ []) (juniors s.roles s.declared role)
-    (λ u r a. (a.0, still pairs_total (user, role) s.assigned (u, a.0) a.1, a.2))
-    (λ u r a. ⊎_elim
-    (λ same. let one = one_key pairs_exact (u, a.0) (user, role) same in inr (
-      or_left _ _ (subst (λ z. eq_by_cmp name_cmp u z ≡ true) (ap (λ p. p.0) one) (ties_itself names_total u)),
-      among_juniors s h role r (subst (λ q. Inherits s.roles s.declared q r) (ap (λ p. p.1) one) a.2),
-    ))
-    (λ was. inl (a.0, was, a.2))
-    (or_cases _ _ (sym (has-with_key pairs_total (user, role) s.assigned (u, a.0)) ∙ a.1)))
-    other (find name_cmp set s.static_sets)
-  where
-    t : State
-    t = record s { assigned = with_key pair_cmp (user, role) s.assigned }
 
 pub after_deassignment : (user role : Name) (s : State) → IsSound s → (set other : Name)
     → (touches (juniors s.roles s.declared role) (find name_cmp set s.static_sets) && has name_cmp other (user ∷ [])) ≡ false
@@ -131,21 +113,6 @@ after_deassignment user role s h set other e = sym (shared t s (user ∷ []) (ju
       among_juniors s h role r (subst (λ q. Inherits s.roles s.declared q r) (sym (ap (λ p. p.1) one)) a.2),
     )
     go u r a false e = inl (a.0, is_kept pairs_total pairs_exact (λ p. not (eq_by_cmp pair_cmp (user, role) p)) s.assigned (u, a.0) (ap not e) a.1, a.2)
-
-pub after_inheritance : (a d : Name) (s : State) → IsSound s → (set user : Name)
-    → (touches (juniors s.roles s.declared d) (find name_cmp set s.static_sets) && has name_cmp user (filter (λ u. is_authorized s u a) s.users)) ≡ false
-    → authorized_count (change (AddInheritance a d) s) set user ≡ authorized_count s set user
-after_inheritance a d s h set user =
-    shared s t (filter (λ u. is_authorized s u a) s.users) (juniors s.roles s.declared d)
-    (λ u r x. (x.0, x.1, inherits_still s.roles s.roles s.declared t.declared (λ z m. m) (still pairs_total (a, d) s.declared) x.0 r x.2))
-    (λ u r x. ⊎_elim
-    (λ direct. inl (x.0, x.1, direct))
-    (λ over. inr (among_users s h u a (x.0, x.1, over.0), among_juniors s h d r over.1))
-    (inherits_over s.roles s.declared a d x.0 r x.2))
-    user (find name_cmp set s.static_sets)
-  where
-    t : State
-    t = record s { declared = with_key pair_cmp (a, d) s.declared }
 
 pub after_deleted_inheritance : (a d : Name) (s : State) → IsSound s → (set user : Name)
     → (touches (juniors s.roles s.declared d) (find name_cmp set s.static_sets) && has name_cmp user (filter (λ u. is_authorized s u a) s.users)) ≡ false
@@ -391,13 +358,6 @@ module _ (c : Command) (before after : Tables) (step : IsCommandStep c before af
 -- ---- What is right after each command but what is counted anew
 
 module _ (before after : Tables) (counts : Counts) (counted : AreCountsBy before counts) where
-  pub assigned_shift : (user role : Name) → IsCommandStep (AssignUser user role) before after → IsShift after (user ∷ []) (juniors_by before role) counts
-  assigned_shift user role step =
-      let s = state_of before step.vocabulary in
-      let holds = none_fails (preconditions (AssignUser user role) s) step.undenied in
-      shifted (AssignUser user role) before after step counts counted (user ∷ []) (juniors_by before role) refl refl
-      (only user s.users (not-false _ holds.0)) (after_assignment user role s step.sound)
-
   pub deassigned_shift : (user role : Name) → IsCommandStep (DeassignUser user role) before after → IsShift after (user ∷ []) (juniors_by before role) counts
   deassigned_shift user role step =
       let s = state_of before step.vocabulary in
@@ -410,12 +370,6 @@ module _ (before after : Tables) (counts : Counts) (counted : AreCountsBy before
       let s = state_of before step.vocabulary in
       shifted (DeleteRole role) before after step counts counted (authorized_users_by before role) (juniors_by before role) refl refl
       (λ user m. (was_kept names_total names_exact (λ u. is_authorized s u role) s.users user m).1) (after_deleted_role role s step.sound)
-
-  pub inheritance_shift : (a d : Name) → IsCommandStep (AddInheritance a d) before after → IsShift after (authorized_users_by before a) (juniors_by before d) counts
-  inheritance_shift a d step =
-      let s = state_of before step.vocabulary in
-      shifted (AddInheritance a d) before after step counts counted (authorized_users_by before a) (juniors_by before d) refl refl
-      (λ user m. (was_kept names_total names_exact (λ u. is_authorized s u a) s.users user m).1) (after_inheritance a d s step.sound)
 
   pub deleted_inheritance_shift : (a d : Name) → IsCommandStep (DeleteInheritance a d) before after → IsShift after (authorized_users_by before a) (juniors_by before d) counts
   deleted_inheritance_shift a d step =

@@ -25,7 +25,7 @@ use Rattle.rbac_decide.proofs.SeparationLemmas.{unbroken}
 
 -- each role of a set is constrained by the sets
 module _ (whole : List (Name × RoleSet)) where
-  each_constrained : (sets : List (Name × RoleSet)) → ((r : Name) → is_constrained r sets ≡ true → is_constrained r whole ≡ true)
+  pub each_constrained : (sets : List (Name × RoleSet)) → ((r : Name) → is_constrained r sets ≡ true → is_constrained r whole ≡ true)
       → Each (λ e. (r : Name) → has name_cmp r e.1.roles ≡ true → is_constrained r whole ≡ true) sets
   each_constrained [] are = tt
   each_constrained (e ∷ es) are = (λ r m. are r (or_left _ _ m), each_constrained es (λ r m. are r (or_right _ _ m)))
@@ -38,7 +38,7 @@ module _ (whole : List (Name × RoleSet)) where
 
 module _ (s : State) (role user : Name) where
   -- what the role inherits of the roles of static sets breaks what all that it inherits does
-  constrained_alike : list_any (λ e. is_broken_by (λ r. is_constrained_junior s role r || is_authorized s user r) e.1) s.static_sets ≡ breaks_with s role user
+  pub constrained_alike : list_any (λ e. is_broken_by (λ r. is_constrained_junior s role r || is_authorized s user r) e.1) s.static_sets ≡ breaks_with s role user
   constrained_alike =
       breaks_alike s.static_sets (λ r. is_constrained_junior s role r || is_authorized s user r) (λ r. inherits_in s role r || is_authorized s user r)
       (λ r m. ap (λ b. (inherits_in s role r && b) || is_authorized s user r) m ∙ ap (λ b. b || is_authorized s user r) (and_true (inherits_in s role r)))

@@ -7,3 +7,4 @@ pub mod FreshLemmas
 pub mod PlanningLemmas
 pub mod SeparationLemmas
 pub mod TablesLemmas
+pub mod ToldLemmas

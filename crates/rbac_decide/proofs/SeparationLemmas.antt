@@ -189,7 +189,7 @@ module _ (user role : Name) (s : State) where
   assigned_state = record s { assigned = with_key pair_cmp (user, role) s.assigned }
 
   -- with one more assignment the user is authorized for what the role inherits besides
-  user_gains : (r : Name) → is_authorized assigned_state user r ≡ (inherits_in s role r || is_authorized s user r)
+  pub user_gains : (r : Name) → is_authorized assigned_state user r ≡ (inherits_in s role r || is_authorized s user r)
   user_gains r = same_bits _ _
       (λ e. let a = (is_authorized_iff assigned_state user r).0 e in ⊎_elim
       (λ same. or_left _ _ ((inherits_iff s.roles s.declared role r).1 (subst (λ q. Inherits s.roles s.declared q r) (ap (λ p. p.1) (one_key pairs_exact (user, a.0) (user, role) same)) a.2)))
@@ -201,7 +201,7 @@ module _ (user role : Name) (s : State) where
       (or_cases _ _ e))
 
   -- and nobody else
-  others_gain_nothing : (other : Name) → eq_by_cmp name_cmp user other ≡ false → (r : Name) → is_authorized assigned_state other r ≡ is_authorized s other r
+  pub others_gain_nothing : (other : Name) → eq_by_cmp name_cmp user other ≡ false → (r : Name) → is_authorized assigned_state other r ≡ is_authorized s other r
   others_gain_nothing other apart r = same_bits _ _
       (λ e. let a = (is_authorized_iff assigned_state other r).0 e in ⊎_elim
       (λ same. let one = one_key pairs_exact (other, a.0) (user, role) same in absurd (false≢true (sym apart ∙ subst (λ z. eq_by_cmp name_cmp user z ≡ true) (sym (ap (λ p. p.0) one)) (ties_itself names_total user))))
@@ -220,7 +220,7 @@ module _ (a d : Name) (s : State) (is_a : has name_cmp a s.roles ≡ true) (is_d
   declared_state = record s { declared = with_key pair_cmp (a, d) s.declared }
 
   -- with one more pair, who is authorized for the ascendant gains what the descendant inherits
-  pair_gives : (user r : Name) → is_authorized declared_state user r ≡ (is_authorized s user r || (is_authorized s user a && inherits_in s d r))
+  pub pair_gives : (user r : Name) → is_authorized declared_state user r ≡ (is_authorized s user r || (is_authorized s user a && inherits_in s d r))
   pair_gives user r = same_bits _ _
       (λ e. let x = (is_authorized_iff declared_state user r).0 e in ⊎_elim
       (λ direct. or_left _ _ ((is_authorized_iff s user r).1 (x.0, x.1, direct)))

@@ -1,5 +1,5 @@
 -- The counts that a policy keeps: for each static set and each user, of how many of its roles the user has the authorization.
-use Rattle.std.specs.Prelude.{ℕ, List, [], ◌∷◌, Bool, false, ◌&&◌, ◌≡◌, Option, Some, None, count_by}
+use Rattle.std.specs.Prelude.{ℕ, ◌+◌, List, [], ◌∷◌, length, map, Bool, true, false, not, ◌||◌, ◌&&◌, ◌≡◌, Option, Some, None, count_by}
 use Rattle.std.specs.FinMap.Entries.{find}
 use Rattle.std.specs.List.{list_any, filter}
 use Rattle.std.specs.Ordering.{eq_by_cmp}
@@ -17,7 +17,10 @@ use Rattle.rbac_terms.specs.declared.separation.Separation.{Separation}
 use Rattle.rbac_terms.specs.declared.separation.Separation.TheVariants.{Static, Dynamic}
 use Rattle.rbac_terms.specs.declared.command.Command.{Command}
 use Rattle.rbac_terms.specs.declared.command.Command.TheVariants.{DeleteUser, DeleteRole, AssignUser, DeassignUser, AddInheritance, DeleteInheritance, CreateSet, DeleteSet, AddRoleMember, DeleteRoleMember}
-use Rattle.rbac_separation.specs.Counts.{Counts, numbers_of, without_set, without_user}
+use Rattle.rbac_separation.specs.Counts.{Counts, numbers_of, with_numbers, without_set, without_user}
+use Rattle.rbac_separation.specs.declared.count_plan.CountChange.{CountChange}
+use Rattle.rbac_decide.specs.declared.counting.PlannedCounts.{PlannedCounts}
+use Rattle.rbac_decide.specs.declared.counting.PlannedCounts.TheVariants.{Told, Recounted}
 use Rattle.rbac_decide.specs.declared.tables.Tables.{Tables}
 use Rattle.rbac_decide.specs.Tables.{state_of, state_of_roles}
 
@@ -92,21 +95,51 @@ abbrev pub of_set : Separation → Name → Tables → Name → Name → Bool
 of_set Static name t set user = eq_by_cmp name_cmp set name && has name_cmp user t.sets.content.users
 of_set Dynamic name t set user = false
 
--- whether the command may change the count of a set and a user, other than by deleting one of them
+-- whether the command may change the count of a set and a user, other than by deleting one of them, or by what users get besides
 abbrev pub may_change : Command → Tables → Name → Name → Bool
-may_change (AssignUser user role) t = of_touched t (juniors_by t role) (user ∷ [])
 may_change (DeassignUser user role) t = of_touched t (juniors_by t role) (user ∷ [])
 may_change (DeleteRole role) t = of_touched t (juniors_by t role) (authorized_users_by t role)
-may_change (AddInheritance ascendant descendant) t = of_touched t (juniors_by t descendant) (authorized_users_by t ascendant)
 may_change (DeleteInheritance ascendant descendant) t = of_touched t (juniors_by t descendant) (authorized_users_by t ascendant)
 may_change (CreateSet kind name roles n) t = of_set kind name t
 may_change (AddRoleMember kind name role) t = of_set kind name t
 may_change (DeleteRoleMember kind name role) t = of_set kind name t
 may_change c t = λ set user. false
 
--- the sets of a policy after a command, with the counts from before it and all pairs whose counts it may change
-pub record IsPrepared (command : Command) (pairs : List (Name × Name)) (counts : Counts) (after : Tables) : Type 0 where
+-- by these commands users become authorized for more, and nothing else changes their counts
+abbrev pub gives_roles : Command → Bool
+gives_roles (AssignUser user role) = true
+gives_roles (AddInheritance ascendant descendant) = true
+gives_roles c = false
+
+-- the user would break a static set with these roles besides
+abbrev pub breaks_besides : Tables → List Name → Name → Bool
+breaks_besides t below user = list_any (λ e. is_broken_by (λ r. has name_cmp r below || authorized_by t user r) e.1) t.static_sets.content
+
+-- of those sets that have a role that passes a test, the user's numbers with all such roles besides
+abbrev pub gains : (Name → ℕ) → (Name → Bool) → Name → List (Name × RoleSet) → List CountChange
+gains numbers test user sets = map (λ e. record { set = e.0; user = user; number = numbers e.0 + count_by test e.1.roles }) (filter (λ e. list_any test e.1.roles) sets)
+
+-- the user's counts of those static sets that have one of these roles for which it was not authorized
+abbrev pub gains_by : Tables → Counts → List Name → Name → List CountChange
+gains_by t counts below user = gains (λ set. numbers_of counts set user) (λ r. has name_cmp r below && not (authorized_by t user r)) user t.static_sets.content
+
+-- with these numbers the counts are those after the command
+abbrev pub TellsAfter : Command → List CountChange → Counts → Tables → Type 0
+TellsAfter c changes counts t = (v : Vocabulary) (set user : Name) → with_numbers changes (numbers_of counts) set user ≡ authorized_count (change c (state_of t v)) set user
+
+-- the counts after the command are told, or it is told which it may change
+abbrev pub IsPlannedBy : PlannedCounts → Command → Counts → Tables → Type 0
+IsPlannedBy (Told changes) c counts t = TellsAfter c changes counts t
+IsPlannedBy (Recounted pairs) c counts t = (gives_roles c ≡ false) × ((set user : Name) → has pair_cmp (set, user) pairs ≡ may_change c t set user)
+
+-- for how many counts a plan wants room
+abbrev pub counts_planned : PlannedCounts → ℕ
+counts_planned (Told changes) = length changes
+counts_planned (Recounted pairs) = length pairs
+
+-- the sets of a policy after a command, with the counts from before it and what was planned of them
+pub record IsPrepared (command : Command) (plan : PlannedCounts) (counts : Counts) (after : Tables) : Type 0 where
   pub before : Tables
   pub step : IsCommandStep command before after
   pub counted : AreCountsBy before counts
-  pub told : (set user : Name) → has pair_cmp (set, user) pairs ≡ may_change command before set user
+  pub planned : IsPlannedBy plan command counts before

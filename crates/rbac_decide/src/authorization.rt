@@ -5,10 +5,15 @@ ghost use Rattle.rbac_terms.specs.Name.{Name as NameValue, name_cmp};
 ghost use Rattle.std.specs.List.{list_all, list_any};
 ghost use Rattle.rbac_terms.specs.Inheritance.{inherits};
 ghost use Rattle.rbac_terms.specs.Authorization.{is_authorized, is_entitled};
-ghost use Rattle.rbac_decide.specs.Tables.{state_of_roles};
+ghost use Rattle.rbac_terms.specs.Separation.{is_constrained};
+ghost use Rattle.rbac_terms.specs.Vocabulary.{Vocabulary as VocabularyValue};
+ghost use Rattle.rbac_decide.specs.Tables.{state_of, state_of_roles};
+ghost use Rattle.rbac_decide.specs.Breaking.{is_constrained_junior};
 
+use crate::tables::Tables;
 use rbac_hierarchy::{Hierarchy, RoleOrder};
 use rbac_rolesets::RoleSets;
+use rbac_separation::SetTable;
 use rbac_terms::{Name, NameSet};
 use sorted_keys::KeyTest;
 use std::alloc::{AllocError, Global};
@@ -120,6 +125,38 @@ pub(crate) fn fresh_roles(
         user,
     };
     names_where(alloc, roles, &test)
+}
+
+// The roles of some of the sets.
+#[derive(Drop)]
+struct Constrained<'a> {
+    sets: &'a SetTable,
+}
+
+impl KeyTest<Name> for Constrained<'_> {
+    ghost passes = { λ constrained role. is_constrained role constrained.sets.now.content };
+
+    fn test(&self, role: &Name) -> bool {
+        self.sets.holds_role(role)
+    }
+}
+
+/// The roles of static sets that the role inherits. Where there is no static set nothing is gathered.
+pub(crate) fn constrained_juniors(
+    alloc: Global,
+    tables: &Tables,
+    role: &Name,
+) -> Result<NameSet, AllocError>
+    ensures { IfOk result (λ names. (v : VocabularyValue) (r : NameValue) → has name_cmp r names ≡ is_constrained_junior (state_of tables.now v) role.now r) }
+{
+    if tables.static_sets.len() == 0 {
+        return Ok(NameSet::new(alloc));
+    }
+    let juniors = tables.hierarchy.juniors(alloc, role)?;
+    let constrained = Constrained {
+        sets: &tables.static_sets,
+    };
+    names_where(alloc, &juniors, &constrained)
 }
 
 // How many of the roles the role of one of the assignments inherits.

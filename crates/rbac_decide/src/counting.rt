@@ -1,17 +1,32 @@
-//! The counts that a policy keeps of its static sets, and what a command makes of them: names and room are planned before the change,
-//! and the counts are taken after it, from sets that no longer change.
-ghost use Rattle.std.specs.Prelude.{◌≡◌, ◌≤◌, false, not, length, count_by};
+//! The counts that a policy keeps of its static sets, and what a command makes of them. Where users become authorized for more their
+//! new counts are planned before the change. Of the other commands names and room are planned, and the counts are taken after the
+//! change, from sets that no longer change.
+ghost use Rattle.std.specs.Prelude.{◌≡◌, ◌≤◌, false, not, count_by, IfOk};
 ghost use Rattle.rbac_terms.specs.Separation.{is_broken_by};
 ghost use Rattle.rbac_separation.specs.Counts.{numbers_of};
-ghost use Rattle.rbac_decide.specs.Counting.{authorized_by, count_by_tables, breaks_some, AreCountsBy, IsPrepared, without_static, remaining};
+ghost use Rattle.rbac_decide.specs.Counting.{authorized_by, count_by_tables, breaks_some, AreCountsBy, IsPrepared, IsPlannedBy, counts_planned, without_static, remaining};
+ghost use Rattle.rbac_decide.specs.Tables.{IsUndenied};
+ghost use Rattle.rbac_decide.specs.declared.counting.PlannedCounts.TheVariants.{Told, Recounted};
 
 mod affected;
+mod told;
 
 use crate::authorization::count_authorized;
+use crate::counting::affected::affected_pairs;
+use crate::counting::told::{told_of_assignment, told_of_inheritance};
 use crate::tables::Tables;
-pub use affected::affected_pairs;
-use rbac_separation::{CountPlan, Counts, Numbering, RoleSet};
+use rbac_separation::{CountChange, CountPlan, Counts, Numbering, RecountPlan, RoleSet};
 use rbac_terms::{Command, Name, Separation};
+use std::alloc::{AllocError, Global};
+
+/// What is planned of the counts.
+#[derive(Drop)]
+pub(crate) enum PlannedCounts {
+    /// The counts that change, as they are after it.
+    Told { counts: CountPlan },
+    /// The sets and users whose counts may change, with room for them.
+    Recounted { pairs: RecountPlan },
+}
 
 // For how many roles of a set the user is authorized: fewer than its number, so that the count fits.
 fn count_in(tables: &Tables, roles: &RoleSet, user: &Name) -> u32
@@ -70,17 +85,80 @@ fn forget(command: &Command, counts: &mut Counts)
     }
 }
 
-/// Makes the counts right again after a command, where these are the pairs whose counts it may change. Takes no memory.
-pub(crate) fn recount_affected(
+// Plans counts that were told.
+fn plan_told(counts: &mut Counts, told: Vec<CountChange>) -> Result<PlannedCounts, AllocError>
+    ensures numbers { numbers_of counts.new ≡ numbers_of counts.old }
+    ensures planned { IfOk result (λ plan. plan ≡ Told told.items) }
+    ensures room { IfOk result (λ plan. counts_planned plan ≤ counts.new.room) }
+{
+    Ok(PlannedCounts::Told {
+        counts: counts.plan(told)?,
+    })
+}
+
+// Plans counts that are taken after the change.
+fn plan_recounted(
+    counts: &mut Counts,
+    pairs: Vec<(Name, Name)>,
+) -> Result<PlannedCounts, AllocError>
+    ensures numbers { numbers_of counts.new ≡ numbers_of counts.old }
+    ensures planned { IfOk result (λ plan. plan ≡ Recounted pairs.items) }
+    ensures room { IfOk result (λ plan. counts_planned plan ≤ counts.new.room) }
+{
+    Ok(PlannedCounts::Recounted {
+        pairs: counts.plan_recount(pairs)?,
+    })
+}
+
+/// Plans what a command that is not denied makes of the counts. The counts stay as they are, also where memory ends. Where the
+/// command changes no count this takes no memory.
+///
+/// # Errors
+/// `AllocError` where there is no memory for it.
+pub(crate) fn plan_counts(
+    alloc: Global,
     tables: &Tables,
     command: &Command,
-    plan: CountPlan,
+    counts: &mut Counts,
+) -> Result<PlannedCounts, AllocError>
+    requires counted { AreCountsBy tables.now counts.old }
+    requires undenied { IsUndenied command.now tables.now }
+    ensures numbers { numbers_of counts.new ≡ numbers_of counts.old }
+    ensures planned { IfOk result (λ plan. IsPlannedBy plan command.now counts.new tables.now) }
+    ensures room { IfOk result (λ plan. counts_planned plan ≤ counts.new.room) }
+{
+    match command {
+        Command::AssignUser { user, role } => {
+            let told = told_of_assignment(alloc, tables, counts, user, role)?;
+            plan_told(counts, told)
+        }
+        Command::AddInheritance {
+            ascendant,
+            descendant,
+        } => {
+            let told = told_of_inheritance(alloc, tables, counts, ascendant, descendant)?;
+            plan_told(counts, told)
+        }
+        _ => plan_recounted(counts, affected_pairs(alloc, tables, command)?),
+    }
+}
+
+/// Makes the counts right again after a command, by their plan. Takes no memory.
+pub(crate) fn commit_counts(
+    tables: &Tables,
+    command: &Command,
+    plan: PlannedCounts,
     counts: &mut Counts,
 )
     requires prepared { IsPrepared command.now plan counts.old tables.now }
-    requires room { length plan ≤ counts.old.room }
+    requires room { counts_planned plan ≤ counts.old.room }
     ensures { AreCountsBy tables.now counts.new }
 {
-    counts.commit(plan, &AuthorizedCounts { tables });
-    forget(command, counts);
+    match plan {
+        PlannedCounts::Told { counts: told } => counts.commit(told),
+        PlannedCounts::Recounted { pairs } => {
+            counts.recount(pairs, &AuthorizedCounts { tables });
+            forget(command, counts);
+        }
+    }
 }

@@ -21,7 +21,7 @@ mod separation;
 mod violation;
 
 use crate::authorization::some_inherits_some;
-use crate::counting::{affected_pairs, recount_affected};
+use crate::counting::{commit_counts, plan_counts};
 use crate::policy::hindrance::Hindrance;
 use crate::tables::Tables;
 use rbac_separation::Counts;
@@ -80,12 +80,10 @@ impl Policy {
             Err(Hindrance::Denied(denial)) => return Ok(Answer::Denied(denial)),
             Err(Hindrance::NoMemory) => return Err(AllocError),
         }
-        let counts = self
-            .counts
-            .plan(affected_pairs(alloc, &self.tables, command)?)?;
+        let counts = plan_counts(alloc, &self.tables, command, &mut self.counts)?;
         let tables = self.tables.plan(alloc, command)?;
         self.tables.commit(command, tables);
-        recount_affected(&self.tables, command, counts, &mut self.counts);
+        commit_counts(&self.tables, command, counts, &mut self.counts);
         Ok(Answer::Done)
     }
 

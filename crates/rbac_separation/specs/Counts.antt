@@ -6,6 +6,7 @@ use Rattle.std.specs.FinMap.Entries.{find}
 use Rattle.sorted_keys.specs.Keys.{has}
 use Rattle.rbac_terms.specs.Name.{Name, name_cmp, pair_cmp}
 use Rattle.rbac_terms.specs.Separation.{RoleSet}
+use Rattle.rbac_separation.specs.declared.count_plan.CountChange.{CountChange}
 
 -- numbers by the names of a set and a user, and for how many more there is room
 pub record Counts : Type 0 where
@@ -23,6 +24,11 @@ no_numbers s u = 0
 -- another number for one set and one user
 abbrev pub with_number : Name → Name → ℕ → (Name → Name → ℕ) → Name → Name → ℕ
 with_number set user n numbers s u = if eq_by_cmp name_cmp set s && eq_by_cmp name_cmp user u then n else numbers s u
+
+-- numbers that are given to sets and users, one after the other
+abbrev pub with_numbers : List CountChange → (Name → Name → ℕ) → Name → Name → ℕ
+with_numbers [] numbers = numbers
+with_numbers (change ∷ changes) numbers = with_numbers changes (with_number change.set change.user change.number numbers)
 
 -- 0 for a set, with each user
 abbrev pub without_set : Name → (Name → Name → ℕ) → Name → Name → ℕ

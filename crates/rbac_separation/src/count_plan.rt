@@ -1,67 +1,59 @@
-//! Numbers of sets and users that are planned, and then given.
-ghost use Rattle.std.specs.Prelude.{◌≡◌, ◌≤◌, ℕ, Bool, IsTrue, length, IfOk, if◌then◌else◌};
-ghost use Rattle.sorted_keys.specs.Keys.{has};
-ghost use Rattle.rbac_terms.specs.Name.{Name as NameValue, pair_cmp};
-ghost use Rattle.rbac_separation.specs.Counts.{numbers_of};
+//! Numbers of sets and users that are planned before a change, and then given.
+ghost use Rattle.std.specs.Prelude.{◌≡◌, ◌≤◌, length, IfOk};
+ghost use Rattle.rbac_separation.specs.Counts.{numbers_of, with_numbers};
 
 use crate::counts::Counts;
 use rbac_terms::Name;
 use std::alloc::AllocError;
 use std::marker::Model;
 
-/// The number that each set and user is to have.
-pub trait Numbering {
-    /// The number of a set and a user.
-    ghost number: { Self → NameValue → NameValue → ℕ };
-
-    /// Whether a set and a user have a number.
-    ghost is_numbered: { Self → NameValue → NameValue → Bool };
-
-    /// The number of a set and a user.
-    fn number(&self, set: &Name, user: &Name) -> u32
-        requires { IsTrue (is_numbered self.now set.now user.now) }
-        ensures { result ≡ number self.now set.now user.now };
+/// The number that a set and a user are to have.
+#[derive(Drop)]
+pub struct CountChange {
+    pub set: Name,
+    pub user: Name,
+    pub number: u32,
 }
 
-/// Sets and users that are to have other numbers, with names of their own.
+/// Numbers that sets and users are to have, one after the other, with names of their own.
 #[derive(Drop)]
 pub struct CountPlan {
-    pairs: Vec<(Name, Name)>,
+    changes: Vec<CountChange>,
 }
 
 impl Model for CountPlan {
     ghost use Rattle.std.specs.Prelude.{List};
-    ghost use Rattle.rbac_terms.specs.Name.{Name as NameValue};
+    ghost use Rattle.rbac_separation.specs.declared.count_plan.CountChange.{CountChange as CountChangeValue};
 
-    ghost Value = { List (NameValue × NameValue) };
+    ghost Value = { List CountChangeValue };
 
-    ghost view = { λ p. p.pairs.items };
+    ghost view = { λ p. p.changes.items };
 }
 
 impl Counts {
-    /// Makes room for other numbers of these pairs of a set and a user. The numbers stay as they are, also where memory ends.
+    /// Makes room for these numbers. The numbers stay as they are, also where memory ends. Where there are none nothing is done.
     ///
     /// # Errors
     /// `AllocError` where there is no memory for so many more. No number has changed.
-    pub fn plan(&mut self, pairs: Vec<(Name, Name)>) -> Result<CountPlan, AllocError>
+    pub fn plan(&mut self, changes: Vec<CountChange>) -> Result<CountPlan, AllocError>
         ensures numbers { numbers_of self.new ≡ numbers_of self.old }
-        ensures pairs { IfOk result (λ plan. plan ≡ pairs.items) }
+        ensures changes { IfOk result (λ plan. plan ≡ changes.items) }
         ensures room { IfOk result (λ plan. length plan ≤ self.new.room) }
     {
-        self.reserve(pairs.len())?;
-        Ok(CountPlan { pairs })
+        if !changes.is_empty() {
+            self.reserve(changes.len())?;
+        }
+        Ok(CountPlan { changes })
     }
 
     /// Gives each set and user of a plan its number. Takes no memory.
-    pub fn commit<N: Numbering>(&mut self, plan: CountPlan, numbering: &N)
-        requires room { length plan ≤ self.old.room }
-        requires numbered { (set user : NameValue) → IsTrue (has pair_cmp (set, user) plan) → IsTrue (N.is_numbered numbering.now set user) }
-        ensures { (set user : NameValue) → numbers_of self.new set user
-            ≡ (if has pair_cmp (set, user) plan then N.number numbering.now set user else numbers_of self.old set user) }
+    pub fn commit(&mut self, plan: CountPlan)
+        requires { length plan ≤ self.old.room }
+        ensures { numbers_of self.new ≡ with_numbers plan (numbers_of self.old) }
     {
-        for pair in plan.pairs {
-            let number = numbering.number(&pair.0, &pair.1);
-            self.put_ready(pair, number);
+        for change in plan.changes {
+            let CountChange { set, user, number } = change;
+            self.put_ready((set, user), number);
         }
     }
 }

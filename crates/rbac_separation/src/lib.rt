@@ -4,12 +4,14 @@
 mod change;
 mod count_plan;
 mod counts;
+mod recount;
 mod role_set;
 mod set_plan;
 mod set_table;
 
-pub use count_plan::{CountPlan, Numbering};
+pub use count_plan::{CountChange, CountPlan};
 pub use counts::Counts;
+pub use recount::{Numbering, RecountPlan};
 pub use role_set::RoleSet;
 pub use set_plan::{SetChange, SetPlan};
 pub use set_table::SetTable;

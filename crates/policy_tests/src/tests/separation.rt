@@ -2,7 +2,9 @@
 ghost use Rattle.std.specs.Prelude.{◌≤◌, length};
 
 use super::named::{assert_names, name, name_set};
-use rbac_separation::{CountPlan, Counts, Numbering, RoleSet, SetChange, SetPlan, SetTable};
+use rbac_separation::{
+    CountChange, CountPlan, Counts, Numbering, RecountPlan, RoleSet, SetChange, SetPlan, SetTable,
+};
 use rbac_terms::Name;
 use sorted_keys::{Duplicate, Same};
 use std::alloc::Global;
@@ -391,14 +393,28 @@ impl Numbering for OneNumber {
     }
 }
 
+// Plans this number of d and ann.
+fn plan_number(rt: &impl Abort, alloc: Global, counts: &mut Counts, number: u32) -> CountPlan
+    ensures { length result ≤ counts.new.room }
+{
+    let mut changes = Vec::new(alloc);
+    let change = CountChange {
+        set: name(rt, alloc, "d"),
+        user: name(rt, alloc, "ann"),
+        number,
+    };
+    changes.push(change).expect(rt, "memory");
+    counts.plan(changes).expect(rt, "memory")
+}
+
 // Plans another number of d and ann.
-fn plan_number(rt: &impl Abort, alloc: Global, counts: &mut Counts) -> CountPlan
+fn plan_recount(rt: &impl Abort, alloc: Global, counts: &mut Counts) -> RecountPlan
     ensures { length result ≤ counts.new.room }
 {
     let mut pairs = Vec::new(alloc);
     let pair = (name(rt, alloc, "d"), name(rt, alloc, "ann"));
     pairs.push(pair).expect(rt, "memory");
-    counts.plan(pairs).expect(rt, "memory")
+    counts.plan_recount(pairs).expect(rt, "memory")
 }
 
 fn number_of_ann(rt: &impl Abort, alloc: Global, counts: &Counts) -> u32 {
@@ -409,12 +425,26 @@ fn number_of_ann(rt: &impl Abort, alloc: Global, counts: &Counts) -> u32 {
 fn a_plan_of_numbers_changes_nothing_until_its_commit(rt: HostRuntime) {
     let alloc = rt.alloc();
     let mut counts = Counts::empty(alloc);
-    let plan = plan_number(&rt, alloc, &mut counts);
+    let plan = plan_number(&rt, alloc, &mut counts, 2);
     assert_eq!(rt; number_of_ann(&rt, alloc, &counts), 0);
-    counts.commit(plan, &OneNumber { number: 2 });
+    counts.commit(plan);
     assert_eq!(rt; number_of_ann(&rt, alloc, &counts), 2);
-    let plan = plan_number(&rt, alloc, &mut counts);
-    counts.commit(plan, &OneNumber { number: 0 });
+    let plan = plan_number(&rt, alloc, &mut counts, 0);
+    counts.commit(plan);
+    assert_eq!(rt; number_of_ann(&rt, alloc, &counts), 0);
+    drop(counts);
+}
+
+#[test]
+fn numbers_are_taken_anew_at_the_commit_of_their_plan(rt: HostRuntime) {
+    let alloc = rt.alloc();
+    let mut counts = Counts::empty(alloc);
+    let plan = plan_recount(&rt, alloc, &mut counts);
+    assert_eq!(rt; number_of_ann(&rt, alloc, &counts), 0);
+    counts.recount(plan, &OneNumber { number: 2 });
+    assert_eq!(rt; number_of_ann(&rt, alloc, &counts), 2);
+    let plan = plan_recount(&rt, alloc, &mut counts);
+    counts.recount(plan, &OneNumber { number: 0 });
     assert_eq!(rt; number_of_ann(&rt, alloc, &counts), 0);
     drop(counts);
 }

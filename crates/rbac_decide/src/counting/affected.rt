@@ -1,4 +1,5 @@
-//! The counts that a command may change: the pairs of a static set and a user, told before the change, with names of their own.
+//! The counts that a command may change and that are taken after the change: the pairs of a static set and a user, with names of
+//! their own.
 ghost use Rattle.std.specs.Prelude.{◌≡◌, ◌&&◌, ◌||◌, ◌∷◌, [], false, IfOk, IfSome, IfNone, OnOk, Some};
 ghost use Rattle.std.specs.List.{list_any};
 ghost use Rattle.std.specs.Ordering.{eq_by_cmp};
@@ -29,8 +30,8 @@ impl KeyTest<Name> for AuthorizedFor<'_> {
     }
 }
 
-// Whether the set has one of the roles.
-fn touches(below: &NameSet, roles: &RoleSet) -> bool
+/// Whether the set has one of the roles.
+pub fn touches(below: &NameSet, roles: &RoleSet) -> bool
     ensures { result ≡ list_any (λ r. has name_cmp r below.now) roles.now.roles }
 {
     roles.roles.names().iter().any(|role| below.contains(role))
@@ -151,7 +152,8 @@ fn pairs_of_set(
     Ok(pairs)
 }
 
-/// The pairs of a static set and a user whose count the command may change, other than those that a deletion takes out.
+/// The pairs of a static set and a user whose count the command may change, other than those that a deletion takes out, and those
+/// that are told before the change.
 ///
 /// # Errors
 /// `AllocError` where there is no memory for it.
@@ -163,13 +165,8 @@ pub fn affected_pairs(
     ensures { IfOk result (λ pairs. (s u : NameValue) → has pair_cmp (s, u) pairs.items ≡ may_change command.now tables.now s u) }
 {
     match command {
-        Command::AssignUser { user, role } => pairs_of_user(alloc, tables, user, role),
         Command::DeassignUser { user, role } => pairs_of_user(alloc, tables, user, role),
         Command::DeleteRole { role } => pairs_of_authorized(alloc, tables, role, role),
-        Command::AddInheritance {
-            ascendant,
-            descendant,
-        } => pairs_of_authorized(alloc, tables, ascendant, descendant),
         Command::DeleteInheritance {
             ascendant,
             descendant,

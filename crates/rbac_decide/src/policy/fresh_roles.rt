@@ -2,33 +2,16 @@
 ghost use Rattle.std.specs.Prelude.{◌≡◌, ◌&&◌, is_some, IfOk};
 ghost use Rattle.sorted_keys.specs.Keys.{has};
 ghost use Rattle.rbac_terms.specs.Name.{Name as NameValue, name_cmp};
-ghost use Rattle.rbac_terms.specs.Separation.{is_constrained};
 ghost use Rattle.rbac_terms.specs.Authorization.{is_authorized as is_authorized_in};
 ghost use Rattle.rbac_separation.specs.Counts.{numbers_of, first_over};
 ghost use Rattle.rbac_decide.specs.Counting.{authorized_count};
 ghost use Rattle.rbac_decide.specs.Breaking.{breaks_with, breaks_below, is_constrained_junior};
 
-use crate::authorization::{fresh_roles, names_where};
+use crate::authorization::{constrained_juniors, fresh_roles};
 use crate::policy::Policy;
-use rbac_hierarchy::RoleOrder;
 use rbac_separation::{Counts, SetTable};
 use rbac_terms::{Name, NameSet};
-use sorted_keys::KeyTest;
 use std::alloc::{AllocError, Global};
-
-// The roles of some of the sets.
-#[derive(Drop)]
-struct Constrained<'a> {
-    sets: &'a SetTable,
-}
-
-impl KeyTest<Name> for Constrained<'_> {
-    ghost passes = { λ constrained role. is_constrained role constrained.sets.now.content };
-
-    fn test(&self, role: &Name) -> bool {
-        self.sets.holds_role(role)
-    }
-}
 
 // Whether the user would have too many roles of some of the sets with the fresh ones.
 fn is_over_with(counts: &Counts, sets: &SetTable, user: &Name, fresh: &NameSet) -> bool
@@ -45,18 +28,11 @@ impl Policy {
         is_over_with(&self.counts, &self.tables.static_sets, user, fresh)
     }
 
-    // The roles of static sets that the role inherits. Where there is no static set nothing is gathered.
+    // The roles of static sets that the role inherits.
     fn constrained_juniors(&self, alloc: Global, role: &Name) -> Result<NameSet, AllocError>
         ensures { IfOk result (λ names. (r : NameValue) → has name_cmp r names ≡ is_constrained_junior self.now role.now r) }
     {
-        if self.tables.static_sets.len() == 0 {
-            return Ok(NameSet::new(alloc));
-        }
-        let juniors = self.tables.hierarchy.juniors(alloc, role)?;
-        let constrained = Constrained {
-            sets: &self.tables.static_sets,
-        };
-        names_where(alloc, &juniors, &constrained)
+        constrained_juniors(alloc, &self.tables, role)
     }
 
     // Whether the user would break a static set with what some role inherits besides: of that, these are the roles of static sets.

@@ -1,6 +1,4 @@
 use Rattle.std.proofs.Common.{◌≡◌, ◌∙◌, subst, sym, ap}
-use Rattle.sorted_keys.specs.Keys.{has}
-use Rattle.rbac_terms.specs.Name.{pair_cmp}
 use Rattle.rbac_terms.specs.Change.{change}
 use Rattle.rbac_terms.specs.Sound.{IsSound}
 use Rattle.rbac_terms.specs.Rows.{first_denial}
@@ -10,11 +8,11 @@ use Rattle.rbac_decide.proofs.TablesLemmas.{same_state, roles_stay_same, counts_
 use Rattle.rbac_decide.proofs.policy.Policy.change.Goals as goal
 
 -- where memory ends before anything is planned of the tables
-pub invariant_of-self-in_err-counts : goal.invariant_of-self-in_err-counts
-invariant_of-self-in_err-counts c = record {
+pub invariant_of-self : goal.invariant_of-self
+invariant_of-self c = record {
   sound = c.self.invariant.sound;
   same_roles = c.self.invariant.same_roles;
-  counted = λ set user. (λ i. c.in_err-counts.ensures.numbers i set user) ∙ c.self.invariant.counted set user;
+  counted = λ set user. (λ i. c.plan_counts.ensures.numbers i set user) ∙ c.self.invariant.counted set user;
 }
 
 -- where it ends in their plans
@@ -23,17 +21,17 @@ invariant_of-self-in_err-tables c =
     let same = c.in_err-tables.ensures.unchanged in
     let tables = c.self.inside.tables in
     record {
-      sound = subst IsSound (sym (same_state c.plan-2.new.self tables same c.self.inside.vocabulary)) c.self.invariant.sound;
-      same_roles = roles_stay_same c.plan-2.new.self tables same c.self.invariant.same_roles;
-      counted = counts_stay_right c.plan-2.new.self tables same c.self.inside.counts c.plan.new.self c.in_ok-counts.ensures.numbers c.self.invariant.counted;
+      sound = subst IsSound (sym (same_state c.plan.new.self tables same c.self.inside.vocabulary)) c.self.invariant.sound;
+      same_roles = roles_stay_same c.plan.new.self tables same c.self.invariant.same_roles;
+      counted = counts_stay_right c.plan.new.self tables same c.self.inside.counts c.plan_counts.new.counts c.plan_counts.ensures.numbers c.self.invariant.counted;
     }
 
-pub recount_affected-requires-clause-prepared : goal.recount_affected-requires-clause-prepared
-recount_affected-requires-clause-prepared c =
+pub commit_counts-requires-clause-prepared : goal.commit_counts-requires-clause-prepared
+commit_counts-requires-clause-prepared c =
     let v = c.self.inside.vocabulary in
     let tables = c.self.inside.tables in
     let made : state_of c.commit.new.self v ≡ change c.args.command.now (state_of tables v) =
-    c.commit.ensures.state v ∙ ap (change c.args.command.now) (same_state c.plan-2.new.self tables c.in_ok-tables.ensures.unchanged v) in
+    c.commit.ensures.state v ∙ ap (change c.args.command.now) (same_state c.plan.new.self tables c.in_ok-tables.ensures.unchanged v) in
     record {
       before = tables;
       step = record {
@@ -43,8 +41,8 @@ recount_affected-requires-clause-prepared c =
         made = made;
         sound_after = sound_then c.args.command.now c.args.self.now (state_of tables v) (state_of c.commit.new.self v) c.invariants.ensures c.self.invariant.sound c.in-Ok.ensures c.self.view_is made;
       };
-      counted = λ set user. (λ i. c.in_ok-counts.ensures.numbers i set user) ∙ c.self.invariant.counted set user;
-      told = λ set user. ap (has pair_cmp (set, user)) c.in_ok-counts.ensures.pairs ∙ c.in_ok-affected_pairs.ensures set user;
+      counted = λ set user. (λ i. c.plan_counts.ensures.numbers i set user) ∙ c.self.invariant.counted set user;
+      planned = c.in_ok-counts.ensures.planned;
     }
 
 -- where all plans are made, and the change by them
@@ -54,9 +52,9 @@ invariant_of-self-2 c =
     let tables = c.self.inside.tables in
     let same = c.in_ok-tables.ensures.unchanged in
     let made : state_of c.commit.new.self v ≡ change c.args.command.now (state_of tables v) =
-    c.commit.ensures.state v ∙ ap (change c.args.command.now) (same_state c.plan-2.new.self tables same v) in
+    c.commit.ensures.state v ∙ ap (change c.args.command.now) (same_state c.plan.new.self tables same v) in
     record {
       sound = sound_then c.args.command.now c.args.self.now (state_of tables v) (state_of c.commit.new.self v) c.invariants.ensures c.self.invariant.sound c.in-Ok.ensures c.self.view_is made;
-      same_roles = c.commit.ensures.same_roles (roles_stay_same c.plan-2.new.self tables same c.self.invariant.same_roles);
-      counted = c.recount_affected.ensures;
+      same_roles = c.commit.ensures.same_roles (roles_stay_same c.plan.new.self tables same c.self.invariant.same_roles);
+      counted = c.commit_counts.ensures;
     }

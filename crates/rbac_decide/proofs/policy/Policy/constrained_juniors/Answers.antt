@@ -1,21 +1,18 @@
-use Rattle.std.proofs.Common.{◌≡◌, ◌&&◌, List, subst}
+use Rattle.std.proofs.Common.{◌≡◌, List, subst}
 use Rattle.sorted_keys.specs.Keys.{has}
 use Rattle.rbac_terms.specs.Name.{Name, name_cmp}
 use Rattle.rbac_terms.specs.State.{State}
-use Rattle.rbac_terms.specs.Separation.{is_constrained}
+use Rattle.rbac_terms.specs.Vocabulary.{Vocabulary}
 use Rattle.rbac_hierarchy.proofs.LoopLemmas.{if_each}
 use Rattle.rbac_decide.specs.Tables.{state_of}
 use Rattle.rbac_decide.specs.Breaking.{is_constrained_junior}
-use Rattle.rbac_decide.proofs.FreshLemmas.{gathered}
 use Rattle.rbac_decide.proofs.policy.Policy.constrained_juniors.Goals as goal
 
 pub returns : goal.returns
 returns c =
-    let s : State = state_of c.self.inside.tables c.self.inside.vocabulary in
     let role = c.args.role.now in
-    let below = c.in_ok-juniors.juniors in
-    if_each c.names_where.result
-    (λ (kept : List Name). (r : Name) → has name_cmp r kept ≡ (has name_cmp r below && is_constrained r s.static_sets))
+    if_each c.constrained_juniors.result
+    (λ (kept : List Name). (v : Vocabulary) (r : Name) → has name_cmp r kept ≡ is_constrained_junior (state_of c.self.inside.tables v) role r)
     (λ (kept : List Name). (r : Name) → has name_cmp r kept ≡ is_constrained_junior c.args.self.now role r)
-    (λ kept told. subst (λ (seen : State). (r : Name) → has name_cmp r kept ≡ is_constrained_junior seen role r) c.self.view_is (gathered s role below kept c.in_ok-juniors.ensures told))
-    c.names_where.ensures
+    (λ kept told. subst (λ (seen : State). (r : Name) → has name_cmp r kept ≡ is_constrained_junior seen role r) c.self.view_is (told c.self.inside.vocabulary))
+    c.constrained_juniors.ensures

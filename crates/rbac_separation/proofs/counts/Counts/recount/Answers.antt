@@ -5,7 +5,7 @@ use Rattle.sorted_keys.specs.Keys.{has}
 use Rattle.rbac_terms.specs.Name.{Name, pair_cmp}
 use Rattle.rbac_separation.specs.Counts.{numbers_of, with_number}
 use Rattle.rbac_separation.proofs.PlanLemmas.{next_has, one_pair_done}
-use Rattle.rbac_separation.proofs.counts.Counts.commit.Goals as goal
+use Rattle.rbac_separation.proofs.counts.Counts.recount.Goals as goal
 
 pub number-number-requires : goal.number-number-requires
 number-number-requires g c =
