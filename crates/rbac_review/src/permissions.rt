@@ -11,7 +11,6 @@ use crate::parts::Parts;
 use rbac_hierarchy::RoleOrder;
 use rbac_rolesets::RoleSets;
 use rbac_terms::{Name, NameSet, PermissionSet, Vocabulary};
-use sorted_keys::KeyTest;
 use std::alloc::{AllocError, Global};
 
 // Whether one of the grants is to one of the roles.
@@ -34,21 +33,6 @@ pub(crate) fn is_granted_to_one(
 }
 
 // The permissions that are granted to one of the roles.
-#[derive(Drop)]
-struct GrantedToOne<'a> {
-    sets: &'a RoleSets,
-    roles: &'a NameSet,
-}
-
-impl KeyTest<(Name, Name)> for GrantedToOne<'_> {
-    ghost passes = { λ t permission. is_granted_to_one t.roles.now t.sets.now.content.granted permission };
-
-    fn test(&self, permission: &(Name, Name)) -> bool {
-        is_granted_to_one(self.sets, self.roles, &permission.0, &permission.1)
-    }
-}
-
-// The permissions that are granted to one of the roles.
 fn granted_to_one(
     alloc: Global,
     vocabulary: &Vocabulary,
@@ -57,7 +41,7 @@ fn granted_to_one(
 ) -> Result<PermissionSet, AllocError>
     ensures { IfOk result (λ permissions. permissions ≡ filter (is_granted_to_one roles.now sets.now.content.granted) vocabulary.now.permissions) }
 {
-    vocabulary.permissions_where(alloc, &GrantedToOne { sets, roles })
+    sets.permissions_granted(alloc, vocabulary, roles)
 }
 
 impl Parts<'_> {

@@ -1,8 +1,5 @@
 //! The users of a role, and the roles of a user.
 ghost use Rattle.std.specs.Prelude.{◌≡◌, IfOk, filter};
-ghost use Rattle.std.specs.List.{list_any};
-ghost use Rattle.sorted_keys.specs.Keys.{has};
-ghost use Rattle.rbac_terms.specs.Name.{name_cmp};
 ghost use Rattle.rbac_terms.specs.Relations.{users_of, roles_of};
 ghost use Rattle.rbac_terms.specs.Reviews.{authorized_users, authorized_roles};
 ghost use Rattle.rbac_review.specs.Among.{is_assigned_one};
@@ -11,30 +8,7 @@ use crate::parts::Parts;
 use rbac_hierarchy::{Hierarchy, RoleOrder};
 use rbac_rolesets::{RoleSets, RolesOf};
 use rbac_terms::{Name, NameSet};
-use sorted_keys::KeyTest;
 use std::alloc::{AllocError, Global};
-
-// Whether one of the assignments is of one of the roles.
-fn is_of_one(assignments: &[(Name, Name)], roles: &NameSet) -> bool
-    ensures { result ≡ list_any (λ pair. has name_cmp pair.1 roles.now) assignments.now }
-{
-    assignments.iter().any(|pair| roles.contains(&pair.1))
-}
-
-// The users that are assigned one of the roles.
-#[derive(Drop)]
-struct AssignedOne<'a> {
-    sets: &'a RoleSets,
-    roles: &'a NameSet,
-}
-
-impl KeyTest<Name> for AssignedOne<'_> {
-    ghost passes = { λ t user. is_assigned_one t.roles.now t.sets.now.content.assigned user };
-
-    fn test(&self, user: &Name) -> bool {
-        is_of_one(self.sets.assignments_of(user), self.roles)
-    }
-}
 
 // The users that are assigned one of the roles.
 fn users_assigned_one(
@@ -44,7 +18,7 @@ fn users_assigned_one(
 ) -> Result<NameSet, AllocError>
     ensures { let s = sets.now.content in IfOk result (λ users. users ≡ filter (is_assigned_one roles.now s.assigned) s.users) }
 {
-    sets.users_where(alloc, &AssignedOne { sets, roles })
+    sets.users_assigned(alloc, roles)
 }
 
 // The roles of the hierarchy that are assigned to the user.

@@ -1,24 +1,24 @@
-//! Which users a role is assigned to, and which roles are assigned to a user.
+//! Tests of roles: one role, and those that are assigned to a user.
 ghost use Rattle.std.specs.Prelude.{◌≡◌};
+ghost use Rattle.std.specs.Ordering.{eq_by_cmp};
 ghost use Rattle.sorted_keys.specs.Keys.{has};
-ghost use Rattle.rbac_terms.specs.Name.{pair_cmp};
+ghost use Rattle.rbac_terms.specs.Name.{name_cmp, pair_cmp};
 
 use crate::role_sets::RoleSets;
 use rbac_terms::Name;
 use sorted_keys::KeyTest;
 
-/// The users that a role is assigned to.
+/// One role.
 #[derive(Drop)]
-pub(crate) struct UsersOf<'a> {
-    pub sets: &'a RoleSets,
+pub(crate) struct TheRole<'a> {
     pub role: &'a Name,
 }
 
-impl KeyTest<Name> for UsersOf<'_> {
-    ghost passes = { λ users user. has pair_cmp (user, users.role.now) users.sets.now.content.assigned };
+impl KeyTest<Name> for TheRole<'_> {
+    ghost passes = { λ the name. eq_by_cmp name_cmp the.role.now name };
 
-    fn test(&self, user: &Name) -> bool {
-        self.sets.assigned(user, self.role)
+    fn test(&self, name: &Name) -> bool {
+        self.role.cmp(name).is_eq()
     }
 }
 

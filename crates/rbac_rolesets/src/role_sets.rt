@@ -3,11 +3,13 @@ ghost use Rattle.std.specs.Prelude.{◌≡◌, ◌↔◌, ◌<◌, ◌≤◌, �
 ghost use Rattle.std.specs.Ordering.{eq_by_cmp};
 ghost use Rattle.sorted_keys.specs.Keys.{has, with_key, without};
 ghost use Rattle.rbac_terms.specs.Name.{name_cmp, pair_cmp, grant_cmp};
-ghost use Rattle.rbac_terms.specs.Relations.{begins_with, users_of, roles_of, without_user, without_role};
+ghost use Rattle.rbac_terms.specs.Relations.{begins_with, roles_of, without_user, without_role};
 ghost use Rattle.rbac_rolesets.specs.Changes.{changed, made};
 ghost use Rattle.rbac_rolesets.specs.Sets.{Sets, no_sets, AreInOrder};
 
-use crate::assigned::{RolesOf, UsersOf};
+mod listed;
+
+use crate::assigned::RolesOf;
 use crate::change::{Change, Step};
 use crate::removal::{OtherRoles, OtherUsers};
 use rbac_terms::{Name, NameSet};
@@ -155,16 +157,6 @@ impl RoleSets {
         ensures { IfOk result (λ users. users ≡ filter (T.passes test.now) self.now.content.users) }
     {
         Ok(NameSet::of(self.users.copy_where(alloc, test)?))
-    }
-
-    /// The users that the role is assigned to.
-    ///
-    /// # Errors
-    /// `AllocError` where there is no memory for it.
-    pub fn users_of(&self, alloc: Global, role: &Name) -> Result<NameSet, AllocError>
-        ensures { let s = self.now.content in IfOk result (λ users. users ≡ users_of role.now s.users s.assigned) }
-    {
-        self.users_where(alloc, &UsersOf { sets: self, role })
     }
 
     /// The roles that are assigned to the user.

@@ -5,7 +5,7 @@ ghost use Rattle.sorted_keys.specs.Keys.{has, with_key, without};
 ghost use Rattle.rbac_terms.specs.Name.{name_cmp};
 
 use crate::name::Name;
-use sorted_keys::{Duplicate, Same, SortedSet};
+use sorted_keys::{Duplicate, KeyTest, Same, SortedSet};
 use std::alloc::{AllocError, Global};
 use std::marker::Model;
 
@@ -120,6 +120,15 @@ impl NameSet {
         Ok(NameSet {
             names: self.names.copy()?,
         })
+    }
+}
+
+/// The names of the set pass.
+impl KeyTest<Name> for NameSet {
+    ghost passes = { λ set name. has name_cmp name set };
+
+    fn test(&self, name: &Name) -> bool {
+        self.contains(name)
     }
 }
 

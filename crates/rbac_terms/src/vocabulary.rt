@@ -1,6 +1,7 @@
 //! The vocabulary of a policy: its operations, its objects and its permissions, and the kind of its role hierarchy.
-ghost use Rattle.std.specs.Prelude.{◌≡◌, ◌↔◌, IsTrue, None, Some, IfOk, IfErr, OnOk, OnErr, false, true, filter};
-ghost use Rattle.std.specs.List.{list_all};
+ghost use Rattle.std.specs.Prelude.{◌≡◌, ◌↔◌, ◌&&◌, IsTrue, None, Some, IfOk, IfErr, OnOk, OnErr, false, true, filter};
+ghost use Rattle.std.specs.List.{list_all, list_any};
+ghost use Rattle.std.specs.Ordering.{eq_by_cmp};
 ghost use Rattle.sorted_keys.specs.Keys.{has, set_of, repeats};
 ghost use Rattle.rbac_terms.specs.Build.{vocabulary_refusal};
 ghost use Rattle.rbac_terms.specs.Vocabulary.{IsVocabulary, is_listed};
@@ -181,6 +182,22 @@ impl Vocabulary {
         ensures { IfOk result (λ permissions. permissions ≡ filter (T.passes test.now) self.now.permissions) }
     {
         Ok(PermissionSet::of(self.permissions.copy_where(alloc, test)?))
+    }
+
+    /// The permissions of which a grant passes, by the test of what it is granted to.
+    ///
+    /// # Errors
+    /// `AllocError` where there is no memory for it.
+    pub fn permissions_granted<T: KeyTest<Name>>(
+        &self,
+        alloc: Global,
+        grants: &SortedSet<((Name, Name), Name)>,
+        test: &T,
+    ) -> Result<PermissionSet, AllocError>
+        ensures { IfOk result (λ permissions. permissions ≡ filter (λ permission. list_any (λ grant. eq_by_cmp pair_cmp permission grant.0 && T.passes test.now grant.1) grants.now.content) self.now.permissions) }
+    {
+        let permissions = self.permissions.copy_paired(alloc, grants, test)?;
+        Ok(PermissionSet::of(permissions))
     }
 
     /// Each vocabulary is within the limits, and its permissions speak of its own operations and objects.

@@ -1,0 +1,54 @@
+//! The users of roles and what is granted to them, each list by one walk over UA or PA.
+ghost use Rattle.std.specs.Prelude.{◌≡◌, ◌&&◌, IfOk, filter};
+ghost use Rattle.std.specs.List.{list_any};
+ghost use Rattle.std.specs.Ordering.{eq_by_cmp};
+ghost use Rattle.rbac_terms.specs.Name.{name_cmp, pair_cmp};
+ghost use Rattle.rbac_terms.specs.Relations.{users_of};
+
+use crate::assigned::TheRole;
+use crate::role_sets::RoleSets;
+use rbac_terms::{Name, NameSet, PermissionSet, Vocabulary};
+use sorted_keys::KeyTest;
+use std::alloc::{AllocError, Global};
+
+impl RoleSets {
+    /// The users that a role that passes the test is assigned to.
+    ///
+    /// # Errors
+    /// `AllocError` where there is no memory for it.
+    pub fn users_assigned<T: KeyTest<Name>>(
+        &self,
+        alloc: Global,
+        test: &T,
+    ) -> Result<NameSet, AllocError>
+        ensures { let s = self.now.content in IfOk result (λ users. users ≡ filter (λ user. list_any (λ pair. eq_by_cmp name_cmp user pair.0 && T.passes test.now pair.1) s.assigned) s.users) }
+    {
+        let users = self.users.copy_paired(alloc, &self.assigned, test)?;
+        Ok(NameSet::of(users))
+    }
+
+    /// The users that the role is assigned to.
+    ///
+    /// # Errors
+    /// `AllocError` where there is no memory for it.
+    pub fn users_of(&self, alloc: Global, role: &Name) -> Result<NameSet, AllocError>
+        ensures { let s = self.now.content in IfOk result (λ users. users ≡ users_of role.now s.users s.assigned) }
+    {
+        self.users_assigned(alloc, &TheRole { role })
+    }
+
+    /// The permissions of the vocabulary that are granted to a role that passes the test.
+    ///
+    /// # Errors
+    /// `AllocError` where there is no memory for it.
+    pub fn permissions_granted<T: KeyTest<Name>>(
+        &self,
+        alloc: Global,
+        vocabulary: &Vocabulary,
+        test: &T,
+    ) -> Result<PermissionSet, AllocError>
+        ensures { IfOk result (λ permissions. permissions ≡ filter (λ permission. list_any (λ grant. eq_by_cmp pair_cmp permission grant.0 && T.passes test.now grant.1) self.now.content.granted) vocabulary.now.permissions) }
+    {
+        vocabulary.permissions_granted(alloc, &self.granted, test)
+    }
+}
