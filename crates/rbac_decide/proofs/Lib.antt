@@ -3,6 +3,7 @@ pub mod ApplyLemmas
 pub mod CheckLemmas
 pub mod CountingLemmas
 pub mod CountingSteps
+pub mod EndingLemmas
 pub mod FreshLemmas
 pub mod PlanningLemmas
 pub mod SeparationLemmas

@@ -1,17 +1,20 @@
 -- What is planned of a command, and then what it takes out, is its change.
-use Rattle.std.proofs.Common.{◌≡◌, Bool, true, false, cond, not, ◌&&◌, refl, sym, ap, ◌∙◌}
+use Rattle.std.proofs.Common.{◌≡◌, Bool, true, false, cond, not, ◌&&◌, refl, sym, ap, ◌∙◌, subst}
 use Rattle.std.proofs.lemmas.Bool.{and_parts, not-false}
 use Rattle.sorted_keys.specs.Keys.{has, with_key, without}
+use Rattle.std.specs.List.{AllByRecursion as Each}
 use Rattle.sorted_keys.proofs.Kept.{still}
+use Rattle.sorted_keys.proofs.Lists.{Each-weaker}
 use Rattle.rbac_terms.specs.Name.{Name, name_cmp, pair_cmp}
 use Rattle.rbac_terms.specs.Inheritance.{inherits}
 use Rattle.rbac_terms.specs.State.{State}
 use Rattle.rbac_terms.specs.Vocabulary.{Vocabulary}
 use Rattle.rbac_terms.specs.Rows.{preconditions}
 use Rattle.rbac_terms.specs.Change.{change}
+use Rattle.rbac_terms.specs.Sound.{IsSessionSound}
 use Rattle.rbac_terms.specs.declared.separation.Separation.TheVariants.{Static, Dynamic}
 use Rattle.rbac_terms.specs.declared.command.Command.{Command}
-use Rattle.rbac_terms.specs.declared.command.Command.TheVariants.{AddRole, DeleteRole, AddInheritance, AddAscendant, AddDescendant, CreateSet, AddRoleMember}
+use Rattle.rbac_terms.specs.declared.command.Command.TheVariants.{AddRole, DeleteRole, DeassignUser, AddInheritance, AddAscendant, AddDescendant, CreateSet, AddRoleMember}
 use Rattle.rbac_terms.proofs.NameLemmas.{names_total}
 use Rattle.rbac_rules.proofs.InheritanceLemmas.{inherits_iff}
 use Rattle.rbac_rules.proofs.SoundParts.{none_fails}
@@ -21,7 +24,7 @@ use Rattle.rbac_hierarchy.specs.Changes.{with_pair}
 use Rattle.rbac_hierarchy.specs.Order.{Order}
 use Rattle.rbac_rolesets.specs.Sets.{Sets}
 use Rattle.rbac_decide.specs.declared.tables.Tables.{Tables}
-use Rattle.rbac_decide.specs.Planning.{sets_after, order_after, role_sets_after, sessions_after, taken_out, roles_left, IsGrown}
+use Rattle.rbac_decide.specs.Planning.{sets_after, order_after, role_sets_after, sessions_after, taken_out, roles_left, TakesFromSound, IsGrown}
 use Rattle.rbac_decide.specs.Tables.{state_of, HasSameRoles, IsUndenied}
 
 -- the state of tables with what a command makes of each
@@ -105,6 +108,14 @@ module _ (t : Tables) (v : Vocabulary) where
 
 pub made_by_plan : (c : Command) (t g : Tables) → IsGrown c t g → IsUndenied c t → (v : Vocabulary) → taken_out c (state_of g v) ≡ change c (state_of t v)
 made_by_plan c t g h u v = ap (taken_out c) (grown_state c t g h v) ∙ then_taken_out t v c u
+
+-- what an assignment is taken out of is as it was before: sound
+pub takes_from_sound : (c : Command) (t g : Tables) → IsGrown c t g → IsUndenied c t → TakesFromSound c g
+takes_from_sound (DeassignUser user role) t g h u = λ v.
+    subst (λ (s : State). Each (λ e. IsSessionSound s e.1) s.sessions) (sym (grown_state (DeassignUser user role) t g h v))
+    (Each-weaker (λ e. IsSessionSound (state_of t u.vocabulary) e.1) (λ e. IsSessionSound (state_of t v) e.1) t.sessions.content
+    (λ e sound. record { owned = sound.owned; active = sound.active; authorized = sound.authorized }) u.sound.sessions)
+takes_from_sound c t g h u = tt
 
 -- ---- The roles of the role sets go with those of the hierarchy
 

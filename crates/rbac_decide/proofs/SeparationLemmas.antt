@@ -160,13 +160,11 @@ module _ (kind : Separation) (set : Name) (f : RoleSet → RoleSet) (s : State) 
 pub created_violated : (user session : Name) (roles : List Name) (s : State) → IsSound s → is_violated Dynamic (change (CreateSession user session roles) s) ≡ breaks_dynamic s (record { owner = user; active = roles })
 created_violated user session roles s h = any_put name_cmp (breaks_dynamic s) session (record { owner = user; active = roles }) s.sessions h.separation.dynamic
 
-pub activated_violated : (user session role : Name) (s : State) → IsSound s → is_some (find name_cmp session s.sessions) ≡ true
-    → is_violated Dynamic (change (AddActiveRole user session role) s) ≡ found_and (λ x. breaks_dynamic s (with_active role x)) (find name_cmp session s.sessions)
-activated_violated user session role s h is =
-    let old = some_of (find name_cmp session s.sessions) is in
-    ap (list_any (λ e. breaks_dynamic s e.1)) (put_found name_cmp session (with_active role) s.sessions old.0 old.1)
-    ∙ any_put name_cmp (breaks_dynamic s) session (with_active role old.0) s.sessions h.separation.dynamic
-    ∙ sym (ap (found_and (λ x. breaks_dynamic s (with_active role x))) old.1)
+pub activated_violated : (user session role : Name) (found : Session) (s : State) → IsSound s → find name_cmp session s.sessions ≡ Some found
+    → is_violated Dynamic (change (AddActiveRole user session role) s) ≡ breaks_dynamic s (with_active role found)
+activated_violated user session role found s h is =
+    ap (list_any (λ e. breaks_dynamic s e.1)) (put_found name_cmp session (with_active role) s.sessions found is)
+    ∙ any_put name_cmp (breaks_dynamic s) session (with_active role found) s.sessions h.separation.dynamic
 
 -- ---- Assignments and pairs
 

@@ -1,5 +1,5 @@
 -- The change of a command in two parts: what may want memory, told for each table, and what is taken out after it, which wants none.
-use Rattle.std.specs.Prelude.{◌≡◌, ◌≤◌, List, [], Option, length}
+use Rattle.std.specs.Prelude.{⊤, ◌≡◌, ◌≤◌, List, [], Option, length}
 use Rattle.std.specs.FinMap.Entries.{put}
 use Rattle.sorted_keys.specs.Keys.{has, with_key, without, updated}
 use Rattle.staged.specs.Entries.{after_entries}
@@ -23,6 +23,7 @@ use Rattle.rbac_hierarchy.specs.Order.{Order}
 use Rattle.rbac_separation.specs.Changes.{changed as changed_set}
 use Rattle.rbac_separation.specs.declared.set_plan.SetChange.{SetChange}
 use Rattle.rbac_decide.specs.declared.tables.Tables.{Tables}
+use Rattle.rbac_decide.specs.Tables.{HasSoundSessions}
 use Rattle.rbac_decide.specs.declared.tables.planning.TablesPlan.{TablesPlan}
 use Rattle.rbac_decide.specs.declared.tables.planning.TablesPlan.TheVariants.{OfSets, OfRoles, OfOrder, OfRoleSets, OfSessions}
 
@@ -75,6 +76,11 @@ taken_out (SetCardinality kind set n) s = change (SetCardinality kind set n) s
 taken_out (DeleteSession user session) s = change (DeleteSession user session) s
 taken_out (DropActiveRole user session role) s = change (DropActiveRole user session role) s
 taken_out c s = s
+
+-- where an assignment is taken out, each session is as it should be
+abbrev pub TakesFromSound : Command → Tables → Type 0
+TakesFromSound (DeassignUser user role) t = HasSoundSessions t
+TakesFromSound c t = ⊤
 
 -- the roles of the role sets after that
 abbrev pub roles_left : Command → List Name → List Name

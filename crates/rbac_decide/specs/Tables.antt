@@ -1,9 +1,10 @@
 -- The sets that commands change, with a vocabulary, as the state of a policy.
 use Rattle.std.specs.Prelude.{[], ◌≡◌, None}
+use Rattle.std.specs.List.{AllByRecursion as Each}
 use Rattle.rbac_terms.specs.Vocabulary.{Vocabulary, no_vocabulary}
 use Rattle.rbac_terms.specs.State.{State}
 use Rattle.rbac_terms.specs.Rows.{first_denial}
-use Rattle.rbac_terms.specs.Sound.{IsSound}
+use Rattle.rbac_terms.specs.Sound.{IsSound, IsSessionSound}
 use Rattle.rbac_terms.specs.declared.command.Command.{Command}
 use Rattle.rbac_rolesets.specs.Sets.{Sets}
 use Rattle.rbac_hierarchy.specs.Order.{Order}
@@ -45,6 +46,10 @@ pub record IsUndenied (c : Command) (t : Tables) : Type 0 where
   pub vocabulary : Vocabulary
   pub sound : IsSound (state_of t vocabulary)
   pub undenied : first_denial c (state_of t vocabulary) ≡ None
+
+-- each session is as it should be, whatever the vocabulary
+abbrev pub HasSoundSessions : Tables → Type 0
+HasSoundSessions t = (v : Vocabulary) → Each (λ e. IsSessionSound (state_of t v) e.1) t.sessions.content
 
 -- both have the same sets
 pub record HaveSameSets (t other : Tables) : Type 0 where

@@ -1,5 +1,5 @@
 //! Which sessions a deletion ends.
-ghost use Rattle.std.specs.Prelude.{◌≡◌, ◌&&◌, not};
+ghost use Rattle.std.specs.Prelude.{◌≡◌, ◌&&◌, ◌||◌, not};
 ghost use Rattle.std.specs.Ordering.{eq_by_cmp};
 ghost use Rattle.sorted_keys.specs.Keys.{has};
 ghost use Rattle.rbac_terms.specs.Name.{name_cmp};
@@ -40,18 +40,22 @@ impl SessionTest for WithActive<'_> {
     }
 }
 
-/// The sessions of a user in which a role is active.
+/// The sessions of a user in which a role is active, or one that the user is not authorized for.
 #[derive(Drop)]
-pub(crate) struct OwnedWithActive<'a> {
+pub(crate) struct OwnedUnentitled<'a> {
+    pub sets: &'a RoleSets,
+    pub hierarchy: &'a Hierarchy,
     pub user: &'a Name,
     pub role: &'a Name,
 }
 
-impl SessionTest for OwnedWithActive<'_> {
-    ghost passes = { λ owned _ owner roles. eq_by_cmp name_cmp owned.user.now owner && has name_cmp owned.role.now roles };
+impl SessionTest for OwnedUnentitled<'_> {
+    ghost passes = { λ t _ owner roles. eq_by_cmp name_cmp t.user.now owner && (has name_cmp t.role.now roles || not (is_entitled_in (state_of_roles t.sets.now.content t.hierarchy.now.content) (record { owner = owner; active = roles }))) };
 
     fn test(&self, _session: &Name, owner: &Name, roles: &NameSet) -> bool {
-        self.user.cmp(owner).is_eq() && roles.contains(self.role)
+        self.user.cmp(owner).is_eq()
+            && (roles.contains(self.role)
+                || !is_entitled(self.sets, self.hierarchy, owner, roles))
     }
 }
 

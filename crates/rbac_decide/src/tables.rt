@@ -71,6 +71,7 @@ impl Tables {
     }
 
     // Makes what was planned for each table.
+    #[inline(always)]
     fn grow(&mut self, command: &Command, plan: TablesPlan)
         requires { IsPlanned command.now plan self.old }
         ensures { IsGrown command.now self.old self.new }
@@ -92,6 +93,7 @@ impl Tables {
     }
 
     /// Makes the change of a command that is not denied, by its plan. Takes no memory.
+    #[inline(always)]
     pub fn commit(&mut self, command: &Command, plan: TablesPlan)
         requires undenied { IsUndenied command.now self.old }
         requires planned { IsPlanned command.now plan self.old }

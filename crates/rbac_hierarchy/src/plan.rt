@@ -16,6 +16,7 @@ impl BitOrder {
     ///
     /// # Errors
     /// `AllocError` where there is no memory for the plan. No role and no pair has changed.
+    #[inline(always)]
     pub fn plan<'a>(
         &mut self,
         alloc: Global,
@@ -29,6 +30,7 @@ impl BitOrder {
     }
 
     /// Makes the changes that were planned, in order. Takes no memory.
+    #[inline(always)]
     pub fn commit(&mut self, plan: Plan)
         requires { length plan ≤ self.old.room }
         ensures { self.new.content ≡ made_all made plan.entry self.old.content }

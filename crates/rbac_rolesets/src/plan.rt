@@ -16,6 +16,7 @@ impl RoleSets {
     ///
     /// # Errors
     /// `AllocError` where there is no memory for the plan. No set has changed.
+    #[inline(always)]
     pub fn plan(&mut self, alloc: Global, changes: &[Change]) -> Result<Plan, AllocError>
         ensures content { self.new.content ≡ self.old.content }
         ensures changes { IfOk result (λ plan. made_all made plan self.old.content ≡ made_all changed changes.now self.old.content) }
@@ -25,6 +26,7 @@ impl RoleSets {
     }
 
     /// Makes the changes that were planned, in order. Takes no memory.
+    #[inline(always)]
     pub fn commit(&mut self, plan: Plan)
         requires { length plan ≤ self.old.room }
         ensures { self.new.content ≡ made_all made plan self.old.content }

@@ -294,6 +294,7 @@ impl Staged<Change<'_>> for RoleSets {
 
     ghost made = { made };
 
+    #[inline(always)]
     fn prepare(
         &self,
         _alloc: Global,
@@ -319,6 +320,7 @@ impl Staged<Change<'_>> for RoleSets {
         })
     }
 
+    #[inline(always)]
     fn make_room(&mut self, _alloc: Global, more: usize) -> Result<(), AllocError>
         ensures content { self.new.content ≡ self.old.content }
         ensures room { OnOk result (more ≤ self.new.room) }
@@ -329,6 +331,7 @@ impl Staged<Change<'_>> for RoleSets {
         self.granted.reserve(more)
     }
 
+    #[inline(always)]
     fn make(&mut self, step: Step)
         requires { 0 < self.old.room }
         ensures content { self.new.content ≡ made step self.old.content }

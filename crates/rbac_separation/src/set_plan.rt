@@ -9,8 +9,8 @@ ghost use Rattle.rbac_terms.specs.Change.{with_member};
 use crate::role_set::RoleSet;
 use crate::set_table::SetTable;
 use rbac_terms::{Name, NameSet};
-use sorted_keys::{Duplicate, SortedMap};
-use staged::{EntryChange, Plan, commit, make_plan};
+use sorted_keys::SortedMap;
+use staged::{EntryChange, Found, Plan, commit, make_plan};
 use std::alloc::{AllocError, Global};
 
 /// A call that may be refused, with its arguments.
@@ -31,9 +31,10 @@ pub enum SetChange<'a> {
 fn with_member(set: &RoleSet, role: &Name) -> Result<RoleSet, AllocError>
     ensures { IfOk result (λ more. more ≡ with_member role.now set.now) }
 {
-    let mut more = set.duplicate()?;
-    more.roles.add_copy(role)?;
-    Ok(more)
+    Ok(RoleSet {
+        roles: set.roles.copy_with(role)?,
+        cardinality: set.cardinality,
+    })
 }
 
 impl EntryChange<Name, RoleSet> for SetChange<'_> {
@@ -48,10 +49,10 @@ impl EntryChange<Name, RoleSet> for SetChange<'_> {
         }
     }
 
-    fn value(
+    fn value<F: Found<RoleSet>>(
         &self,
         _alloc: Global,
-        found: Option<&RoleSet>,
+        before: &F,
     ) -> Result<Option<RoleSet>, AllocError> {
         match self {
             SetChange::Create {
@@ -62,7 +63,7 @@ impl EntryChange<Name, RoleSet> for SetChange<'_> {
                 roles: roles.copy()?,
                 cardinality: *cardinality,
             })),
-            SetChange::AddMember { role, .. } => match found {
+            SetChange::AddMember { role, .. } => match before.find() {
                 Some(set) => Ok(Some(with_member(set, role)?)),
                 None => Ok(None),
             },
@@ -78,6 +79,7 @@ impl SetTable {
     ///
     /// # Errors
     /// `AllocError` where there is no memory for the plan. Nothing that it is about has changed.
+    #[inline(always)]
     pub fn plan(&mut self, alloc: Global, changes: &[SetChange]) -> Result<SetPlan, AllocError>
         ensures content { self.new.content ≡ self.old.content }
         ensures changes { IfOk result (λ plan. after_entries name_cmp plan self.old.content ≡ made_all changed changes.now self.old.content) }
@@ -87,6 +89,7 @@ impl SetTable {
     }
 
     /// Makes the changes that were planned, in order. Takes no memory.
+    #[inline(always)]
     pub fn commit(&mut self, plan: SetPlan)
         requires { length plan ≤ self.old.room }
         ensures { self.new.content ≡ after_entries name_cmp plan self.old.content }

@@ -9,8 +9,8 @@ ghost use Rattle.rbac_terms.specs.Change.{with_active};
 use crate::session::Session;
 use crate::sessions::Sessions;
 use rbac_terms::{Name, NameSet};
-use sorted_keys::{Duplicate, SortedMap};
-use staged::{EntryChange, commit, make_plan};
+use sorted_keys::SortedMap;
+use staged::{EntryChange, Found, commit, make_plan};
 use std::alloc::{AllocError, Global};
 
 /// A call that may be refused, with its arguments.
@@ -39,17 +39,17 @@ impl EntryChange<Name, Session> for Change<'_> {
         }
     }
 
-    fn value(
+    fn value<F: Found<Session>>(
         &self,
         _alloc: Global,
-        found: Option<&Session>,
+        before: &F,
     ) -> Result<Option<Session>, AllocError> {
         match self {
             Change::Create { user, roles, .. } => Ok(Some(Session {
                 owner: user.copy()?,
                 active: roles.copy()?,
             })),
-            Change::Activate { role, .. } => match found {
+            Change::Activate { role, .. } => match before.find() {
                 Some(session) => Ok(Some(with_active(session, role)?)),
                 None => Ok(None),
             },
@@ -61,9 +61,10 @@ impl EntryChange<Name, Session> for Change<'_> {
 fn with_active(session: &Session, role: &Name) -> Result<Session, AllocError>
     ensures { IfOk result (λ more. more ≡ with_active role.now session.now) }
 {
-    let mut more = session.duplicate()?;
-    more.active.add_copy(role)?;
-    Ok(more)
+    Ok(Session {
+        owner: session.owner.copy()?,
+        active: session.active.copy_with(role)?,
+    })
 }
 
 /// Changes of sessions, with all that they want but room.
@@ -74,6 +75,7 @@ impl Sessions {
     ///
     /// # Errors
     /// `AllocError` where there is no memory for the plan. No session has changed.
+    #[inline(always)]
     pub fn plan(&mut self, alloc: Global, changes: &[Change]) -> Result<Plan, AllocError>
         ensures content { self.new.content ≡ self.old.content }
         ensures changes { IfOk result (λ plan. after_entries name_cmp plan self.old.content ≡ made_all changed changes.now self.old.content) }
@@ -83,6 +85,7 @@ impl Sessions {
     }
 
     /// Makes the changes that were planned, in order. Takes no memory.
+    #[inline(always)]
     pub fn commit(&mut self, plan: Plan)
         requires { length plan ≤ self.old.room }
         ensures { self.new.content ≡ after_entries name_cmp plan self.old.content }

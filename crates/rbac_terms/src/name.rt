@@ -52,6 +52,7 @@ impl PartialEq for Name {
 
     ghost laws = { partial_equiv_from_equiv nat_list_eq_equiv };
 
+    #[inline(always)]
     fn eq(&self, other: &Name) -> bool {
         self.cmp(other).is_eq()
     }
@@ -72,6 +73,7 @@ impl Hash for Name {
 
     ghost respects_eq = { Prim.search (hashing, rules) };
 
+    #[inline(always)]
     fn hash<H: Hasher>(&self, state: &mut H) {
         state.write_u64(self.prefix);
         // Names of fewer than eight bytes are all in their number.
@@ -95,6 +97,7 @@ impl Ord for Name {
 
     ghost matches_eq = { Prim.search (comparing, rules) };
 
+    #[inline(always)]
     fn cmp(&self, other: &Name) -> Ordering {
         match self.prefix.cmp(&other.prefix) {
             // Names of fewer than eight bytes are all in their number.
@@ -116,6 +119,7 @@ impl PartialOrd for Name {
 
     ghost laws = { partial_order_from_own_ties (Prim.search (comparing, rules)) (Prim.search (comparing, rules)) };
 
+    #[inline(always)]
     fn partial_cmp(&self, other: &Name) -> Option<Ordering> {
         Some(self.cmp(other))
     }
@@ -202,6 +206,7 @@ impl Name {
     }
 
     /// The bytes that were read.
+    #[inline(always)]
     pub fn as_bytes(&self) -> &[u8]
         ensures bytes { result.now ≡ self.now }
         ensures well_formed { IsTrue (is_a_name self.now) }
@@ -213,6 +218,7 @@ impl Name {
     ///
     /// # Errors
     /// `AllocError` where there is no memory for it.
+    #[inline(always)]
     pub fn copy(&self) -> Result<Name, AllocError>
         ensures { IfOk result (λ copy. copy ≡ self.now) }
     {
@@ -229,6 +235,7 @@ impl Clone for Name {
 
     ghost is_clone = { λ name clone. clone ≡ name };
 
+    #[inline(always)]
     fn clone(&self) -> Result<Name, AllocError> {
         self.copy()
     }
@@ -242,12 +249,14 @@ impl Exact for Name {
 }
 
 impl Duplicate for Name {
+    #[inline(always)]
     fn duplicate(&self) -> Result<Name, AllocError> {
         self.clone()
     }
 }
 
 impl Same for Name {
+    #[inline(always)]
     fn same(&self, other: &Name) -> bool {
         self == other
     }

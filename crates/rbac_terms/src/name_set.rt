@@ -121,6 +121,18 @@ impl NameSet {
             names: self.names.copy()?,
         })
     }
+
+    /// A set of these names and one more.
+    ///
+    /// # Errors
+    /// `AllocError` where there is no memory for it.
+    pub fn copy_with(&self, name: &Name) -> Result<NameSet, AllocError>
+        ensures { IfOk result (λ copy. copy ≡ with_key name_cmp name.now self.now) }
+    {
+        Ok(NameSet {
+            names: self.names.copy_with(name)?,
+        })
+    }
 }
 
 /// The names of the set pass.

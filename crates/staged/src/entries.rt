@@ -1,12 +1,12 @@
 //! Maps that are changed by plans.
-ghost use Rattle.std.specs.Prelude.{◌≡◌, [], Bool, List, Option, IfOk, if◌then◌else◌};
+ghost use Rattle.std.specs.Prelude.{◌≡◌, Bool, List, Option, IfOk, if◌then◌else◌};
 ghost use Rattle.std.specs.Option.{option_copied, option_or};
 ghost use Rattle.std.specs.FinMap.Entries.{find};
 ghost use Rattle.staged.specs.Entries.{after_entries, with_entry};
-ghost use Rattle.staged.specs.Made.{all_steps};
 
 use crate::plan::Plan;
 use crate::staged::Staged;
+use crate::steps::Steps;
 use sorted_keys::SortedMap;
 use std::alloc::{AllocError, Global};
 
@@ -25,12 +25,22 @@ pub trait EntryChange<K, V> {
     fn key(&self) -> Result<K, AllocError>
         ensures { IfOk result (λ own. own ≡ key self.now) };
 
-    /// The value after the change, with memory of its own.
+    /// The value after the change, with memory of its own. It asks for the value before it only where it wants it.
     ///
     /// # Errors
     /// `AllocError` where the value gets no memory.
-    fn value(&self, alloc: Global, found: Option<&V>) -> Result<Option<V>, AllocError>
-        ensures { IfOk result (λ value. value ≡ becomes self.now (option_copied found.entry)) };
+    fn value<F: Found<V>>(&self, alloc: Global, before: &F) -> Result<Option<V>, AllocError>
+        ensures { IfOk result (λ value. value ≡ becomes self.now (F.found before.now)) };
+}
+
+/// What stands at a key, looked up where it is asked for.
+pub trait Found<V> {
+    /// What stands there.
+    ghost found: { Self → Option V };
+
+    /// What stands there, lent.
+    fn find(&self) -> Option<&V>
+        ensures { option_copied result ≡ found self.now };
 }
 
 // The newer of two values, where it is at the key that is asked for.
@@ -57,20 +67,6 @@ fn found_next<'a, K: Ord + Drop, V: Drop>(
     newer(key.cmp(&step.0).is_eq(), &step.1, found)
 }
 
-// What stands at the key after a first step, where there is one.
-fn found_first<'a, K: Ord + Drop, V: Drop>(
-    found: Option<&'a V>,
-    first: Option<&'a (K, Option<V>)>,
-    key: &K,
-) -> Option<&'a V>
-    ensures { (before : List (K × V)) → option_copied found.entry ≡ find K.cmp key.now before → option_copied result ≡ find K.cmp key.now (after_entries K.cmp (all_steps (option_copied first.entry) []) before) }
-{
-    match first {
-        Some(step) => found_next(found, step, key),
-        None => found,
-    }
-}
-
 // What stands at the key after these steps, by what stood there before them.
 fn found_later<'a, K: Ord + Drop, V: Drop>(
     found: Option<&'a V>,
@@ -94,9 +90,28 @@ fn found_after<'a, K: Ord + Drop, V: Drop>(
 ) -> Option<&'a V>
     ensures { option_copied result ≡ find K.cmp key.now (after_entries K.cmp plan.now map.now.content) }
 {
-    let (first, rest) = plan.steps();
-    let found = found_first(map.get(key), first, key);
-    found_later(found, rest, key)
+    let found = map.get(key);
+    match plan.steps() {
+        Steps::Empty => found,
+        Steps::One(step) => found_next(found, step, key),
+        Steps::Several(steps) => found_later(found, steps, key),
+    }
+}
+
+// What stands at a key after the steps of a plan.
+#[derive(Drop)]
+struct FoundAfter<'a, K: Ord, V> {
+    map: &'a SortedMap<K, V>,
+    plan: &'a Plan<(K, Option<V>)>,
+    key: &'a K,
+}
+
+impl<K: Ord + Drop, V: Drop> Found<V> for FoundAfter<'_, K, V> {
+    ghost found = { λ f. find K.cmp f.key.now (after_entries K.cmp f.plan.now f.map.now.content) };
+
+    fn find(&self) -> Option<&V> {
+        found_after(self.map, self.plan, self.key)
+    }
 }
 
 impl<K: Ord + Drop, V: Drop, C: EntryChange<K, V>> Staged<C> for SortedMap<K, V> {
@@ -112,6 +127,7 @@ impl<K: Ord + Drop, V: Drop, C: EntryChange<K, V>> Staged<C> for SortedMap<K, V>
 
     ghost made = { λ step es. with_entry K.cmp step.0 step.1 es };
 
+    #[inline(always)]
     fn prepare(
         &self,
         alloc: Global,
@@ -119,14 +135,21 @@ impl<K: Ord + Drop, V: Drop, C: EntryChange<K, V>> Staged<C> for SortedMap<K, V>
         change: &C,
     ) -> Result<(K, Option<V>), AllocError> {
         let key = change.key()?;
-        let value = change.value(alloc, found_after(self, before, &key))?;
+        let found = FoundAfter {
+            map: self,
+            plan: before,
+            key: &key,
+        };
+        let value = change.value(alloc, &found)?;
         Ok((key, value))
     }
 
+    #[inline(always)]
     fn make_room(&mut self, _alloc: Global, more: usize) -> Result<(), AllocError> {
         self.reserve(more)
     }
 
+    #[inline(always)]
     fn make(&mut self, step: (K, Option<V>)) {
         let (key, value) = step;
         if let Some(value) = value {

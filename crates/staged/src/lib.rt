@@ -4,7 +4,8 @@
 mod entries;
 mod plan;
 mod staged;
+mod steps;
 
-pub use entries::EntryChange;
+pub use entries::{EntryChange, Found};
 pub use plan::Plan;
 pub use staged::{Staged, commit, make_plan};

@@ -1,62 +1,82 @@
 //! Steps that were made ready.
-ghost use Rattle.std.specs.Prelude.{◌≡◌, ◌++◌, ◌∷◌, [], OnOk, OnErr};
-ghost use Rattle.std.specs.Option.{option_copied};
-ghost use Rattle.staged.specs.Made.{all_steps};
+ghost use Rattle.std.specs.Prelude.{◌≡◌, ◌++◌, ◌∷◌, [], IfOk};
+ghost use Rattle.staged.specs.Steps.{all_steps};
 
+use crate::steps::Steps;
 use std::alloc::{AllocError, Global};
 use std::marker::Model;
 
 /// Steps that were made ready, in order. One step takes no memory of its own, since most changes make one.
 #[derive(Drop)]
 pub struct Plan<T> {
-    first: Option<T>,
-    rest: Vec<T>,
+    steps: Steps<T>,
 }
 
 impl<T> Model for Plan<T> {
     ghost use Rattle.std.specs.Prelude.{List};
-    ghost use Rattle.staged.specs.Made.{all_steps, HasFirst};
+    ghost use Rattle.staged.specs.Steps.{all_steps};
 
     ghost Value = { List T };
 
-    ghost view = { λ p. all_steps p.first p.rest.items };
+    ghost view = { λ p. all_steps p.steps };
+}
 
-    ghost invariant = { λ p. HasFirst p.first p.rest.items };
+// These two.
+fn pair<T: Drop>(alloc: Global, first: T, second: T) -> Result<Vec<T>, AllocError>
+    ensures { IfOk result (λ steps. steps.items ≡ first ∷ second ∷ []) }
+{
+    let mut steps = Vec::with_capacity(alloc, 2)?;
+    steps.push(first)?;
+    steps.push(second)?;
+    Ok(steps)
+}
+
+// The steps of a list and one more.
+fn longer<T: Drop>(steps: Vec<T>, step: T) -> Result<Vec<T>, AllocError>
+    ensures { IfOk result (λ more. more.items ≡ steps.items ++ step ∷ []) }
+{
+    let mut more = steps;
+    more.push(step)?;
+    Ok(more)
 }
 
 impl<T: Drop> Plan<T> {
-    /// No steps, which takes no memory.
-    pub fn empty(alloc: Global) -> Plan<T>
+    /// No steps.
+    #[inline(always)]
+    pub fn empty() -> Plan<T>
         ensures { result ≡ [] }
     {
         Plan {
-            first: None,
-            rest: Vec::new(alloc),
+            steps: Steps::Empty,
         }
     }
 
-    // One more step, after the others.
-    pub(crate) fn add(&mut self, step: T) -> Result<(), AllocError>
-        ensures added { OnOk result (self.new ≡ self.old ++ step ∷ []) }
+    // These steps, and one more after them.
+    #[inline(always)]
+    pub(crate) fn with(self, alloc: Global, step: T) -> Result<Plan<T>, AllocError>
+        ensures { IfOk result (λ plan. plan ≡ self ++ step ∷ []) }
     {
-        if self.first.is_none() {
-            self.first = Some(step);
-            return Ok(());
-        }
-        Ok(self.rest.push(step)?)
+        let steps = match self.steps {
+            Steps::Empty => Steps::One(step),
+            Steps::One(first) => Steps::Several(pair(alloc, first, step)?),
+            Steps::Several(steps) => Steps::Several(longer(steps, step)?),
+        };
+        Ok(Plan { steps })
     }
 
-    // The first step, and the others in order, lent.
-    pub(crate) fn steps(&self) -> (Option<&T>, &[T])
-        ensures { all_steps (option_copied result.0) result.1.now ≡ self.now }
+    // The steps, lent.
+    #[inline(always)]
+    pub(crate) fn steps(&self) -> &Steps<T>
+        ensures { all_steps result.now ≡ self.now }
     {
-        (self.first.as_ref(), &self.rest)
+        &self.steps
     }
 
-    // The first step, and the others in order.
-    pub(crate) fn into_steps(self) -> (Option<T>, Vec<T>)
-        ensures { all_steps result.0 result.1.items ≡ self }
+    // The steps.
+    #[inline(always)]
+    pub(crate) fn into_steps(self) -> Steps<T>
+        ensures { all_steps result ≡ self }
     {
-        (self.first, self.rest)
+        self.steps
     }
 }

@@ -3,6 +3,7 @@ ghost use Rattle.std.specs.Prelude.{◌≡◌, ◌<◌, ◌≤◌, ◌+◌, ℕ,
 ghost use Rattle.staged.specs.Made.{made_all};
 
 use crate::plan::Plan;
+use crate::steps::Steps;
 use std::alloc::{AllocError, Global};
 
 /// What is changed, as changes of type `C` ask for it, by steps that were made ready before.
@@ -52,6 +53,7 @@ pub trait Staged<C> {
 }
 
 // The steps that make these changes one after the other.
+#[inline(always)]
 fn prepare_all<C, S: Staged<C>>(
     alloc: Global,
     staged: &S,
@@ -60,10 +62,10 @@ fn prepare_all<C, S: Staged<C>>(
     ensures made { let content = S.content staged.now in IfOk result (λ plan. made_all S.made plan content ≡ made_all S.changed changes.now content) }
     ensures length { IfOk result (λ plan. length plan ≡ length changes.now) }
 {
-    let mut plan = Plan::empty(alloc);
+    let mut plan = Plan::empty();
     for change in changes {
         let step = staged.prepare(alloc, &plan, change)?;
-        plan.add(step)?;
+        plan = plan.with(alloc, step)?;
     }
     Ok(plan)
 }
@@ -73,6 +75,7 @@ fn prepare_all<C, S: Staged<C>>(
 ///
 /// # Errors
 /// `AllocError` where the steps, or the room for them, get no memory.
+#[inline(always)]
 pub fn make_plan<C, S: Staged<C>>(
     alloc: Global,
     staged: &mut S,
@@ -98,13 +101,14 @@ fn make_each<C, S: Staged<C>>(staged: &mut S, steps: Vec<S::Step>)
 }
 
 /// Makes the steps in order. Takes no memory.
+#[inline(always)]
 pub fn commit<C, S: Staged<C>>(staged: &mut S, plan: Plan<S::Step>)
     requires { length plan ≤ S.room staged.old }
     ensures { S.content staged.new ≡ made_all S.made plan (S.content staged.old) }
 {
-    let (first, rest) = plan.into_steps();
-    if let Some(step) = first {
-        staged.make(step);
+    match plan.into_steps() {
+        Steps::Empty => {}
+        Steps::One(step) => staged.make(step),
+        Steps::Several(steps) => make_each::<C, S>(staged, steps),
     }
-    make_each::<C, S>(staged, rest);
 }

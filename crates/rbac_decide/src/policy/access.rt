@@ -6,7 +6,6 @@ ghost use Rattle.std.specs.Option.{option_copied};
 ghost use Rattle.std.specs.FinMap.Entries.{find};
 ghost use Rattle.rbac_terms.specs.Name.{name_cmp};
 ghost use Rattle.rbac_terms.specs.Authorization.{inherits_in, is_authorized as is_authorized_in};
-ghost use Rattle.rbac_terms.specs.Rows.{is_owner, is_active};
 ghost use Rattle.rbac_terms.specs.Effect.{reply};
 ghost use Rattle.rbac_terms.specs.declared.command.Command.TheVariants.{CheckAccess};
 
@@ -51,26 +50,6 @@ impl Policy {
         ensures { result ≡ list_all (is_authorized_in self.now user.now) roles.now }
     {
         is_authorized_for_all(&self.tables.sets, &self.tables.hierarchy, user, roles)
-    }
-
-    /// Whether the session is the user's.
-    pub(crate) fn is_owner(&self, session: &Name, user: &Name) -> bool
-        ensures { result ≡ is_owner self.now session.now user.now }
-    {
-        match self.tables.sessions.get(session) {
-            Some(session) => user.cmp(&session.owner).is_eq(),
-            None => false,
-        }
-    }
-
-    /// Whether the role is active in the session.
-    pub(crate) fn is_active(&self, session: &Name, role: &Name) -> bool
-        ensures { result ≡ is_active self.now session.now role.now }
-    {
-        match self.tables.sessions.get(session) {
-            Some(session) => session.active.contains(role),
-            None => false,
-        }
     }
 
     /// The session of this name.

@@ -14,6 +14,7 @@ use crate::authorization::count_authorized;
 use crate::breaking::Breaking;
 use crate::policy::Policy;
 use rbac_separation::SetTable;
+use rbac_sessions::Session;
 use rbac_terms::{Name, NameSet, Separation};
 use std::alloc::AllocError;
 
@@ -85,8 +86,7 @@ impl Policy {
     {
         match self.set(kind, set) {
             Some(set) => {
-                let mut roles = set.roles.copy()?;
-                roles.add(role.copy()?)?;
+                let roles = set.roles.copy_with(role)?;
                 Ok(self.breaks_set(kind, &roles, set.cardinality))
             }
             None => Ok(false),
@@ -103,17 +103,15 @@ impl Policy {
         }
     }
 
-    /// Whether as many roles of some dynamic set as its number would be active in the session with this role besides.
-    pub(crate) fn breaks_active(&self, session: &Name, role: &Name) -> Result<bool, AllocError>
-        ensures { IfOk result (λ breaks. breaks ≡ found_and (λ x. breaks_dynamic self.now (with_active role.now x)) (find name_cmp session.now self.now.sessions)) }
+    /// Whether as many roles of some dynamic set as its number would be active in the session with this role besides. Where there is
+    /// no dynamic set nothing is gathered.
+    pub(crate) fn breaks_active(&self, session: &Session, role: &Name) -> Result<bool, AllocError>
+        ensures { IfOk result (λ breaks. breaks ≡ breaks_dynamic self.now (with_active role.now session.now)) }
     {
-        match self.session(session) {
-            Some(session) => {
-                let mut active = session.active.copy()?;
-                active.add(role.copy()?)?;
-                Ok(self.breaks_dynamic(&active))
-            }
-            None => Ok(false),
+        if self.tables.dynamic_sets.len() == 0 {
+            return Ok(false);
         }
+        let active = session.active.copy_with(role)?;
+        Ok(self.breaks_dynamic(&active))
     }
 }

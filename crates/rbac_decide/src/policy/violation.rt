@@ -1,16 +1,18 @@
 //! Whether a change would break separation of duty, or size a set badly: asked before the change is made. Of a sound policy only
 //! what the change touches needs to be tried.
-ghost use Rattle.std.specs.Prelude.{◌≡◌, IsTrue, IfOk};
+ghost use Rattle.std.specs.Prelude.{◌≡◌, IsTrue, IfOk, Some};
+ghost use Rattle.std.specs.FinMap.Entries.{find};
 ghost use Rattle.sorted_keys.specs.Keys.{has};
 ghost use Rattle.rbac_terms.specs.Name.{name_cmp};
 ghost use Rattle.rbac_terms.specs.Change.{change};
 ghost use Rattle.rbac_terms.specs.Constraints.{is_violated, is_badly_sized};
-ghost use Rattle.rbac_terms.specs.Rows.{is_session, is_set};
+ghost use Rattle.rbac_terms.specs.Rows.{is_set};
 ghost use Rattle.rbac_terms.specs.declared.separation.Separation.TheVariants.{Static, Dynamic};
 ghost use Rattle.rbac_terms.specs.declared.command.Command.TheVariants.{AssignUser, AddInheritance, CreateSession, AddActiveRole, CreateSet, AddRoleMember, DeleteRoleMember, SetCardinality};
 
 use crate::policy::Policy;
 use crate::policy::separation::is_well_sized;
+use rbac_sessions::Session;
 use rbac_terms::{Name, NameSet, Separation};
 use std::alloc::{AllocError, Global};
 
@@ -52,18 +54,19 @@ impl Policy {
         self.breaks_dynamic(roles)
     }
 
-    /// Whether the session would break dynamic separation with the role active besides.
+    /// Whether the session of this name would break dynamic separation with the role active besides.
     pub(crate) fn activation_violates(
         &self,
         user: &Name,
         session: &Name,
+        found: &Session,
         role: &Name,
     ) -> Result<bool, AllocError>
-        requires session { IsTrue (is_session self.now session.now) }
+        requires { find name_cmp session.now self.now.sessions ≡ Some found.now }
         ensures { IfOk result (λ violates. violates ≡ is_violated Dynamic (change (AddActiveRole user.now session.now role.now) self.now)) }
     {
         self.invariants();
-        self.breaks_active(session, role)
+        self.breaks_active(found, role)
     }
 
     /// Whether the set would be badly sized.

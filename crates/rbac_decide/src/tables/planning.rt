@@ -48,6 +48,7 @@ impl Tables {
     ghost use Rattle.rbac_decide.specs.Planning.{changed_of_kind, MakesOf, IsPlanned};
     ghost use Rattle.rbac_decide.specs.Tables.{HaveSameSets};
 
+    #[inline(always)]
     fn plan_sets<'a>(
         &mut self,
         alloc: Global,
@@ -62,6 +63,7 @@ impl Tables {
     }
 
     // Plans a new role, and other changes of the hierarchy with it.
+    #[inline(always)]
     fn plan_role<'a>(
         &mut self,
         alloc: Global,
@@ -77,6 +79,7 @@ impl Tables {
         })
     }
 
+    #[inline(always)]
     fn plan_order<'a>(
         &mut self,
         alloc: Global,
@@ -90,6 +93,7 @@ impl Tables {
         })
     }
 
+    #[inline(always)]
     fn plan_role_sets<'a>(
         &mut self,
         alloc: Global,
@@ -106,6 +110,7 @@ impl Tables {
         Ok(TablesPlan::OfRoleSets { kind, role_sets })
     }
 
+    #[inline(always)]
     fn plan_sessions<'a>(
         &mut self,
         alloc: Global,
@@ -123,6 +128,7 @@ impl Tables {
     ///
     /// # Errors
     /// `AllocError` where there is no memory for a plan.
+    #[inline(always)]
     pub(crate) fn plan<'a>(
         &mut self,
         alloc: Global,

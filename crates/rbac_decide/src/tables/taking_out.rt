@@ -5,13 +5,13 @@ ghost use Rattle.rbac_terms.specs.Change.{change};
 ghost use Rattle.rbac_terms.specs.Vocabulary.{Vocabulary as VocabularyValue};
 ghost use Rattle.rbac_terms.specs.declared.command.Command.TheVariants.{DeleteUser, DeleteRole, DeassignUser, DeleteSet, DeleteRoleMember, SetCardinality};
 
-use crate::ending::{OwnedBy, OwnedWithActive, Unentitled, WithActive};
+use crate::ending::{OwnedBy, OwnedUnentitled, Unentitled, WithActive};
 use crate::tables::Tables;
 use rbac_terms::{Command, Name, Separation};
 
 impl Tables {
-    ghost use Rattle.rbac_decide.specs.Planning.{taken_out, roles_left};
-    ghost use Rattle.rbac_decide.specs.Tables.{state_of};
+    ghost use Rattle.rbac_decide.specs.Planning.{taken_out, roles_left, TakesFromSound};
+    ghost use Rattle.rbac_decide.specs.Tables.{state_of, HasSoundSessions};
 
     // Ends the sessions that are not entitled to an active role.
     fn purge(&mut self)
@@ -45,14 +45,20 @@ impl Tables {
         self.purge();
     }
 
+    // Of a sound policy none but the user's own sessions can end, so no other is looked at.
     fn deassign_user(&mut self, user: &Name, role: &Name)
+        requires { HasSoundSessions self.old }
         ensures state { (v : VocabularyValue) → state_of self.new v ≡ change (DeassignUser user.now role.now) (state_of self.old v) }
         ensures roles { self.new.sets.content.roles ≡ self.old.sets.content.roles }
         ensures hierarchy { self.new.hierarchy.content ≡ self.old.hierarchy.content }
     {
         self.sets.deassign(user, role);
-        self.sessions.delete_where(&OwnedWithActive { user, role });
-        self.purge();
+        self.sessions.delete_where(&OwnedUnentitled {
+            sets: &self.sets,
+            hierarchy: &self.hierarchy,
+            user,
+            role,
+        });
     }
 
     fn delete_set(&mut self, kind: Separation, set: &Name)
@@ -90,6 +96,7 @@ impl Tables {
 
     /// Takes out what a command takes out. Takes no memory.
     pub(crate) fn take_out(&mut self, command: &Command)
+        requires { TakesFromSound command.now self.old }
         ensures state { (v : VocabularyValue) → state_of self.new v ≡ taken_out command.now (state_of self.old v) }
         ensures roles { self.new.sets.content.roles ≡ roles_left command.now self.old.sets.content.roles }
         ensures hierarchy { self.new.hierarchy.content ≡ self.old.hierarchy.content }

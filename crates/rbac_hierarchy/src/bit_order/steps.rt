@@ -139,6 +139,7 @@ impl<'a> Staged<Change<'a>> for BitOrder {
 
     ghost made = { made };
 
+    #[inline(always)]
     fn prepare(
         &self,
         _alloc: Global,
@@ -165,6 +166,7 @@ impl<'a> Staged<Change<'a>> for BitOrder {
         })
     }
 
+    #[inline(always)]
     fn make_room(&mut self, alloc: Global, more: usize) -> Result<(), AllocError>
         ensures content { self.new.content ≡ self.old.content }
         ensures room { OnOk result (more ≤ self.new.room) }
@@ -172,6 +174,7 @@ impl<'a> Staged<Change<'a>> for BitOrder {
         self.reserve(alloc, more)
     }
 
+    #[inline(always)]
     fn make(&mut self, step: Step<'a>)
         requires { 0 < self.old.room }
         ensures content { self.new.content ≡ made step.entry self.old.content }

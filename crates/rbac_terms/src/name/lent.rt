@@ -48,6 +48,7 @@ impl<'a> LentName<'a> {
 impl Probe<Name> for LentName<'_> {
     ghost sought = { λ name. name };
 
+    #[inline(always)]
     fn compare(&self, key: &Name) -> Ordering {
         match key.prefix.cmp(&self.prefix) {
             // Names of fewer than eight bytes are all in their number.

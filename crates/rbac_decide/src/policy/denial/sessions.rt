@@ -16,6 +16,13 @@ use rbac_terms::limits::MOST_SESSIONS;
 use rbac_terms::{Denial, Name, NameSet};
 use sorted_keys::Probe;
 
+// Whether the session is the user's.
+fn is_owned_by(session: &Session, user: &Name) -> bool
+    ensures { result ≡ eq_by_cmp name_cmp user.now session.now.owner }
+{
+    user.cmp(&session.owner).is_eq()
+}
+
 impl Policy {
     pub(crate) fn may_create_session(
         &self,
@@ -46,8 +53,10 @@ impl Policy {
         ensures { result ≡ verdict (DeleteSession user.now session.now) self.now }
     {
         deny_if(!self.tables.sets.has_user(user), Denial::NoUser)?;
-        deny_if(!self.tables.sessions.contains(session), Denial::NoSession)?;
-        deny_if(!self.is_owner(session, user), Denial::NotOwner)?;
+        let Some(found) = self.session(session) else {
+            return Err(Denial::NoSession);
+        };
+        deny_if(!is_owned_by(found, user), Denial::NotOwner)?;
         Ok(())
     }
 
@@ -60,13 +69,15 @@ impl Policy {
         ensures { TellsDenial (first_denial (AddActiveRole user.now session.now role.now) self.now) result }
     {
         deny_if(!self.tables.sets.has_user(user), Denial::NoUser)?;
-        deny_if(!self.tables.sessions.contains(session), Denial::NoSession)?;
+        let Some(found) = self.session(session) else {
+            return Err(Hindrance::Denied(Denial::NoSession));
+        };
         deny_if(!self.has_role(role), Denial::NoRole)?;
-        deny_if(!self.is_owner(session, user), Denial::NotOwner)?;
+        deny_if(!is_owned_by(found, user), Denial::NotOwner)?;
         deny_if(!self.is_authorized(user, role), Denial::NotAuthorized)?;
-        deny_if(self.is_active(session, role), Denial::RoleActive)?;
+        deny_if(found.active.contains(role), Denial::RoleActive)?;
         deny_if(
-            self.activation_violates(user, session, role)?,
+            self.activation_violates(user, session, found, role)?,
             Denial::DsdViolated,
         )?;
         Ok(())
@@ -81,10 +92,12 @@ impl Policy {
         ensures { result ≡ verdict (DropActiveRole user.now session.now role.now) self.now }
     {
         deny_if(!self.tables.sets.has_user(user), Denial::NoUser)?;
-        deny_if(!self.tables.sessions.contains(session), Denial::NoSession)?;
+        let Some(found) = self.session(session) else {
+            return Err(Denial::NoSession);
+        };
         deny_if(!self.has_role(role), Denial::NoRole)?;
-        deny_if(!self.is_owner(session, user), Denial::NotOwner)?;
-        deny_if(!self.is_active(session, role), Denial::RoleNotActive)?;
+        deny_if(!is_owned_by(found, user), Denial::NotOwner)?;
+        deny_if(!found.active.contains(role), Denial::RoleNotActive)?;
         Ok(())
     }
 

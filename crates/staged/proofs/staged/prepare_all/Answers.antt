@@ -12,10 +12,10 @@ loop-change-preserved g c =
     let before = c.loop-change.invariant.made in
     record {
       made =
-          ap (λ t. made_all made t content) c.in_ok-add.ensures.added
+          ap (λ t. made_all made t content) c.in_ok-plan.ensures
           ∙ made-append made c.loop-change.plan _ content
           ∙ c.in_ok-step.ensures
           ∙ ap (changed change) before
           ∙ sym (made_more changed c.args.changes.now c.loop-change.change-index change content c.loop-change-test.true c.change-item.is);
-      length = rw c.in_ok-add.ensures.added (length-append c.loop-change.plan _ ∙ ap (λ n. n + 1) c.loop-change.invariant.length);
+      length = rw c.in_ok-plan.ensures (length-append c.loop-change.plan _ ∙ ap (λ n. n + 1) c.loop-change.invariant.length);
     }
