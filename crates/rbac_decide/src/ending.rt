@@ -54,8 +54,7 @@ impl SessionTest for OwnedUnentitled<'_> {
 
     fn test(&self, _session: &Name, owner: &Name, roles: &NameSet) -> bool {
         self.user.cmp(owner).is_eq()
-            && (roles.contains(self.role)
-                || !is_entitled(self.sets, self.hierarchy, owner, roles))
+            && (roles.contains(self.role) || !is_entitled(self.sets, self.hierarchy, owner, roles))
     }
 }
 

@@ -4,7 +4,7 @@ ghost use Rattle.sorted_keys.specs.Keys.{has, with_key, without};
 ghost use Rattle.rbac_terms.specs.Inheritance.{inherits};
 ghost use Rattle.rbac_terms.specs.Name.{name_cmp, pair_cmp};
 ghost use Rattle.rbac_terms.specs.Relations.{without_pairs_of};
-ghost use Rattle.rbac_hierarchy.specs.Changes.{after_one, made};
+ghost use Rattle.rbac_hierarchy.specs.Changes.{after_one, made, with_pair};
 ghost use Rattle.rbac_hierarchy.specs.Order.{Order};
 
 use crate::bit_order::BitOrder;
@@ -47,19 +47,6 @@ impl BitOrder {
         self.numbers.insert_full(role).unwrap();
     }
 
-    // Whether both are roles and the descendant does not inherit the ascendant.
-    fn may_declare(&self, ascendant: &Name, descendant: &Name) -> bool
-        ensures { let h = self.now.content in result ≡ (has name_cmp ascendant.now h.roles && (has name_cmp descendant.now h.roles && not (inherits h.roles h.declared descendant.now ascendant.now))) }
-    {
-        let Some(above) = number_of(&self.numbers, ascendant) else {
-            return false;
-        };
-        let Some(below) = number_of(&self.numbers, descendant) else {
-            return false;
-        };
-        !self.inherited.has(below, above)
-    }
-
     // Declares a pair of roles. Where it is declared, nothing changes.
     pub(super) fn put_pair(&mut self, pair: (Name, Name))
         requires room { 0 < self.old.room }
@@ -70,6 +57,25 @@ impl BitOrder {
     {
         let above = number(&self.numbers, &pair.0);
         let below = number(&self.numbers, &pair.1);
+        self.declared.put(pair);
+        self.inherited.join_above(above, below);
+    }
+
+    // Declares a pair, unless one of the two is no role, or the descendant inherits the ascendant.
+    fn put_acyclic_pair(&mut self, pair: (Name, Name))
+        requires { 0 < self.old.room }
+        ensures content { self.new.content ≡ with_pair pair.0 pair.1 self.old.content }
+        ensures room { self.old.room ≤ self.new.room + 1 }
+    {
+        let Some(above) = number_of(&self.numbers, &pair.0) else {
+            return;
+        };
+        let Some(below) = number_of(&self.numbers, &pair.1) else {
+            return;
+        };
+        if self.inherited.has(below, above) {
+            return;
+        }
         self.declared.put(pair);
         self.inherited.join_above(above, below);
     }
@@ -186,11 +192,7 @@ impl<'a> Staged<Change<'a>> for BitOrder {
             Step::Declare {
                 ascendant,
                 descendant,
-            } => {
-                if self.may_declare(&ascendant, &descendant) {
-                    self.put_pair((ascendant, descendant));
-                }
-            }
+            } => self.put_acyclic_pair((ascendant, descendant)),
             Step::Retract {
                 ascendant,
                 descendant,
