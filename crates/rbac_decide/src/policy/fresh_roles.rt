@@ -15,19 +15,12 @@ use rbac_separation::{Counts, RoleSet};
 use rbac_terms::{Name, NameSet};
 use std::alloc::{AllocError, Global};
 
-// Whether the user's number of the set, and how many of its roles are fresh, come to its own number or more.
-fn is_over(counts: &Counts, entry: &(Name, RoleSet), user: &Name, fresh: &NameSet) -> bool
-    ensures { result ≡ is_over (numbers_of counts.now entry.now.0 user.now) fresh.now entry.now.1 }
-{
-    let number = counts.get(&entry.0, user);
-    entry.1.cardinality.saturating_sub(number) as usize <= entry.1.roles.count_in(fresh)
-}
-
 // Whether the user would have too many roles of some of those sets that have a fresh one. No other set's number is looked up.
 fn is_over_some(counts: &Counts, sets: &[(Name, RoleSet)], user: &Name, fresh: &NameSet) -> bool
     ensures { result ≡ list_any (λ e. touches fresh.now (Some e.1) && is_over (numbers_of counts.now e.0 user.now) fresh.now e.1) sets.now }
 {
-    sets.iter().any(|entry| touches(fresh, &entry.1) && is_over(counts, entry, user, fresh))
+    sets.iter().any(|entry| touches(fresh, &entry.1)
+        && entry.1.is_over(counts.get(&entry.0, user), fresh))
 }
 
 impl Policy {
