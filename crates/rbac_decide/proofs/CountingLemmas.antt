@@ -1,6 +1,6 @@
 -- What the counts of a policy become by each command.
-use Rattle.std.proofs.Common.{ℕ, ◌+◌, ◌<◌, List, [], ◌∷◌, length, get_or, drop, count_by, nat_le, Bool, true, false, not, cond, ◌||◌, ◌&&◌, ◌≡◌, Option, Some, None, is_some, refl, sym, ap, ◌∙◌, add-one, arith}
-use Rattle.std.proofs.lemmas.Bool.{or_left, or_right}
+use Rattle.std.proofs.Common.{ℕ, ◌+◌, ◌<◌, List, [], ◌∷◌, length, get_or, drop, count_by, nat_le, Bool, true, false, not, cond, ◌||◌, ◌&&◌, ◌≡◌, Option, Some, None, refl, sym, ap, ◌∙◌, add-one, arith}
+use Rattle.std.proofs.lemmas.Bool.{or_left, or_right, false≢true}
 use Rattle.std.proofs.lemmas.List.Sums.{sum_by-cons}
 use Rattle.std.proofs.Math.Seq.{drop-cons}
 use Rattle.std.specs.declared.cmp.Ordering.{Ordering}
@@ -15,7 +15,7 @@ use Rattle.rbac_terms.specs.Name.{Name, name_cmp}
 use Rattle.rbac_terms.specs.Separation.{RoleSet, is_broken_by}
 use Rattle.sorted_keys.proofs.Ties.{ties_itself}
 use Rattle.rbac_terms.proofs.NameLemmas.{names_total}
-use Rattle.rbac_separation.specs.Counts.{is_over, first_over}
+use Rattle.rbac_separation.specs.Counts.{is_over}
 use Rattle.rbac_decide.specs.Counting.{count_in}
 
 -- ---- Counting
@@ -30,7 +30,7 @@ count_same p q (x ∷ xs) same =
     ∙ sym (sum_by-cons (λ y. cond (q y) 1 0) x xs)
 
 -- where none passes, none is counted
-count_none : (p : Name → Bool) (xs : List Name) → ((x : Name) → p x ≡ false) → count_by p xs ≡ 0
+pub count_none : (p : Name → Bool) (xs : List Name) → ((x : Name) → p x ≡ false) → count_by p xs ≡ 0
 count_none p [] none = refl
 count_none p (x ∷ xs) none =
     let rest = count_none p xs none in
@@ -39,6 +39,18 @@ count_none p (x ∷ xs) none =
 pub none_in : (test : Name → Bool) (o : Option RoleSet) → ((x : Name) → test x ≡ false) → count_in test o ≡ 0
 none_in test None none = refl
 none_in test (Some set) none = count_none test set.roles none
+
+-- where none of them passes, none is counted
+pub no_count : (test : Name → Bool) (xs : List Name) → list_any test xs ≡ false → count_by test xs ≡ 0
+no_count test [] none = refl
+no_count test (x ∷ xs) none = sum_by-cons (λ y. cond (test y) 1 0) x xs ∙ go (test x) none (no_count test xs)
+  where
+    go : (b : Bool) → (b || list_any test xs) ≡ false → (list_any test xs ≡ false → count_by test xs ≡ 0) → cond {A = ℕ} b 1 0 + count_by test xs ≡ 0
+    go true e later = absurd (false≢true (sym e))
+    go false e later = ap (λ (n : ℕ). 0 + n) (later e)
+
+pub and_none : (n more : ℕ) → more ≡ 0 → n + more ≡ n
+and_none n more e = omega arith
 
 -- what passes one test or another is what passes the other, and what passes the one and not the other
 pub count_split : (f a : Name → Bool) (xs : List Name) → count_by (λ r. f r || a r) xs ≡ count_by a xs + count_by (λ r. f r && not (a r)) xs
@@ -66,15 +78,6 @@ module _ (numbers : Name → ℕ) (f a : Name → Bool) (fresh : List Name) (tol
   pub over_any : (sets : List (Name × RoleSet)) → Each (λ e. numbers e.0 ≡ count_by a e.1.roles) sets → list_any (λ e. is_over (numbers e.0) fresh e.1) sets ≡ list_any (λ e. is_broken_by (λ r. f r || a r) e.1) sets
   over_any [] all = refl
   over_any (e ∷ es) all = λ i. over_one e all.0 i || over_any es all.1 i
-
-  pub over_is : (sets : List (Name × RoleSet)) → Each (λ e. numbers e.0 ≡ count_by a e.1.roles) sets → is_some (first_over numbers fresh sets) ≡ list_any (λ e. is_broken_by (λ r. f r || a r) e.1) sets
-  over_is [] all = refl
-  over_is (e ∷ es) all = go (is_over (numbers e.0) fresh e.1) (over_is es all.1) ∙ ap (λ b. b || list_any (λ x. is_broken_by (λ r. f r || a r) x.1) es) (over_one e all.0)
-    where
-      go : (b : Bool) → is_some (first_over numbers fresh es) ≡ list_any (λ x. is_broken_by (λ r. f r || a r) x.1) es
-          → is_some (cond b (Some e.0) (first_over numbers fresh es)) ≡ (b || list_any (λ x. is_broken_by (λ r. f r || a r) x.1) es)
-      go true rest = refl
-      go false rest = rest
 
 -- ---- Entries in order
 

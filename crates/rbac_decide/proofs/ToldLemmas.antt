@@ -1,7 +1,6 @@
 -- The counts that users come to by what they newly become authorized for.
-use Rattle.std.proofs.Common.{ℕ, ◌+◌, ◌<◌, List, [], ◌∷◌, ◌++◌, length, get_or, drop, append_assoc, map, count_by, Bool, true, false, not, cond, ◌||◌, ◌&&◌, ◌≡◌, Option, Some, None, Result, Ok, Err, OnOk, arith, refl, sym, ap, ◌∙◌, subst, ◌⊎◌, inl, inr}
+use Rattle.std.proofs.Common.{ℕ, ◌+◌, ◌<◌, List, [], ◌∷◌, ◌++◌, length, get_or, drop, append_assoc, map, count_by, Bool, true, false, not, cond, ◌||◌, ◌&&◌, ◌≡◌, Option, Some, None, Result, Ok, Err, OnOk, refl, sym, ap, ◌∙◌, subst, ◌⊎◌, inl, inr}
 use Rattle.std.proofs.lemmas.Bool.{and_parts, not-false, false≢true}
-use Rattle.std.proofs.lemmas.List.Sums.{sum_by-cons}
 use Rattle.std.specs.List.{list_any, filter, flat_map, AllByRecursion as Each}
 use Rattle.std.specs.List.Sorted.{IsStrictlySortedBy}
 use Rattle.std.specs.Ordering.{eq_by_cmp}
@@ -28,22 +27,10 @@ use Rattle.rbac_decide.specs.declared.tables.Tables.{Tables}
 use Rattle.rbac_decide.specs.Tables.{state_of, IsUndenied}
 use Rattle.rbac_decide.specs.Breaking.{breaks_with, breaks_below, is_constrained_junior}
 use Rattle.rbac_decide.specs.Counting.{count_in, authorized_count, authorized_by, authorized_users_by, AreCountsBy, breaks_besides, gains, gains_by, TellsAfter}
-use Rattle.rbac_decide.proofs.CountingLemmas.{count_same, count_split, found_each, dropped, over_any}
+use Rattle.rbac_decide.proofs.CountingLemmas.{no_count, and_none, count_same, count_split, found_each, dropped, over_any}
 use Rattle.rbac_decide.proofs.CountingSteps.{among_users}
 use Rattle.rbac_decide.proofs.FreshLemmas.{each_constrained, constrained_alike}
 use Rattle.rbac_decide.proofs.SeparationLemmas.{user_gains, others_gain_nothing, pair_gives, assigned_violated, declared_violated}
-
--- where none passes, none is counted
-no_count : (test : Name → Bool) (xs : List Name) → list_any test xs ≡ false → count_by test xs ≡ 0
-no_count test [] none = refl
-no_count test (x ∷ xs) none = sum_by-cons (λ y. cond (test y) 1 0) x xs ∙ go (test x) none (no_count test xs)
-  where
-    go : (b : Bool) → (b || list_any test xs) ≡ false → (list_any test xs ≡ false → count_by test xs ≡ 0) → cond {A = ℕ} b 1 0 + count_by test xs ≡ 0
-    go true e later = absurd (false≢true (sym e))
-    go false e later = ap (λ (n : ℕ). 0 + n) (later e)
-
-and_none : (n more : ℕ) → more ≡ 0 → n + more ≡ n
-and_none n more e = omega arith
 
 -- numbers that are given one after the other
 given_both : (xs ys : List CountChange) (n : Name → Name → ℕ) → with_numbers (xs ++ ys) n ≡ with_numbers ys (with_numbers xs n)

@@ -31,8 +31,8 @@ impl RoleSet {
         self.cardinality as usize <= self.roles.count_in(roles)
     }
 
-    // Whether this number, and how many of its roles are among these, come to its own number or more.
-    pub(crate) fn is_over(&self, number: u32, fresh: &NameSet) -> bool
+    /// Whether this number, and how many of its roles are among these, come to its own number or more. Takes no memory.
+    pub fn is_over(&self, number: u32, fresh: &NameSet) -> bool
         ensures { result ≡ is_over number fresh.now self.now }
     {
         self.cardinality.saturating_sub(number) as usize <= self.roles.count_in(fresh)

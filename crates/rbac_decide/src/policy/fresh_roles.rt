@@ -1,31 +1,34 @@
 //! Whether a user would break a static set with roles that it gets besides.
-ghost use Rattle.std.specs.Prelude.{◌≡◌, ◌&&◌, is_some, IfOk};
+ghost use Rattle.std.specs.Prelude.{◌≡◌, ◌&&◌, Some, IfOk};
+ghost use Rattle.std.specs.List.{list_any};
 ghost use Rattle.sorted_keys.specs.Keys.{has};
 ghost use Rattle.rbac_terms.specs.Name.{Name as NameValue, name_cmp};
 ghost use Rattle.rbac_terms.specs.Authorization.{is_authorized as is_authorized_in};
-ghost use Rattle.rbac_separation.specs.Counts.{numbers_of, first_over};
-ghost use Rattle.rbac_decide.specs.Counting.{authorized_count};
+ghost use Rattle.rbac_separation.specs.Counts.{numbers_of, is_over};
+ghost use Rattle.rbac_decide.specs.Counting.{authorized_count, touches};
 ghost use Rattle.rbac_decide.specs.Breaking.{breaks_with, breaks_below, is_constrained_junior};
 
 use crate::authorization::{constrained_juniors, fresh_roles};
+use crate::counting::touches;
 use crate::policy::Policy;
-use rbac_separation::{Counts, SetTable};
+use rbac_separation::{Counts, RoleSet};
 use rbac_terms::{Name, NameSet};
 use std::alloc::{AllocError, Global};
 
-// Whether the user would have too many roles of some of the sets with the fresh ones.
-fn is_over_with(counts: &Counts, sets: &SetTable, user: &Name, fresh: &NameSet) -> bool
-    ensures { result ≡ is_some (first_over (λ set. numbers_of counts.now set user.now) fresh.now sets.now.content) }
+// Whether the user would have too many roles of some of those sets that have a fresh one. No other set's number is looked up.
+fn is_over_some(counts: &Counts, sets: &[(Name, RoleSet)], user: &Name, fresh: &NameSet) -> bool
+    ensures { result ≡ list_any (λ e. touches fresh.now (Some e.1) && is_over (numbers_of counts.now e.0 user.now) fresh.now e.1) sets.now }
 {
-    counts.over_with(sets, user, fresh).is_some()
+    sets.iter().any(|entry| touches(fresh, &entry.1)
+        && entry.1.is_over(counts.get(&entry.0, user), fresh))
 }
 
 impl Policy {
     // Whether the user would break a static set with these roles, of which it is authorized for none, besides.
     fn breaks_with_fresh(&self, user: &Name, fresh: &NameSet) -> bool
-        ensures { result ≡ is_some (first_over (λ set. authorized_count self.now set user.now) fresh.now self.now.static_sets) }
+        ensures { result ≡ list_any (λ e. touches fresh.now (Some e.1) && is_over (authorized_count self.now e.0 user.now) fresh.now e.1) self.now.static_sets }
     {
-        is_over_with(&self.counts, &self.tables.static_sets, user, fresh)
+        is_over_some(&self.counts, self.tables.static_sets.entries(), user, fresh)
     }
 
     // The roles of static sets that the role inherits.
