@@ -1,5 +1,6 @@
 pub mod Kept
 pub mod JuniorLemmas
+pub mod ClosedLemmas
 pub mod LoopLemmas
 pub mod EntryLemmas
 pub mod RangeLemmas

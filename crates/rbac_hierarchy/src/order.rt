@@ -130,9 +130,10 @@ pub trait RoleOrder: Sized {
         ensures { let h = content self.now in IfOk result (λ more. (r : NameValue) →
             has name_cmp r more ≡ (has name_cmp r names || list_any (λ pair. inherits h.roles h.declared pair.1 r) assignments.now)) }
     {
+        let from_none = names.is_empty();
         let mut more = names;
         for pair in assignments {
-            more = self.with_juniors(more, &pair.1)?;
+            more = with_missing_juniors(self, more, &pair.1, from_none)?;
         }
         Ok(more)
     }
@@ -144,8 +145,26 @@ pub trait RoleOrder: Sized {
     {
         let mut juniors = NameSet::new(alloc);
         for role in roles {
-            juniors = self.with_juniors(juniors, role)?;
+            juniors = with_missing_juniors(self, juniors, role, true)?;
         }
         Ok(juniors)
     }
+}
+
+// The names, and the roles that the role inherits. Where all that a name inherits is known to be there, a role that is there is
+// passed over.
+fn with_missing_juniors<O: RoleOrder>(
+    order: &O,
+    names: NameSet,
+    role: &Name,
+    closed: bool,
+) -> Result<NameSet, AllocError>
+    ensures { let h = O.content order.now in
+        (IsTrue closed → (r : NameValue) → IsTrue (has name_cmp role.now names) → IsTrue (inherits h.roles h.declared role.now r) → IsTrue (has name_cmp r names))
+        → IfOk result (λ more. (r : NameValue) → has name_cmp r more ≡ (has name_cmp r names || inherits h.roles h.declared role.now r)) }
+{
+    if closed && names.contains(role) {
+        return Ok(names);
+    }
+    order.with_juniors(names, role)
 }

@@ -171,6 +171,33 @@ fn keys_that_pass_are_copied(rt: HostRuntime) {
     drop(set);
 }
 
+fn expect_paired(
+    rt: &impl Abort,
+    alloc: Global,
+    set: &SortedSet<u64>,
+    pairs: &[(u64, u64)],
+    wanted: &[u64],
+) {
+    let pairs = pairs_of(rt, alloc, pairs);
+    let copied = set.copy_paired(alloc, &pairs, &BelowLimit(5));
+    let copy = copied.expect(rt, "memory");
+    expect_keys(rt, &copy, wanted);
+    drop(copy);
+    drop(pairs);
+}
+
+#[test]
+fn keys_of_which_a_pair_passes_are_copied(rt: HostRuntime) {
+    let alloc = rt.alloc();
+    let set = set_of(&rt, alloc, &[5, 3, 9, 4]);
+    // Two pairs of 3 pass, of 4 none, of 5 there is none, 1 and 6 are no keys, and of 9 the first passes.
+    let pairs = [(3, 4), (9, 8), (1, 2), (9, 2), (3, 0), (6, 1), (4, 5)];
+    expect_paired(&rt, alloc, &set, &pairs, &[3, 9]);
+    expect_paired(&rt, alloc, &set, &[(10, 1), (9, 4), (9, 5)], &[9]);
+    expect_paired(&rt, alloc, &set, &[], &[]);
+    drop(set);
+}
+
 fn keys_of(rt: &impl Abort, alloc: Global, keys: &[u64]) -> Vec<u64> {
     Vec::from_slice(alloc, keys).expect(rt, "memory")
 }

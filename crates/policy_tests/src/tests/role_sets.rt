@@ -1,9 +1,9 @@
 //! Each public call of `rbac_rolesets` with ample memory. What is expected was written by hand.
 ghost use Rattle.std.specs.Prelude.{◌≤◌, length};
 
-use super::named::{After, assert_called, assert_found, name};
+use super::named::{After, assert_called, assert_found, name, names};
 use rbac_rolesets::{Change, Plan, RoleSets};
-use rbac_terms::Name;
+use rbac_terms::{Name, Vocabulary};
 use std::alloc::Global;
 use std::process::Abort;
 
@@ -182,6 +182,74 @@ fn users_and_roles_are_gathered(rt: HostRuntime) {
     for (user, roles) in ASSIGNED {
         assert_roles(&rt, alloc, &sets, user, roles);
     }
+    drop(sets);
+}
+
+// The users that a role after this one is assigned to.
+fn assert_users_of_roles_after(
+    rt: &impl Abort,
+    alloc: Global,
+    sets: &RoleSets,
+    before: &str,
+    texts: &[&str],
+) {
+    let after = After {
+        name: name(rt, alloc, before),
+    };
+    assert_found(rt, sets.users_assigned(alloc, &after), texts);
+}
+
+#[test]
+fn users_of_roles_that_pass_are_gathered(rt: HostRuntime) {
+    let alloc = rt.alloc();
+    let sets = small_office(&rt, alloc);
+    assert_users_of_roles_after(&rt, alloc, &sets, "clerk", &["bob"]);
+    assert_users_of_roles_after(&rt, alloc, &sets, "c", &["alice", "bob"]);
+    assert_users_of_roles_after(&rt, alloc, &sets, "payer", &[]);
+    drop(sets);
+}
+
+// Paying invoices and reading invoices, and no ledger.
+fn invoice_vocabulary(rt: &impl Abort, alloc: Global) -> Vocabulary {
+    let mut permissions = Vec::new(alloc);
+    for operation in ["pay", "read"] {
+        let permission = (name(rt, alloc, operation), name(rt, alloc, "invoice"));
+        permissions.push(permission).expect(rt, "memory");
+    }
+    let operations = names(rt, alloc, &["pay", "read"]);
+    let objects = names(rt, alloc, &["invoice"]);
+    Vocabulary::build(operations, objects, permissions).expect(rt, "a vocabulary")
+}
+
+// What is granted to a role after this one.
+fn assert_granted_after(
+    rt: &impl Abort,
+    alloc: Global,
+    sets: &RoleSets,
+    before: &str,
+    operations: &[&str],
+) {
+    let vocabulary = invoice_vocabulary(rt, alloc);
+    let after = After {
+        name: name(rt, alloc, before),
+    };
+    let listed = sets.permissions_granted(alloc, &vocabulary, &after);
+    let permissions = listed.expect(rt, "memory");
+    assert_eq!(rt; permissions.permissions().len(), operations.len());
+    for (permission, text) in permissions.permissions().iter().zip(operations) {
+        assert_eq!(rt; permission.0.as_bytes(), text.as_bytes());
+    }
+    drop(permissions);
+    drop(vocabulary);
+}
+
+#[test]
+fn permissions_of_roles_that_pass_are_gathered(rt: HostRuntime) {
+    let alloc = rt.alloc();
+    let sets = small_office(&rt, alloc);
+    assert_granted_after(&rt, alloc, &sets, "clerk", &["pay"]);
+    assert_granted_after(&rt, alloc, &sets, "c", &["pay"]);
+    assert_granted_after(&rt, alloc, &sets, "payer", &[]);
     drop(sets);
 }
 
