@@ -11,7 +11,7 @@ pub last_piece : {T E : Type 0} (r : Result T E) (old mid new a b : List ℕ) �
 last_piece (Ok x) old mid new a b before piece = then_piece old mid new a b before piece
 last_piece (Err e) old mid new a b before piece = tt
 
--- the same, where the whole text is grouped in another way
-pub last_written : {T E : Type 0} (r : Result T E) (old mid new a b whole : List ℕ) → mid ≡ old ++ a → OnOk r (new ≡ mid ++ b) → a ++ b ≡ whole → OnOk r (new ≡ old ++ whole)
-last_written (Ok x) old mid new a b whole before written same = then_piece old mid new a b before written ∙ ap (λ l. old ++ l) same
-last_written (Err e) old mid new a b whole before written same = tt
+-- one more piece, before what is put behind it
+pub put_before : {T E : Type 0} (r : Result T E) (old mid new a b : List ℕ) → mid ≡ old ++ a → OnOk r (new ≡ mid ++ b) → OnOk r (new ≡ old ++ (a ++ b))
+put_before (Ok x) old mid new a b before behind = then_piece old mid new a b before behind
+put_before (Err e) old mid new a b before behind = tt

@@ -1,67 +1,42 @@
 //! The texts that lines are answered with. Each call puts one text, its line feed included, behind what the buffer has. A
 //! buffer of bytes refuses a write only for want of memory, and then it may have a part of the text.
-ghost use Rattle.std.specs.Prelude.{◌≡◌, ◌≢◌, ◌++◌, true, codes, IfOk, OnOk, IfSome, Some};
-ghost use Rattle.rbac_lines.specs.Text.{stamp_text, answer_text, answered_text, bad_serial_text, denial_text, reply_text, out_of_turn_text, submitted_text, received_text, delivered_text, nothing_delivered_text, refusal_word, refused_text, refusal_text, line_refusal_text};
+ghost use Rattle.std.specs.Prelude.{◌≡◌, ◌≢◌, ◌++◌, true, codes, decimal, IfOk, OnOk, Some};
+ghost use Rattle.rbac_lines.specs.Text.{stamp_or_null, answer_text, answered_text, bad_serial_text, count_text, denial_text, reply_text, out_of_turn_text, submitted_text, received_text, delivered_text, nothing_delivered_text, refusal_word, refused_word_text, refused_text, refusal_text, line_refusal_text};
 
 mod lists;
+mod pieces;
 
 use crate::refusal::{DeskRefusal, LineRefusal};
 use lists::{put_names, put_permissions};
+use pieces::{put_number, put_piece, put_stamp};
 use rbac_words::{Answer, Denial, Record, Refusal, Stamp};
 use std::alloc::AllocError;
-use std::fmt;
-use std::fmt::Display;
-use std::io::Write;
 
-// A stamp as texts show it.
-#[derive(Clone, Copy, Drop)]
-struct Shown {
-    stamp: Stamp,
-}
-
-impl Display for Shown {
-    ghost output = { λ shown. Some (stamp_text shown.stamp) };
-
-    fn fmt<W: fmt::Write>(&self, f: &mut fmt::Formatter<W>) -> fmt::Result {
-        let Stamp {
-            clock,
-            member,
-            place,
-        } = self.stamp;
-        if place == 0 {
-            write!(f, "[{clock},{member}]")
-        } else {
-            write!(f, "[{clock},{member},{place}]")
-        }
-    }
-}
-
-/// Puts a text behind what the buffer has.
-fn put<D: Display + Drop>(text: &mut Vec<u8>, shown: D) -> Result<(), AllocError>
-    ensures { OnOk result (IfSome (D.output shown) (λ own. text.new.items ≡ text.old.items ++ own)) }
+/// The line as the last key.
+fn end_at_line(text: &mut Vec<u8>, line: u64) -> Result<(), AllocError>
+    ensures { OnOk result (text.new.items ≡ text.old.items ++ codes ",\"line\":" ++ decimal line ++ codes "}\n") }
 {
-    text.write_fmt(shown).map_err(|_| AllocError)
+    put_number(text, ",\"line\":", line)?;
+    put_piece(text, "}\n")
 }
 
 /// A command was submitted at this stamp.
 pub(crate) fn put_submitted(text: &mut Vec<u8>, line: u64, stamp: Stamp) -> Result<(), AllocError>
     ensures { OnOk result (text.new.items ≡ text.old.items ++ submitted_text line stamp) }
 {
-    let stamp = Shown { stamp };
-    put(
-        text,
-        format_args!("{{\"line\":{line},\"stamp\":{stamp}}}\n"),
-    )
+    put_number(text, "{\"line\":", line)?;
+    put_stamp(text, ",\"stamp\":", stamp)?;
+    put_piece(text, "}\n")
 }
 
-fn put_acknowledged(text: &mut Vec<u8>, line: u64, stamp: Stamp) -> Result<(), AllocError>
-    ensures { OnOk result (text.new.items ≡ text.old.items ++ received_text line (Some stamp)) }
+/// The first key of a text about a message that was received, and the stamp.
+fn begin_acknowledged(text: &mut Vec<u8>, acknowledged: Option<Stamp>) -> Result<(), AllocError>
+    ensures { OnOk result (text.new.items ≡ text.old.items ++ codes "{\"acknowledged\":" ++ stamp_or_null acknowledged) }
 {
-    let stamp = Shown { stamp };
-    put(
-        text,
-        format_args!("{{\"acknowledged\":{stamp},\"line\":{line}}}\n"),
-    )
+    match acknowledged {
+        Some(stamp) => put_stamp(text, "{\"acknowledged\":", stamp),
+        None => put_piece(text, "{\"acknowledged\":null"),
+    }
 }
 
 /// A message was received, and acknowledged at this stamp if it was acknowledged.
@@ -72,23 +47,24 @@ pub(crate) fn put_received(
 ) -> Result<(), AllocError>
     ensures { OnOk result (text.new.items ≡ text.old.items ++ received_text line acknowledged) }
 {
-    match acknowledged {
-        Some(stamp) => put_acknowledged(text, line, stamp),
-        None => put(
-            text,
-            format_args!("{{\"acknowledged\":null,\"line\":{line}}}\n"),
-        ),
-    }
+    begin_acknowledged(text, acknowledged)?;
+    end_at_line(text, line)
 }
 
 fn put_denial(text: &mut Vec<u8>, denial: Denial) -> Result<(), AllocError>
     ensures { OnOk result (text.new.items ≡ text.old.items ++ denial_text denial) }
 {
-    let (word, number) = (denial.word(), denial.number());
-    put(
-        text,
-        format_args!("{{\"denied\":\"{word}\",\"number\":{number}}}"),
-    )
+    put_piece(text, "{\"denied\":\"")?;
+    put_piece(text, denial.word())?;
+    put_number(text, "\",\"number\":", u64::from(denial.number()))?;
+    put_piece(text, "}")
+}
+
+fn put_count(text: &mut Vec<u8>, count: u32) -> Result<(), AllocError>
+    ensures { OnOk result (text.new.items ≡ text.old.items ++ count_text count) }
+{
+    put_number(text, "{\"count\":", u64::from(count))?;
+    put_piece(text, "}")
 }
 
 /// An answer by itself, without a line feed.
@@ -104,7 +80,7 @@ pub fn put_answer(text: &mut Vec<u8>, answer: &Answer) -> Result<(), AllocError>
         Answer::Refused => text.extend_from_slice(b"\"Refused\""),
         Answer::Names(names) => put_names(text, names.names()),
         Answer::Permissions(permissions) => put_permissions(text, permissions.permissions()),
-        Answer::Count(count) => put(text, format_args!("{{\"count\":{count}}}")),
+        Answer::Count(count) => put_count(text, *count),
         Answer::Denied(denial) => put_denial(text, *denial),
     }
 }
@@ -126,23 +102,19 @@ pub(crate) fn put_delivered(
     ensures { OnOk result (text.new.items ≡ text.old.items ++ delivered_text line delivered.now) }
 {
     begin_answer(text, &delivered.answer)?;
-    let stamp = Shown {
-        stamp: delivered.stamp,
-    };
-    let (caller, serial) = (delivered.caller, delivered.serial);
-    put(
-        text,
-        format_args!(
-            ",\"caller\":{caller},\"line\":{line},\"serial\":{serial},\"stamp\":{stamp}}}\n"
-        ),
-    )
+    put_number(text, ",\"caller\":", u64::from(delivered.caller))?;
+    put_number(text, ",\"line\":", line)?;
+    put_number(text, ",\"serial\":", u64::from(delivered.serial))?;
+    put_stamp(text, ",\"stamp\":", delivered.stamp)?;
+    put_piece(text, "}\n")
 }
 
 /// No command was due.
 pub(crate) fn put_nothing_delivered(text: &mut Vec<u8>, line: u64) -> Result<(), AllocError>
     ensures { OnOk result (text.new.items ≡ text.old.items ++ nothing_delivered_text line) }
 {
-    put(text, format_args!("{{\"answer\":null,\"line\":{line}}}\n"))
+    put_piece(text, "{\"answer\":null")?;
+    end_at_line(text, line)
 }
 
 /// The word of a refusal.
@@ -164,14 +136,21 @@ fn refusal_word(refusal: &Refusal) -> &'static str
     }
 }
 
+/// How each refusal ends.
+fn put_refused_word(text: &mut Vec<u8>, word: &str) -> Result<(), AllocError>
+    ensures { OnOk result (text.new.items ≡ text.old.items ++ refused_word_text word.now) }
+{
+    put_piece(text, ",\"refused\":\"")?;
+    put_piece(text, word)?;
+    put_piece(text, "\"}\n")
+}
+
 /// A refusal that has no more to tell than its word.
 fn put_refused_line(text: &mut Vec<u8>, line: u64, word: &str) -> Result<(), AllocError>
     ensures { OnOk result (text.new.items ≡ text.old.items ++ refused_text line word.now) }
 {
-    put(
-        text,
-        format_args!("{{\"line\":{line},\"refused\":\"{word}\"}}\n"),
-    )
+    put_number(text, "{\"line\":", line)?;
+    put_refused_word(text, word)
 }
 
 fn put_out_of_turn(
@@ -182,19 +161,17 @@ fn put_out_of_turn(
 ) -> Result<(), AllocError>
     ensures { OnOk result (text.new.items ≡ text.old.items ++ out_of_turn_text line expected word.now) }
 {
-    put(
-        text,
-        format_args!("{{\"expected\":{expected},\"line\":{line},\"refused\":\"{word}\"}}\n"),
-    )
+    put_number(text, "{\"expected\":", expected)?;
+    put_number(text, ",\"line\":", line)?;
+    put_refused_word(text, word)
 }
 
 fn put_bad_serial(text: &mut Vec<u8>, line: u64, next: u64, word: &str) -> Result<(), AllocError>
     ensures { OnOk result (text.new.items ≡ text.old.items ++ bad_serial_text line next word.now) }
 {
-    put(
-        text,
-        format_args!("{{\"line\":{line},\"next\":{next},\"refused\":\"{word}\"}}\n"),
-    )
+    put_number(text, "{\"line\":", line)?;
+    put_number(text, ",\"next\":", next)?;
+    put_refused_word(text, word)
 }
 
 /// The event was refused.
@@ -239,7 +216,7 @@ fn put_answered(text: &mut Vec<u8>, line: u64, answer: &Answer) -> Result<(), Al
     ensures { OnOk result (text.new.items ≡ text.old.items ++ answered_text line answer.now) }
 {
     begin_answer(text, answer)?;
-    put(text, format_args!(",\"line\":{line}}}\n"))
+    end_at_line(text, line)
 }
 
 /// What a desk replied to the command of a client line.
