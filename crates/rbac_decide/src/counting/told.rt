@@ -109,7 +109,7 @@ fn tell_authorized(
 ///
 /// # Errors
 /// `AllocError` where there is no memory for it.
-pub fn told_of_assignment(
+pub(crate) fn told_of_assignment(
     alloc: Global,
     tables: &Tables,
     counts: &Counts,
@@ -131,7 +131,7 @@ pub fn told_of_assignment(
 ///
 /// # Errors
 /// `AllocError` where there is no memory for it.
-pub fn told_of_inheritance(
+pub(crate) fn told_of_inheritance(
     alloc: Global,
     tables: &Tables,
     counts: &Counts,
