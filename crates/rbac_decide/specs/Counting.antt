@@ -105,7 +105,7 @@ may_change (AddRoleMember kind name role) t = of_set kind name t
 may_change (DeleteRoleMember kind name role) t = of_set kind name t
 may_change c t = λ set user. false
 
--- by these commands users become authorized for more, and nothing else changes their counts
+-- by these commands users become authorized for more roles, and for none less
 abbrev pub gives_roles : Command → Bool
 gives_roles (AssignUser user role) = true
 gives_roles (AddInheritance ascendant descendant) = true

@@ -111,8 +111,8 @@ fn plan_recounted(
     })
 }
 
-/// Plans what a command that is not denied makes of the counts. The counts stay as they are, also where memory ends. Where the
-/// command changes no count this takes no memory.
+/// Plans what a command that is not denied makes of the counts. The counts stay as they are, also where memory ends. Of a command
+/// that never changes a count an empty list is planned, which takes no memory.
 ///
 /// # Errors
 /// `AllocError` where there is no memory for it.

@@ -330,6 +330,20 @@ fn is_over_with(
 }
 
 #[test]
+fn a_number_and_fresh_roles_come_to_a_sets_own(rt: HostRuntime) {
+    let alloc = rt.alloc();
+    let set = RoleSet {
+        roles: name_set(&rt, alloc, &["a", "b", "c"]),
+        cardinality: 2,
+    };
+    let fresh = name_set(&rt, alloc, &["b", "z"]);
+    assert!(rt; set.is_over(1, &fresh));
+    assert!(rt; !set.is_over(0, &fresh));
+    drop(fresh);
+    drop(set);
+}
+
+#[test]
 fn fresh_roles_are_counted_besides(rt: HostRuntime) {
     let alloc = rt.alloc();
     let sets = two_sets(&rt, alloc);
