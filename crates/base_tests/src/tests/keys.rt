@@ -150,6 +150,25 @@ fn a_copy_is_the_same(rt: HostRuntime) {
     drop(set);
 }
 
+fn expect_copy_with(rt: &impl Abort, set: &SortedSet<u64>, key: u64, wanted: &[u64]) {
+    let copied = set.copy_with(&key);
+    let copy = copied.expect(rt, "memory");
+    expect_keys(rt, &copy, wanted);
+    drop(copy);
+}
+
+#[test]
+fn a_copy_has_one_key_more(rt: HostRuntime) {
+    let mut set = SortedSet::new(rt.alloc());
+    for key in [5u64, 3] {
+        set.insert_copy(&key).expect(&rt, "memory");
+    }
+    expect_copy_with(&rt, &set, 4, &[3, 4, 5]);
+    expect_copy_with(&rt, &set, 3, &[3, 5]);
+    expect_keys(&rt, &set, &[3, 5]);
+    drop(set);
+}
+
 #[test]
 fn copies_of_keys_are_added(rt: HostRuntime) {
     let mut set = SortedSet::new(rt.alloc());

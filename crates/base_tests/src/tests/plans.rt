@@ -3,7 +3,7 @@ ghost use Rattle.std.specs.Prelude.{◌++◌, ◌∷◌, ◌-◌, [], List, ℕ,
 ghost use Rattle.std.specs.Option.{option_map};
 
 use sorted_keys::SortedMap;
-use staged::{EntryChange, Plan, Staged, commit, make_plan};
+use staged::{EntryChange, Found, Plan, Staged, commit, make_plan};
 use std::alloc::{AllocError, Global};
 use std::process::Abort;
 
@@ -79,8 +79,8 @@ impl EntryChange<u64, u64> for Replacement {
         Ok(self.at)
     }
 
-    fn value(&self, _alloc: Global, found: Option<&u64>) -> Result<Option<u64>, AllocError> {
-        match found {
+    fn value<F: Found<u64>>(&self, _alloc: Global, before: &F) -> Result<Option<u64>, AllocError> {
+        match before.find() {
             Some(_) => Ok(Some(self.number)),
             None => Ok(None),
         }

@@ -137,6 +137,13 @@ fn names_are_ordered_by_bytes(rt: HostRuntime) {
     drop(rising);
 }
 
+fn expect_with(rt: &impl Abort, alloc: Global, set: &NameSet, text: &str, wanted: &[&str]) {
+    let copied = set.copy_with(&name(rt, alloc, text));
+    let more = copied.expect(rt, "memory");
+    assert_names(rt, more.names(), wanted);
+    drop(more);
+}
+
 #[test]
 fn a_set_of_names(rt: HostRuntime) {
     let alloc = rt.alloc();
@@ -147,6 +154,7 @@ fn a_set_of_names(rt: HostRuntime) {
     assert!(rt; !has(&rt, alloc, &set, "boss"));
     assert_names(&rt, set.names(), &["Boss", "auditor", "clerk"]);
     let copy = set.copy().expect(&rt, "memory");
+    expect_with(&rt, alloc, &set, "b", &["Boss", "auditor", "b", "clerk"]);
     remove(&rt, alloc, &mut set, "auditor");
     remove(&rt, alloc, &mut set, "boss");
     assert_names(&rt, set.names(), &["Boss", "clerk"]);
