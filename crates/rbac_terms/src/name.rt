@@ -1,7 +1,7 @@
 //! Names: 1 to 64 bytes of a fixed alphabet.
 ghost use Rattle.std.specs.Prelude.{◌≡◌, ◌↔◌, IsTrue, IfOk, false, get_or};
 ghost use Rattle.std.specs.List.{list_all};
-ghost use Rattle.rbac_terms.specs.Name.{is_name_byte as is_byte_of_a_name, is_name as is_a_name};
+ghost use Rattle.rbac_terms.specs.Name.{is_name_byte as is_byte_of_a_name, is_name as is_a_name, name_cmp};
 ghost use Rattle.rbac_terms.specs.Keeping.Prefix.{first_bytes};
 
 mod lent;
@@ -83,6 +83,14 @@ impl Hash for Name {
     }
 }
 
+// How the bytes of two names stand whose first eight are alike: a call of its own, so that a search stays small.
+#[inline(never)]
+fn bytes_order(bytes: &Arc<Bytes>, others: &Arc<Bytes>) -> Ordering
+    ensures { result ≡ name_cmp bytes.now.value.items others.now.value.items }
+{
+    bytes.as_slice().cmp(others.as_slice())
+}
+
 impl Ord for Name {
     ghost use Rattle.std.proofs.Common.{rules};
     ghost use Rattle.std.specs.Cmp.Rules.{comparing};
@@ -102,7 +110,7 @@ impl Ord for Name {
         match self.prefix.cmp(&other.prefix) {
             // Names of fewer than eight bytes are all in their number.
             Ordering::Equal if self.prefix % 256 == 0 => Ordering::Equal,
-            Ordering::Equal => self.bytes.as_slice().cmp(other.bytes.as_slice()),
+            Ordering::Equal => bytes_order(&self.bytes, &other.bytes),
             unequal => unequal,
         }
     }
