@@ -118,7 +118,7 @@ module _ (s : State) (user session : Name) (x : Session) (found : find name_cmp 
       ∙ ap (option_map (with_active role)) found
 
   pub activation_violates : IsSound s → (role : Name) → is_violated Dynamic (change (AddActiveRole user session role) s) ≡ breaks_dynamic s (record { owner = x.owner; active = with_key name_cmp role x.active })
-  activation_violates h role = activated_violated user session role s h (ap is_some found) ∙ ap (found_and (λ (y : Session). breaks_dynamic s (with_active role y))) found
+  activation_violates h role = activated_violated user session role x s h found
 
 -- ---- All of some names
 
