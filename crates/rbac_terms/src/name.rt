@@ -2,11 +2,12 @@
 ghost use Rattle.std.specs.Prelude.{◌≡◌, ◌↔◌, IsTrue, IfOk, false, get_or};
 ghost use Rattle.std.specs.List.{list_all};
 ghost use Rattle.rbac_terms.specs.Name.{is_name_byte as is_byte_of_a_name, is_name as is_a_name, name_cmp};
-ghost use Rattle.rbac_terms.specs.Keeping.Prefix.{first_bytes};
+ghost use Rattle.rbac_terms.specs.Keeping.Prefix.{first_bytes, last_bytes, digest_of};
 
 mod lent;
 
 use crate::limits::LONGEST_NAME;
+use digests::{Digest, mixed};
 pub use lent::LentName;
 use smallvec::SmallVec;
 use sorted_keys::{Duplicate, Exact, Same};
@@ -183,6 +184,14 @@ fn prefix(bytes: &[u8]) -> u64
     ])
 }
 
+// The last eight bytes as one number, of at least eight.
+#[inline(always)]
+fn ending(bytes: &[u8]) -> u64
+    ensures { result ≡ last_bytes 8 bytes.now }
+{
+    prefix(&bytes[bytes.len().saturating_sub(8)..])
+}
+
 // The bytes, to be shared.
 fn shared(alloc: Global, bytes: &[u8]) -> Result<Arc<Bytes>, AllocError>
     ensures { IfOk result (λ shared. shared.value.items ≡ bytes.now) }
@@ -246,6 +255,21 @@ impl Clone for Name {
     #[inline(always)]
     fn clone(&self) -> Result<Name, AllocError> {
         self.copy()
+    }
+}
+
+/// By its first and its last eight bytes: names of up to sixteen bytes that differ have other digests but by chance.
+impl Digest for Name {
+    ghost digest_of = { digest_of };
+
+    #[inline(always)]
+    fn digest(&self) -> u64 {
+        // Names of fewer than eight bytes are all in their number.
+        if self.prefix % 256 == 0 {
+            mixed(self.prefix, 0)
+        } else {
+            mixed(self.prefix, ending(self.bytes.as_slice()))
+        }
     }
 }
 

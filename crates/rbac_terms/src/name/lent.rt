@@ -1,8 +1,10 @@
 //! Names whose bytes are lent.
 ghost use Rattle.std.specs.Prelude.{◌≡◌, ◌↔◌, IsTrue, IfSome, false, None};
 ghost use Rattle.rbac_terms.specs.Name.{is_name as is_a_name};
+ghost use Rattle.rbac_terms.specs.Keeping.Prefix.{digest_of};
 
-use super::{Name, is_name, prefix};
+use super::{Name, ending, is_name, prefix};
+use digests::{Digest, mixed};
 use sorted_keys::Probe;
 use std::cmp::Ordering;
 use std::marker::Model;
@@ -55,6 +57,21 @@ impl Probe<Name> for LentName<'_> {
             Ordering::Equal if key.prefix % 256 == 0 => Ordering::Equal,
             Ordering::Equal => key.bytes.as_slice().cmp(self.bytes),
             unequal => unequal,
+        }
+    }
+}
+
+/// That of the name.
+impl Digest for LentName<'_> {
+    ghost digest_of = { digest_of };
+
+    #[inline(always)]
+    fn digest(&self) -> u64 {
+        // As of a name.
+        if self.prefix % 256 == 0 {
+            mixed(self.prefix, 0)
+        } else {
+            mixed(self.prefix, ending(self.bytes))
         }
     }
 }
