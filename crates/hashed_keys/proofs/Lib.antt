@@ -1,0 +1,2 @@
+pub mod PairLists
+pub mod PairChanges
