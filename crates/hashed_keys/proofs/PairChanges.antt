@@ -24,7 +24,7 @@ use Rattle.sorted_keys.proofs.Ties.{ties-pair, ties_flip, ties_itself, one_key}
 use Rattle.hashed_keys.specs.Pairs.{pairs_of, by_pair, IsPaired, IsFilled, beginning, seconds, with_seconds, replaced}
 use Rattle.hashed_keys.proofs.PairLists.{found, by_pair_total, has-of_key, has-pairs, sorted-pairs, sorted-of_key}
 
-map_seconds : {A B : Type 0} (a : A) (bs : List B) → map (λ p. p.1) (map (λ b. (a, b)) bs) ≡ bs
+map_seconds : {A B : Type 0} (a : A) (bs : List B) → map (λ (p : A × B). p.1) (map (λ b. (a, b)) bs) ≡ bs
 map_seconds a [] = refl
 map_seconds a (b ∷ bs) = ap (λ l. b ∷ l) (map_seconds a bs)
 
@@ -78,15 +78,18 @@ module _ {A B : Type 0} {R : A → A → Ordering} {S : B → B → Ordering} (o
       here q false t = refl
 
   pub seconds_is : (a : A) (es : List (A × List B)) → IsPaired R S es → seconds R a (pairs_of es) ≡ found (find R a es)
-  seconds_is a es paired = ap (map (λ p. p.1)) (beginning_is a es paired) ∙ map_seconds a (found (find R a es))
+  seconds_is a es paired = ap (map (λ (p : A × B). p.1)) (beginning_is a es paired) ∙ map_seconds a (found (find R a es))
 
   -- a pair is one of the second halves of its first
   pub has-seconds : (a : A) (b : B) (ps : List (A × B)) → has S b (seconds R a ps) ≡ has (by_pair R S) (a, b) ps
   has-seconds a b [] = refl
-  has-seconds a b (p ∷ ps) = go (eq_by_cmp R a p.0) refl where
-    go : (t : Bool) → eq_by_cmp R a p.0 ≡ t → has S b (map (λ p. p.1) (cond t (p ∷ beginning R a ps) (beginning R a ps))) ≡ has (by_pair R S) (a, b) (p ∷ ps)
-    go true t = ap (λ v. eq_by_cmp S b p.1 || v) (has-seconds a b ps) ∙ ap (λ v. (v && eq_by_cmp S b p.1) || has (by_pair R S) (a, b) ps) (sym t) ∙ ap (λ v. v || has (by_pair R S) (a, b) ps) (sym (ties-pair R S (a, b) p))
-    go false t = has-seconds a b ps ∙ ap (λ v. (v && eq_by_cmp S b p.1) || has (by_pair R S) (a, b) ps) (sym t) ∙ ap (λ v. v || has (by_pair R S) (a, b) ps) (sym (ties-pair R S (a, b) p))
+  has-seconds a b (p ∷ ps) =
+      go (eq_by_cmp R a p.0) (has-seconds a b ps)
+      ∙ ap (λ v. v || has (by_pair R S) (a, b) ps) (sym (ties-pair R S (a, b) p))
+    where
+      go : (t : Bool) → has S b (seconds R a ps) ≡ has (by_pair R S) (a, b) ps → has S b (map (λ p. p.1) (cond t (p ∷ beginning R a ps) (beginning R a ps))) ≡ ((t && eq_by_cmp S b p.1) || has (by_pair R S) (a, b) ps)
+      go true rest = ap (λ v. eq_by_cmp S b p.1 || v) rest
+      go false rest = rest
 
   sorted-with_seconds : (a : A) (bs : List B) (ps : List (A × B)) → IsStrictlySortedBy (by_pair R S) ps → IsStrictlySortedBy (by_pair R S) (with_seconds R S a bs ps)
   sorted-with_seconds a [] ps sorted = sorted

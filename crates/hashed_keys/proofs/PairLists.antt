@@ -77,7 +77,7 @@ module _ {A B : Type 0} {R : A → A → Ordering} {S : B → B → Ordering} (o
       here true t = ap (λ f. has S q.1 e.1 || has S q.1 (found f)) (find-below q.0 e es ((Equal-is _).0 t) sorted.0) ∙ or_none (has S q.1 e.1)
       here false t = refl
 
-  sorted-of_key : (a : A) (bs : List B) → IsStrictlySortedBy S bs → IsStrictlySortedBy (by_pair R S) (map (λ b. (a, b)) bs)
+  pub sorted-of_key : (a : A) (bs : List B) → IsStrictlySortedBy S bs → IsStrictlySortedBy (by_pair R S) (map (λ b. (a, b)) bs)
   unfolding IsStrictlySortedBy
   sorted-of_key a [] sorted = tt
   sorted-of_key a (b ∷ bs) sorted = (above bs sorted.0, sorted-of_key a bs sorted.1) where
