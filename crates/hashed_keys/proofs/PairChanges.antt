@@ -21,8 +21,8 @@ use Rattle.sorted_keys.proofs.Lists.{Each-filter}
 use Rattle.sorted_keys.proofs.Lookups.{find-without_key, find-updated, same_found}
 use Rattle.sorted_keys.proofs.Members.{has-with_key, has-without, has-filter, same_keys}
 use Rattle.sorted_keys.proofs.Ties.{ties-pair, ties_flip, ties_itself, one_key}
-use Rattle.hashed_keys.specs.Pairs.{pairs_of, by_pair, IsPaired, IsFilled, beginning, seconds, with_seconds, replaced}
-use Rattle.hashed_keys.proofs.PairLists.{found, by_pair_total, has-of_key, has-pairs, sorted-pairs, sorted-of_key}
+use Rattle.hashed_keys.specs.Pairs.{found, pairs_of, by_pair, IsPaired, IsFilled, beginning, seconds, with_seconds, replaced}
+use Rattle.hashed_keys.proofs.PairLists.{by_pair_total, has-of_key, has-pairs, sorted-pairs, sorted-of_key}
 
 map_seconds : {A B : Type 0} (a : A) (bs : List B) → map (λ (p : A × B). p.1) (map (λ b. (a, b)) bs) ≡ bs
 map_seconds a [] = refl

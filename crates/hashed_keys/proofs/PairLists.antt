@@ -17,12 +17,7 @@ use Rattle.sorted_keys.proofs.KeyPlace.{sorted_with_key}
 use Rattle.sorted_keys.proofs.Lists.{Each-append, Each-filter}
 use Rattle.sorted_keys.proofs.Members.{has-with_key, has-without, has-filter, same_keys}
 use Rattle.sorted_keys.proofs.Ties.{ties-pair}
-use Rattle.hashed_keys.specs.Pairs.{pairs_of, by_pair, IsPaired, IsFilled, beginning, seconds, replaced}
-
--- what is found, as a list
-abbrev pub found : {B : Type 0} → Option (List B) → List B
-found None = []
-found (Some bs) = bs
+use Rattle.hashed_keys.specs.Pairs.{found, pairs_of, by_pair, IsPaired, IsFilled, beginning, seconds, replaced}
 
 both_or : (t u v : Bool) → ((t && u) || (t && v)) ≡ (t && (u || v))
 both_or true u v = refl

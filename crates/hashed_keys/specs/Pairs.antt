@@ -1,10 +1,20 @@
 -- Pairs, kept as a map from first halves to the sets of their second ones.
-use Rattle.std.specs.Prelude.{◌≡◌, List, [], ◌∷◌, ◌++◌, map, not, filter}
+use Rattle.std.specs.Prelude.{◌≡◌, Bool, true, false, Option, Some, None, List, [], ◌∷◌, ◌++◌, map, not, filter}
 use Rattle.std.specs.declared.cmp.Ordering.{Ordering}
 use Rattle.std.specs.List.{AllByRecursion as Each}
 use Rattle.std.specs.List.Sorted.{IsStrictlySortedBy}
 use Rattle.std.specs.Ordering.{then_cmp, on, eq_by_cmp}
 use Rattle.sorted_keys.specs.Keys.{with_key, by_key}
+
+-- the second halves that are found: none where there is no entry
+abbrev pub found : {B : Type 0} → Option (List B) → List B
+found None = []
+found (Some bs) = bs
+
+-- whether there are second halves
+abbrev pub is_filled : {B : Type 0} → List B → Bool
+is_filled [] = false
+is_filled (b ∷ bs) = true
 
 -- a key has second halves
 abbrev pub IsFilled : {B : Type 0} → List B → Type 0
