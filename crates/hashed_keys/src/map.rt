@@ -2,6 +2,7 @@
 ghost use Rattle.std.specs.Prelude.{◌≡◌, ◌↔◌, ◌<◌, ◌≤◌, ◌+◌, [], length, slice_get, IsTrue, IfOk, OnOk, OnErr, filter, is_some};
 ghost use Rattle.std.specs.Option.{option_copied};
 ghost use Rattle.std.specs.FinMap.Entries.{find, put};
+ghost use Rattle.std.specs.List.{list_any};
 ghost use Rattle.std.specs.List.Sorted.{IsStrictlySortedBy};
 ghost use Rattle.sorted_keys.specs.Keys.{by_key, without_key, updated};
 
@@ -64,6 +65,16 @@ impl<K: Ord + Digest + Drop, V: Drop> HashedMap<K, V> {
         ensures { option_copied result ≡ slice_get self.now.content place }
     {
         self.entries.entries().get(place)
+    }
+
+    /// Whether some entry passes a test.
+    pub fn any<T: EntryTest<K, V>>(&self, test: &T) -> bool
+        ensures { result ≡ list_any (λ e. T.passes test.now e.0 e.1) self.now.content }
+    {
+        self.entries
+            .entries()
+            .iter()
+            .any(|entry| test.test(&entry.0, &entry.1))
     }
 
     /// The keys are in order, each once.

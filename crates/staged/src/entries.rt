@@ -1,12 +1,15 @@
 //! Maps that are changed by plans.
-ghost use Rattle.std.specs.Prelude.{◌≡◌, Bool, List, Option, IfOk, if◌then◌else◌};
+ghost use Rattle.std.specs.Prelude.{◌≡◌, ◌<◌, ◌≤◌, ◌+◌, Bool, List, Option, IfOk, if◌then◌else◌};
 ghost use Rattle.std.specs.Option.{option_copied, option_or};
 ghost use Rattle.std.specs.FinMap.Entries.{find};
 ghost use Rattle.staged.specs.Entries.{after_entries, with_entry};
 
+use crate::entry_map::EntryMap;
 use crate::plan::Plan;
 use crate::staged::Staged;
 use crate::steps::Steps;
+use digests::Digest;
+use hashed_keys::HashedMap;
 use sorted_keys::SortedMap;
 use std::alloc::{AllocError, Global};
 
@@ -83,14 +86,14 @@ fn found_later<'a, K: Ord + Drop, V: Drop>(
 }
 
 // What stands at the key after the steps of this plan.
-fn found_after<'a, K: Ord + Drop, V: Drop>(
-    map: &'a SortedMap<K, V>,
+fn found_after<'a, K: Ord + Drop, V: Drop, M: EntryMap<K, V>>(
+    map: &'a M,
     plan: &'a Plan<(K, Option<V>)>,
     key: &K,
 ) -> Option<&'a V>
-    ensures { option_copied result ≡ find K.cmp key.now (after_entries K.cmp plan.now map.now.content) }
+    ensures { option_copied result ≡ find K.cmp key.now (after_entries K.cmp plan.now (M.content map.now)) }
 {
-    let found = map.get(key);
+    let found = map.value_at(key);
     match plan.steps() {
         Steps::Empty => found,
         Steps::One(step) => found_next(found, step, key),
@@ -100,17 +103,50 @@ fn found_after<'a, K: Ord + Drop, V: Drop>(
 
 // What stands at a key after the steps of a plan.
 #[derive(Drop)]
-struct FoundAfter<'a, K: Ord, V> {
-    map: &'a SortedMap<K, V>,
+struct FoundAfter<'a, K, V, M> {
+    map: &'a M,
     plan: &'a Plan<(K, Option<V>)>,
     key: &'a K,
 }
 
-impl<K: Ord + Drop, V: Drop> Found<V> for FoundAfter<'_, K, V> {
-    ghost found = { λ f. find K.cmp f.key.now (after_entries K.cmp f.plan.now f.map.now.content) };
+impl<K: Ord + Drop, V: Drop, M: EntryMap<K, V>> Found<V> for FoundAfter<'_, K, V, M> {
+    ghost found = { λ f. find K.cmp f.key.now (after_entries K.cmp f.plan.now (M.content f.map.now)) };
 
     fn find(&self) -> Option<&V> {
         found_after(self.map, self.plan, self.key)
+    }
+}
+
+// The key and the value that a change gives it, after these steps.
+#[inline(always)]
+fn entry_step<K: Ord + Drop, V: Drop, M: EntryMap<K, V>, C: EntryChange<K, V>>(
+    alloc: Global,
+    map: &M,
+    before: &Plan<(K, Option<V>)>,
+    change: &C,
+) -> Result<(K, Option<V>), AllocError>
+    ensures { let key = C.key change.now in let reached = after_entries K.cmp before.now (M.content map.now) in IfOk result (λ step. step ≡ (key, C.becomes change.now (find K.cmp key reached))) }
+{
+    let key = change.key()?;
+    let found = FoundAfter {
+        map,
+        plan: before,
+        key: &key,
+    };
+    let value = change.value(alloc, &found)?;
+    Ok((key, value))
+}
+
+// Makes a step.
+#[inline(always)]
+fn put_step<K: Ord + Drop, V: Drop, M: EntryMap<K, V>>(map: &mut M, step: (K, Option<V>))
+    requires { 0 < M.room map.old }
+    ensures content { M.content map.new ≡ with_entry K.cmp step.0 step.1 (M.content map.old) }
+    ensures room { M.room map.old ≤ M.room map.new + 1 }
+{
+    let (key, value) = step;
+    if let Some(value) = value {
+        map.put_at(key, value);
     }
 }
 
@@ -134,14 +170,7 @@ impl<K: Ord + Drop, V: Drop, C: EntryChange<K, V>> Staged<C> for SortedMap<K, V>
         before: &Plan<(K, Option<V>)>,
         change: &C,
     ) -> Result<(K, Option<V>), AllocError> {
-        let key = change.key()?;
-        let found = FoundAfter {
-            map: self,
-            plan: before,
-            key: &key,
-        };
-        let value = change.value(alloc, &found)?;
-        Ok((key, value))
+        entry_step(alloc, self, before, change)
     }
 
     #[inline(always)]
@@ -151,9 +180,40 @@ impl<K: Ord + Drop, V: Drop, C: EntryChange<K, V>> Staged<C> for SortedMap<K, V>
 
     #[inline(always)]
     fn make(&mut self, step: (K, Option<V>)) {
-        let (key, value) = step;
-        if let Some(value) = value {
-            self.put(key, value);
-        }
+        put_step(self, step);
+    }
+}
+
+impl<K: Ord + Digest + Drop, V: Drop, C: EntryChange<K, V>> Staged<C> for HashedMap<K, V> {
+    type Step = (K, Option<V>);
+
+    ghost Content = { List (K × V) };
+
+    ghost content = { λ m. m.content };
+
+    ghost room = { λ m. m.room };
+
+    ghost changed = { λ change es. with_entry K.cmp (C.key change) (C.becomes change (find K.cmp (C.key change) es)) es };
+
+    ghost made = { λ step es. with_entry K.cmp step.0 step.1 es };
+
+    #[inline(always)]
+    fn prepare(
+        &self,
+        alloc: Global,
+        before: &Plan<(K, Option<V>)>,
+        change: &C,
+    ) -> Result<(K, Option<V>), AllocError> {
+        entry_step(alloc, self, before, change)
+    }
+
+    #[inline(always)]
+    fn make_room(&mut self, _alloc: Global, more: usize) -> Result<(), AllocError> {
+        self.reserve(more)
+    }
+
+    #[inline(always)]
+    fn make(&mut self, step: (K, Option<V>)) {
+        put_step(self, step);
     }
 }

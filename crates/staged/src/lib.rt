@@ -2,6 +2,7 @@
 #![tactic(auto)]
 
 mod entries;
+mod entry_map;
 mod plan;
 mod staged;
 mod steps;

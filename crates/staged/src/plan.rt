@@ -1,5 +1,6 @@
 //! Steps that were made ready.
-ghost use Rattle.std.specs.Prelude.{◌≡◌, ◌++◌, ◌∷◌, [], IfOk};
+ghost use Rattle.std.specs.Prelude.{◌≡◌, ◌++◌, ◌∷◌, [], length, slice_get, IfOk};
+ghost use Rattle.std.specs.Option.{option_copied};
 ghost use Rattle.staged.specs.Steps.{all_steps};
 
 use crate::steps::Steps;
@@ -62,6 +63,30 @@ impl<T: Drop> Plan<T> {
             Steps::Several(steps) => Steps::Several(longer(steps, step)?),
         };
         Ok(Plan { steps })
+    }
+
+    /// How many steps there are.
+    #[inline(always)]
+    pub fn len(&self) -> usize
+        ensures { result ≡ length self.now }
+    {
+        match &self.steps {
+            Steps::Empty => 0,
+            Steps::One(_) => 1,
+            Steps::Several(steps) => steps.len(),
+        }
+    }
+
+    /// The step at a place, lent.
+    #[inline(always)]
+    pub fn get(&self, place: usize) -> Option<&T>
+        ensures { option_copied result ≡ slice_get self.now place }
+    {
+        match &self.steps {
+            Steps::Empty => None,
+            Steps::One(step) => if place == 0 { Some(step) } else { None },
+            Steps::Several(steps) => steps.get(place),
+        }
     }
 
     // The steps, lent.
