@@ -1,5 +1,5 @@
 //! A map in which an entry is found by its key's digest.
-ghost use Rattle.std.specs.Prelude.{◌≡◌, ◌↔◌, ◌<◌, ◌≤◌, ◌+◌, [], length, slice_get, IsTrue, IfOk, OnOk, OnErr, filter, is_some};
+ghost use Rattle.std.specs.Prelude.{◌≡◌, ◌↔◌, ◌<◌, ◌≤◌, ◌+◌, [], length, slice_get, IsTrue, IfOk, OnOk, OnErr, filter, map, is_some};
 ghost use Rattle.std.specs.Option.{option_copied};
 ghost use Rattle.std.specs.FinMap.Entries.{find, put};
 ghost use Rattle.std.specs.List.{list_any};
@@ -7,7 +7,7 @@ ghost use Rattle.std.specs.List.Sorted.{IsStrictlySortedBy};
 ghost use Rattle.sorted_keys.specs.Keys.{by_key, without_key, updated};
 
 use digests::Digest;
-use sorted_keys::{Duplicate, EntryTest, Exact, Probe, Same, SortedMap, ValueChange};
+use sorted_keys::{Duplicate, EachChange, EntryTest, Exact, Probe, Same, SortedMap, ValueChange};
 use std::alloc::{AllocError, Global};
 use std::marker::Model;
 
@@ -130,6 +130,14 @@ impl<K: Ord + Digest + Drop, V: Drop> HashedMap<K, V> {
         ensures room { self.old.room ≤ self.new.room }
     {
         self.entries.update(probe, change)
+    }
+
+    /// Changes each value in its place.
+    pub fn change_each<C: EachChange<V>>(&mut self, change: &C)
+        ensures content { self.new.content ≡ map (λ e. (e.0, C.changed change.now e.1)) self.old.content }
+        ensures room { self.old.room ≤ self.new.room }
+    {
+        self.entries.change_each(change);
     }
 
     /// Takes a key out with its value.
