@@ -1,3 +1,4 @@
 pub mod PairLists
 pub mod PairChanges
 pub mod PairRemovals
+pub mod PairCalls

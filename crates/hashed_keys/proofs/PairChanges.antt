@@ -28,7 +28,7 @@ map_seconds : {A B : Type 0} (a : A) (bs : List B) → map (λ (p : A × B). p.1
 map_seconds a [] = refl
 map_seconds a (b ∷ bs) = ap (λ l. b ∷ l) (map_seconds a bs)
 
-filled_with : {B : Type 0} (S : B → B → Ordering) (b : B) (bs : List B) → IsFilled (with_key S b bs)
+pub filled_with : {B : Type 0} (S : B → B → Ordering) (b : B) (bs : List B) → IsFilled (with_key S b bs)
 filled_with S b [] e = let g : ⊥ = cc in g
 filled_with S b (x ∷ xs) e = go (S b x) e where
   go : (r : Ordering) → by_order r (b ∷ x ∷ xs) (x ∷ xs) (x ∷ with_key S b xs) ≡ [] → ⊥

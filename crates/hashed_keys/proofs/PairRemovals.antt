@@ -25,11 +25,11 @@ use Rattle.hashed_keys.specs.Pairs.{found, pairs_of, by_pair, IsPaired, IsFilled
 use Rattle.hashed_keys.proofs.PairLists.{by_pair_total, has-pairs, sorted-pairs}
 use Rattle.hashed_keys.proofs.PairChanges.{same_pairs, seconds_is, pairs_sorted, sorted-replaced, has-replaced}
 
-filled_is : {B : Type 0} (bs : List B) → is_filled bs ≡ true → IsFilled bs
+pub filled_is : {B : Type 0} (bs : List B) → is_filled bs ≡ true → IsFilled bs
 filled_is [] t e = true≢false (sym t)
 filled_is (b ∷ bs) t e = let g : ⊥ = cc in g
 
-not_filled : {B : Type 0} (bs : List B) → is_filled bs ≡ false → bs ≡ []
+pub not_filled : {B : Type 0} (bs : List B) → is_filled bs ≡ false → bs ≡ []
 not_filled [] e = refl
 not_filled (b ∷ bs) e = absurd (true≢false e)
 

@@ -95,7 +95,7 @@ fn is_emptied<A: Ord + Digest + Drop, B: Ord + Drop, P: Probe<A> + Digest>(
     sets: &HashedMap<A, KeySet<B>>,
     first: &P,
 ) -> bool
-    ensures { result ≡ option_map_or (λ set. not (is_filled set)) false (find A.cmp (P.sought first.now) sets.now.content) }
+    ensures { result ≡ option_map_or (λ set. not (is_filled set)) (find A.cmp (P.sought first.now) sets.now.content) false }
 {
     match sets.get(first) {
         Some(set) => !set.is_filled(),
