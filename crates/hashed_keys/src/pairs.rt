@@ -1,10 +1,10 @@
 //! Pairs of which those that begin alike are found by the digest of their first half.
-ghost use Rattle.std.specs.Prelude.{◌≡◌, ◌↔◌, ◌<◌, ◌≤◌, ◌+◌, [], IsTrue, IfOk, OnOk, OnErr, filter, not, false};
+ghost use Rattle.std.specs.Prelude.{◌≡◌, ◌↔◌, ◌<◌, ◌≤◌, ◌+◌, [], IsTrue, IfOk, OnOk, OnErr, filter, map, not, false, ◌++◌};
 ghost use Rattle.std.specs.Option.{option_copied, option_map_or};
 ghost use Rattle.std.specs.FinMap.Entries.{find};
 ghost use Rattle.std.specs.List.Sorted.{IsStrictlySortedBy};
 ghost use Rattle.sorted_keys.specs.Keys.{has, with_key, without};
-ghost use Rattle.hashed_keys.specs.Pairs.{by_pair, found, seconds, replaced, is_filled};
+ghost use Rattle.hashed_keys.specs.Pairs.{pairs_of, by_pair, found, seconds, replaced, is_filled};
 
 use crate::key_set::KeySet;
 use crate::map::HashedMap;
@@ -208,5 +208,70 @@ impl<A: Exact + Digest + Drop, B: Exact + Drop> HashedPairs<A, B> {
     {
         self.sets.change_each(&Kept { test });
         self.sets.retain(&Filled);
+    }
+}
+
+// Adds the pairs of a first half with each of these second ones.
+fn add_pairs<A: Drop + Duplicate, B: Drop + Duplicate>(
+    pairs: &mut Vec<(A, B)>,
+    first: &A,
+    seconds: &[B],
+) -> Result<(), AllocError>
+    ensures { OnOk result (pairs.new.items ≡ pairs.old.items ++ map (λ b. (first.now, b)) seconds.now) }
+{
+    for second in seconds {
+        let first = first.duplicate()?;
+        let second = second.duplicate()?;
+        pairs.push((first, second))?;
+    }
+    Ok(())
+}
+
+// The pairs of a map of sets, in order.
+fn all_pairs<A: Ord + Digest + Drop + Duplicate, B: Ord + Drop + Duplicate>(
+    alloc: Global,
+    sets: &HashedMap<A, KeySet<B>>,
+) -> Result<Vec<(A, B)>, AllocError>
+    ensures { IfOk result (λ pairs. pairs.items ≡ pairs_of sets.now.content) }
+{
+    let mut pairs = Vec::new(alloc);
+    for place in 0..sets.len() {
+        if let Some((first, set)) = sets.at(place) {
+            add_pairs(&mut pairs, first, set.keys())?;
+        }
+    }
+    Ok(pairs)
+}
+
+impl<A: Exact + Digest + Drop + Duplicate, B: Exact + Drop + Duplicate> HashedPairs<A, B> {
+    /// Equal pairs.
+    ///
+    /// # Errors
+    /// `AllocError` where there is no memory for it.
+    pub fn copy(&self) -> Result<Self, AllocError>
+        ensures { IfOk result (λ copy. copy.content ≡ self.now.content) }
+    {
+        Ok(HashedPairs {
+            sets: self.sets.copy()?,
+        })
+    }
+
+    /// The pairs in order, copied.
+    ///
+    /// # Errors
+    /// `AllocError` where there is no memory for it.
+    pub fn pairs(&self, alloc: Global) -> Result<Vec<(A, B)>, AllocError>
+        ensures { IfOk result (λ pairs. pairs.items ≡ self.now.content) }
+    {
+        all_pairs(alloc, &self.sets)
+    }
+}
+
+impl<A: Exact, B: Exact> HashedPairs<A, B> {
+    /// Whether both have the same pairs.
+    pub fn same(&self, other: &Self) -> bool
+        ensures { IsTrue result ↔ (self.now.content ≡ other.now.content) }
+    {
+        self.sets.same(&other.sets)
     }
 }
