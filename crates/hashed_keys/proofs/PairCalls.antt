@@ -14,7 +14,7 @@ use Rattle.sorted_keys.specs.Keys.{has, with_key, without, without_key, updated}
 use Rattle.sorted_keys.proofs.KeyPlace.{sorted_with_key}
 use Rattle.hashed_keys.specs.Pairs.{found, pairs_of, by_pair, IsPaired, IsFilled, is_filled}
 use Rattle.hashed_keys.proofs.PairChanges.{found_sorted, filled_with, paired_put, insert_is}
-use Rattle.hashed_keys.proofs.PairRemovals.{paired_out, paired_without_key, key_gone, pair_out, last_out, filled_is, not_filled}
+use Rattle.hashed_keys.proofs.PairRemovals.{paired_out, paired_without_key, key_gone, last_out, filled_is, not_filled}
 
 -- whether a key's set has lost its last second half
 abbrev pub is_last : {B : Type 0} → Option (List B) → Bool

@@ -1,26 +1,22 @@
 -- What changes of a map of sets make of its pairs.
-use Rattle.std.proofs.Common.{◌≡◌, Bool, true, false, not, cond, ◌||◌, ◌&&◌, List, [], ◌∷◌, ◌++◌, map, Option, Some, None, refl, sym, ap, ◌∙◌, subst}
+use Rattle.std.proofs.Common.{◌≡◌, Bool, true, false, not, cond, ◌||◌, ◌&&◌, List, [], ◌∷◌, map, Option, Some, None, refl, sym, ap, ◌∙◌}
 use Rattle.std.specs.declared.cmp.Ordering.{Ordering}
 use Rattle.std.specs.declared.cmp.Ordering.TheVariants.{Less, Equal, Greater}
-use Rattle.std.specs.List.{filter, AllByRecursion as Each}
+use Rattle.std.specs.List.{filter}
 use Rattle.std.specs.List.Sorted.{IsStrictlySortedBy}
-use Rattle.std.specs.Option.{option_map, option_map_or}
-use Rattle.std.specs.Ordering.{eq_by_cmp, is_eq}
+use Rattle.std.specs.Ordering.{eq_by_cmp}
 use Rattle.std.specs.FinMap.{IsAntisymmetric}
 use Rattle.std.specs.FinMap.Entries.{find, put, find-put, by_order}
-use Rattle.std.specs.Cmp.{IsTotalOrder, Equal-is}
+use Rattle.std.specs.Cmp.{IsTotalOrder}
 use Rattle.std.proofs.lemmas.List.Kept.{IsStrictlySortedBy-filter}
-use Rattle.std.proofs.lemmas.List.Elements.{filter-append}
 use Rattle.sorted_keys.specs.Exact.{pairs_exact}
-use Rattle.sorted_keys.specs.Keys.{has, with_key, without, by_key, without_key, updated}
-use Rattle.sorted_keys.proofs.Order.{IsBelowAll, sorted_none}
-use Rattle.sorted_keys.proofs.EntryPlace.{sorted_put, sorted_updated}
-use Rattle.sorted_keys.proofs.Kept.{each_put, each_updated, each_found}
+use Rattle.sorted_keys.specs.Keys.{has, with_key}
+use Rattle.sorted_keys.proofs.Order.{sorted_none}
+use Rattle.sorted_keys.proofs.EntryPlace.{sorted_put}
+use Rattle.sorted_keys.proofs.Kept.{each_put, each_found}
 use Rattle.sorted_keys.proofs.KeyPlace.{sorted_with_key}
-use Rattle.sorted_keys.proofs.Lists.{Each-filter}
-use Rattle.sorted_keys.proofs.Lookups.{find-without_key, find-updated, same_found}
-use Rattle.sorted_keys.proofs.Members.{has-with_key, has-without, has-filter, same_keys}
-use Rattle.sorted_keys.proofs.Ties.{ties-pair, ties_flip, ties_itself, one_key}
+use Rattle.sorted_keys.proofs.Members.{has-with_key, has-filter, same_keys}
+use Rattle.sorted_keys.proofs.Ties.{ties-pair, ties_flip, one_key}
 use Rattle.hashed_keys.specs.Pairs.{found, pairs_of, by_pair, IsPaired, IsFilled, beginning, seconds, with_seconds, replaced}
 use Rattle.hashed_keys.proofs.PairLists.{by_pair_total, has-of_key, has-pairs, sorted-pairs, sorted-of_key}
 

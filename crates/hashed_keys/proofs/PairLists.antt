@@ -1,23 +1,18 @@
 -- What the pairs of a map of sets are.
-use Rattle.std.proofs.Common.{◌≡◌, Bool, true, false, not, cond, ◌||◌, ◌&&◌, List, [], ◌∷◌, ◌++◌, map, Option, Some, None, refl, sym, ap, ◌∙◌, subst}
+use Rattle.std.proofs.Common.{◌≡◌, Bool, true, false, cond, ◌||◌, ◌&&◌, List, [], ◌∷◌, ◌++◌, map, Some, None, refl, sym, ap, ◌∙◌}
 use Rattle.std.specs.declared.cmp.Ordering.{Ordering}
-use Rattle.std.specs.declared.cmp.Ordering.TheVariants.{Less, Equal, Greater}
-use Rattle.std.specs.List.{filter, AllByRecursion as Each}
+use Rattle.std.specs.declared.cmp.Ordering.TheVariants.{Less, Equal}
+use Rattle.std.specs.List.{AllByRecursion as Each}
 use Rattle.std.specs.List.Sorted.{IsStrictlySortedBy}
-use Rattle.std.specs.Option.{option_map_or}
-use Rattle.std.specs.Ordering.{eq_by_cmp, is_eq, ordering_then, on}
-use Rattle.std.specs.FinMap.{IsAntisymmetric}
-use Rattle.std.specs.FinMap.Entries.{find, put, find-put}
+use Rattle.std.specs.Ordering.{eq_by_cmp}
+use Rattle.std.specs.FinMap.Entries.{find}
 use Rattle.std.specs.Cmp.{IsTotalOrder, Equal-is, tied_itself}
 use Rattle.std.proofs.lemmas.Cmp.{then_total, on_total}
-use Rattle.sorted_keys.specs.Exact.{pairs_exact}
-use Rattle.sorted_keys.specs.Keys.{has, with_key, without, by_key, without_key, updated}
+use Rattle.sorted_keys.specs.Keys.{has, by_key}
 use Rattle.sorted_keys.proofs.Order.{IsBelowAll}
-use Rattle.sorted_keys.proofs.KeyPlace.{sorted_with_key}
-use Rattle.sorted_keys.proofs.Lists.{Each-append, Each-filter}
-use Rattle.sorted_keys.proofs.Members.{has-with_key, has-without, has-filter, same_keys}
+use Rattle.sorted_keys.proofs.Lists.{Each-append}
 use Rattle.sorted_keys.proofs.Ties.{ties-pair}
-use Rattle.hashed_keys.specs.Pairs.{found, pairs_of, by_pair, IsPaired, IsFilled, beginning, seconds, replaced}
+use Rattle.hashed_keys.specs.Pairs.{found, pairs_of, by_pair}
 
 both_or : (t u v : Bool) → ((t && u) || (t && v)) ≡ (t && (u || v))
 both_or true u v = refl

@@ -1,27 +1,25 @@
 -- What is left of a map's pairs where some are taken out, and when two maps have the same pairs.
-use Rattle.std.proofs.Common.{ℕ, ◌≡◌, Bool, true, false, not, cond, ◌||◌, ◌&&◌, List, [], ◌∷◌, ◌++◌, map, length, Option, Some, None, refl, sym, ap, ◌∙◌, subst}
+use Rattle.std.proofs.Common.{◌≡◌, Bool, true, false, not, cond, ◌&&◌, List, [], ◌∷◌, ◌++◌, map, Option, Some, None, refl, sym, ap, ◌∙◌}
 use Rattle.std.specs.declared.cmp.Ordering.{Ordering}
-use Rattle.std.specs.declared.cmp.Ordering.TheVariants.{Less, Equal, Greater}
 use Rattle.std.specs.List.{filter, AllByRecursion as Each}
 use Rattle.std.specs.List.Sorted.{IsStrictlySortedBy}
-use Rattle.std.specs.Option.{option_map, option_map_or}
-use Rattle.std.specs.Ordering.{eq_by_cmp, is_eq}
+use Rattle.std.specs.Option.{option_map}
+use Rattle.std.specs.Ordering.{eq_by_cmp}
 use Rattle.std.specs.FinMap.{IsAntisymmetric}
-use Rattle.std.specs.FinMap.Entries.{find, put, find-put, by_order}
-use Rattle.std.specs.Cmp.{IsTotalOrder, Equal-is}
+use Rattle.std.specs.FinMap.Entries.{find}
+use Rattle.std.specs.Cmp.{IsTotalOrder}
 use Rattle.std.proofs.lemmas.Bool.{true≢false}
 use Rattle.std.proofs.lemmas.List.Kept.{IsStrictlySortedBy-filter}
 use Rattle.std.proofs.lemmas.List.Elements.{filter-append}
-use Rattle.sorted_keys.specs.Exact.{pairs_exact}
-use Rattle.sorted_keys.specs.Keys.{has, with_key, without, by_key, without_key, updated}
-use Rattle.sorted_keys.proofs.Order.{IsBelowAll, sorted_none}
-use Rattle.sorted_keys.proofs.EntryPlace.{sorted_put, sorted_updated}
-use Rattle.sorted_keys.proofs.Kept.{each_put, each_updated, each_found}
-use Rattle.sorted_keys.proofs.Lists.{Each-filter, Each-always}
+use Rattle.sorted_keys.specs.Keys.{has, without, by_key, without_key, updated}
+use Rattle.sorted_keys.proofs.Order.{IsBelowAll}
+use Rattle.sorted_keys.proofs.EntryPlace.{sorted_updated}
+use Rattle.sorted_keys.proofs.Kept.{each_updated, each_found}
+use Rattle.sorted_keys.proofs.Lists.{Each-filter}
 use Rattle.sorted_keys.proofs.Lookups.{find-without_key, find-updated, same_found}
-use Rattle.sorted_keys.proofs.Members.{has-without, has-filter}
-use Rattle.sorted_keys.proofs.Ties.{ties-pair, ties_flip, ties_itself, one_key}
-use Rattle.hashed_keys.specs.Pairs.{found, pairs_of, by_pair, IsPaired, IsFilled, beginning, seconds, with_seconds, replaced, is_filled}
+use Rattle.sorted_keys.proofs.Members.{has-without}
+use Rattle.sorted_keys.proofs.Ties.{ties-pair, ties_itself, one_key}
+use Rattle.hashed_keys.specs.Pairs.{found, pairs_of, by_pair, IsPaired, IsFilled, seconds, replaced, is_filled}
 use Rattle.hashed_keys.proofs.PairLists.{by_pair_total, has-pairs, sorted-pairs}
 use Rattle.hashed_keys.proofs.PairChanges.{same_pairs, seconds_is, pairs_sorted, sorted-replaced, has-replaced}
 
@@ -43,7 +41,7 @@ module _ {A B : Type 0} where
     go true t rest = ap (λ l. map (λ b. (e.0, b)) e.1 ++ l) rest
     go false t rest = rest ∙ ap (λ bs. map (λ b. (e.0, b)) bs ++ pairs_of es) (sym (not_filled e.1 t))
 
-  abbrev of_key : A → List B → List (A × B)
+  abbrev pub of_key : A → List B → List (A × B)
   of_key a bs = map (λ b. (a, b)) bs
 
   abbrev ends : (B → Bool) → A × B → Bool

@@ -236,8 +236,8 @@ fn all_pairs<A: Ord + Digest + Drop + Duplicate, B: Ord + Drop + Duplicate>(
 {
     let mut pairs = Vec::new(alloc);
     for place in 0..sets.len() {
-        if let Some((first, set)) = sets.at(place) {
-            add_pairs(&mut pairs, first, set.keys())?;
+        if let Some(entry) = sets.at(place) {
+            add_pairs(&mut pairs, &entry.0, entry.1.keys())?;
         }
     }
     Ok(pairs)

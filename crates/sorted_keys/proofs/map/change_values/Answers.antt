@@ -11,7 +11,7 @@ loop-entry-preserved g c =
     let e = c.entry-item.result in
     let lt : i < length c.args.entries.now = omega arith in
     let step =
-        ap (λ v. set entries i ((get_or entries i e).0, v)) c.change.ensures
-        ∙ ap (λ es. set es i (after (get_or es i e))) c.loop-entry.invariant
-        ∙ changed_more after c.args.entries.now i e lt in
+    ap (λ v. set entries i ((get_or entries i e).0, v)) c.change.ensures
+    ∙ ap (λ es. set es i (after (get_or es i e))) c.loop-entry.invariant
+    ∙ changed_more after c.args.entries.now i e lt in
     rw add-one step

@@ -1,9 +1,9 @@
 use Rattle.std.proofs.Common.{◌≡◌, ap, sym, ◌∙◌, subst, OnOk}
-use Rattle.std.specs.FinMap.Entries.{find, put}
+use Rattle.std.specs.FinMap.Entries.{put}
 use Rattle.sorted_keys.specs.Keys.{with_key, updated}
 use Rattle.sorted_keys.specs.Row.{Row}
-use Rattle.hashed_keys.specs.Pairs.{pairs_of, by_pair, IsPaired}
-use Rattle.hashed_keys.proofs.PairCalls.{second_more, first_second, with_second, paired_inserted, pairs_inserted}
+use Rattle.hashed_keys.specs.Pairs.{pairs_of, by_pair}
+use Rattle.hashed_keys.proofs.PairCalls.{second_more, first_second, paired_inserted, pairs_inserted}
 use Rattle.hashed_keys.proofs.pairs.HashedPairs.insert.Goals as goal
 
 pub invariant_of-self : goal.invariant_of-self

@@ -1,6 +1,6 @@
 use Rattle.std.proofs.Common.{◌≡◌, [], ap, sym, ◌∙◌, subst}
 use Rattle.sorted_keys.specs.Row.{Row}
-use Rattle.hashed_keys.specs.Pairs.{pairs_of, replaced, IsPaired, IsFilled}
+use Rattle.hashed_keys.specs.Pairs.{pairs_of, replaced, IsPaired}
 use Rattle.hashed_keys.proofs.PairChanges.{paired_put, put_is}
 use Rattle.hashed_keys.proofs.PairRemovals.{filled_is, not_filled, paired_without_key, key_out}
 use Rattle.hashed_keys.proofs.pairs.HashedPairs.put.Goals as goal

@@ -1,9 +1,8 @@
-use Rattle.std.proofs.Common.{◌≡◌, Bool, true, false, not, List, Option, ap, sym, ◌∙◌, subst}
+use Rattle.std.proofs.Common.{ap, sym, ◌∙◌, subst}
 use Rattle.std.specs.FinMap.Entries.{find}
-use Rattle.std.specs.Option.{option_map_or}
-use Rattle.sorted_keys.specs.Keys.{without, without_key, updated}
+use Rattle.sorted_keys.specs.Keys.{without, without_key}
 use Rattle.sorted_keys.specs.Row.{Row}
-use Rattle.hashed_keys.specs.Pairs.{pairs_of, by_pair, IsPaired, is_filled}
+use Rattle.hashed_keys.specs.Pairs.{pairs_of, by_pair, IsPaired}
 use Rattle.hashed_keys.proofs.PairCalls.{is_last, paired_left, paired_gone, pairs_gone}
 use Rattle.hashed_keys.proofs.PairRemovals.{pair_out}
 use Rattle.hashed_keys.proofs.pairs.HashedPairs.remove.Goals as goal

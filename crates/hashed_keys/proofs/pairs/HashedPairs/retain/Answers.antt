@@ -1,4 +1,4 @@
-use Rattle.std.proofs.Common.{◌≡◌, ap, sym, ◌∙◌, subst, map}
+use Rattle.std.proofs.Common.{ap, sym, ◌∙◌, subst}
 use Rattle.std.specs.List.{filter}
 use Rattle.sorted_keys.specs.Row.{Row}
 use Rattle.hashed_keys.specs.Pairs.{pairs_of, IsPaired, is_filled}

@@ -14,7 +14,7 @@ invariant_of-self g c =
     let new : c.change_values.new.entries ≡ map after items = c.change_values.ensures ∙ ap (map after) c.deref_mut.ensures.value in
     let count : c.self.inside.entries.len ≡ length items = search rules in
     let same : take c.self.inside.entries.len (c.change_values.new.entries ++ more) ≡ map after items =
-        ap (λ l. take c.self.inside.entries.len (l ++ more)) new
-        ∙ ap (λ n. take n (map after items ++ more)) count
-        ∙ all_changed after items more in
+    ap (λ l. take c.self.inside.entries.len (l ++ more)) new
+    ∙ ap (λ n. take n (map after items ++ more)) count
+    ∙ all_changed after items more in
     subst (IsStrictlySortedBy (by_key R)) (sym same) (sorted_changed R (λ e. changed e.1) items c.self.invariant)
