@@ -2,3 +2,4 @@ pub mod PairLists
 pub mod PairChanges
 pub mod PairRemovals
 pub mod PairCalls
+pub mod PairSeconds
