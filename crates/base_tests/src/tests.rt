@@ -1,6 +1,7 @@
 //! What each crate below shows its callers.
 
 mod board;
+mod hashed;
 mod keys;
 mod plans;
 mod refusals;

@@ -2,6 +2,10 @@
 #![tactic(auto)]
 
 mod hints;
+mod key_set;
 mod map;
+mod pairs;
 
+pub use key_set::KeySet;
 pub use map::{EachChange, HashedMap};
+pub use pairs::HashedPairs;
