@@ -1,7 +1,7 @@
 -- Which sessions end: where a user loses a role none but the user's own, where a pair goes none but those with a role below it.
-use Rattle.std.proofs.Common.{List, [], ◌∷◌, Bool, true, false, not, ◌||◌, ◌&&◌, ◌≡◌, IsTrue, refl, sym, ap, ◌∙◌, ⊎_elim}
+use Rattle.std.proofs.Common.{List, [], ◌∷◌, Bool, true, false, not, ◌||◌, ◌&&◌, ◌≡◌, refl, sym, ap, ◌∙◌, ⊎_elim}
 use Rattle.std.proofs.lemmas.Bool.{and_from, false≢true}
-use Rattle.std.specs.List.{list_all, list_any, filter, AllByRecursion as Each}
+use Rattle.std.specs.List.{list_any, filter, AllByRecursion as Each}
 use Rattle.std.specs.Ordering.{eq_by_cmp}
 use Rattle.sorted_keys.specs.Keys.{has, with_key, without}
 use Rattle.sorted_keys.proofs.Members.{has-without}
