@@ -1,9 +1,11 @@
 -- What is planned of a command, and then what it takes out, is its change.
-use Rattle.std.proofs.Common.{◌≡◌, Bool, true, false, cond, not, ◌&&◌, refl, sym, ap, ◌∙◌, subst}
+use Rattle.std.proofs.Common.{◌≡◌, List, Bool, true, false, cond, not, ◌&&◌, ◌||◌, refl, sym, ap, ◌∙◌, subst}
 use Rattle.std.proofs.lemmas.Bool.{and_parts, not-false}
 use Rattle.sorted_keys.specs.Keys.{has, with_key, without}
 use Rattle.std.specs.List.{AllByRecursion as Each}
+use Rattle.std.specs.Ordering.{eq_by_cmp}
 use Rattle.sorted_keys.proofs.Kept.{still}
+use Rattle.sorted_keys.proofs.Members.{has-with_key, has-without}
 use Rattle.sorted_keys.proofs.Lists.{Each-weaker}
 use Rattle.rbac_terms.specs.Name.{Name, name_cmp, pair_cmp}
 use Rattle.rbac_terms.specs.Inheritance.{inherits}
@@ -14,9 +16,9 @@ use Rattle.rbac_terms.specs.Change.{change}
 use Rattle.rbac_terms.specs.Sound.{IsSessionSound}
 use Rattle.rbac_terms.specs.declared.separation.Separation.TheVariants.{Static, Dynamic}
 use Rattle.rbac_terms.specs.declared.command.Command.{Command}
-use Rattle.rbac_terms.specs.declared.command.Command.TheVariants.{AddRole, DeleteRole, DeassignUser, AddInheritance, AddAscendant, AddDescendant, CreateSet, AddRoleMember}
-use Rattle.rbac_terms.proofs.NameLemmas.{names_total}
-use Rattle.rbac_rules.proofs.InheritanceLemmas.{inherits_iff}
+use Rattle.rbac_terms.specs.declared.command.Command.TheVariants.{AddRole, DeleteRole, DeassignUser, AddInheritance, DeleteInheritance, AddAscendant, AddDescendant, CreateSet, AddRoleMember}
+use Rattle.rbac_terms.proofs.NameLemmas.{names_total, pairs_total}
+use Rattle.rbac_rules.proofs.InheritanceLemmas.{inherits_iff, inherits_still}
 use Rattle.rbac_rules.proofs.SoundParts.{none_fails}
 use Rattle.rbac_rules.proofs.SoundRoles.{is_there, not_inherited, inherits_nothing}
 use Rattle.rbac_rules.proofs.SoundSeparation.{is_false}
@@ -109,12 +111,37 @@ module _ (t : Tables) (v : Vocabulary) where
 pub made_by_plan : (c : Command) (t g : Tables) → IsGrown c t g → IsUndenied c t → (v : Vocabulary) → taken_out c (state_of g v) ≡ change c (state_of t v)
 made_by_plan c t g h u v = ap (taken_out c) (grown_state c t g h v) ∙ then_taken_out t v c u
 
--- what an assignment is taken out of is as it was before: sound
+-- what is taken out and added again was there
+put_back : (pair : Name × Name) (pairs : List (Name × Name)) (other : Name × Name) → has pair_cmp other pairs ≡ true → has pair_cmp other (with_key pair_cmp pair (without pair_cmp pair pairs)) ≡ true
+put_back pair pairs other is_there =
+    has-with_key pairs_total pair (without pair_cmp pair pairs) other
+    ∙ ap (λ b. eq_by_cmp pair_cmp other pair || b) (has-without pairs_total pair pairs other)
+    ∙ go (eq_by_cmp pair_cmp other pair) (has pair_cmp other pairs) is_there
+  where
+    go : (same there : Bool) → there ≡ true → (same || (not same && there)) ≡ true
+    go true there e = refl
+    go false there e = e
+
+-- what an assignment is taken out of is as it was before, sound, and so was what a pair is taken out of
 pub takes_from_sound : (c : Command) (t g : Tables) → IsGrown c t g → IsUndenied c t → TakesFromSound c g
 takes_from_sound (DeassignUser user role) t g h u = λ v.
     subst (λ (s : State). Each (λ e. IsSessionSound s e.1) s.sessions) (sym (grown_state (DeassignUser user role) t g h v))
     (Each-weaker (λ e. IsSessionSound (state_of t u.vocabulary) e.1) (λ e. IsSessionSound (state_of t v) e.1) t.sessions.content
     (λ e sound. record { owned = sound.owned; active = sound.active; authorized = sound.authorized }) u.sound.sessions)
+takes_from_sound (DeleteInheritance a d) t g h u = (
+  a,
+  λ v.
+      let declared = t.hierarchy.content.declared in
+      subst (λ (s : State). Each (λ e. IsSessionSound (record s { declared = with_key pair_cmp (a, d) s.declared }) e.1) s.sessions) (sym (grown_state (DeleteInheritance a d) t g h v))
+      (Each-weaker (λ e. IsSessionSound (state_of t u.vocabulary) e.1) (λ e. IsSessionSound (record (state_of t v) { declared = with_key pair_cmp (a, d) (without pair_cmp (a, d) declared) }) e.1) t.sessions.content
+      (λ e sound. record {
+        owned = sound.owned;
+        active = sound.active;
+        authorized = λ r m.
+            let was = sound.authorized r m in
+            (was.0, was.1, inherits_still t.hierarchy.content.roles t.hierarchy.content.roles declared (with_key pair_cmp (a, d) (without pair_cmp (a, d) declared)) (λ z k. k) (put_back (a, d) declared) was.0 r was.2);
+      }) u.sound.sessions),
+)
 takes_from_sound c t g h u = tt
 
 -- ---- The roles of the role sets go with those of the hierarchy

@@ -23,7 +23,7 @@ use Rattle.rbac_hierarchy.specs.Order.{Order}
 use Rattle.rbac_separation.specs.Changes.{changed as changed_set}
 use Rattle.rbac_separation.specs.declared.set_plan.SetChange.{SetChange}
 use Rattle.rbac_decide.specs.declared.tables.Tables.{Tables}
-use Rattle.rbac_decide.specs.Tables.{HasSoundSessions}
+use Rattle.rbac_decide.specs.Tables.{HasSoundSessions, HadSoundSessions}
 use Rattle.rbac_decide.specs.declared.tables.planning.TablesPlan.{TablesPlan}
 use Rattle.rbac_decide.specs.declared.tables.planning.TablesPlan.TheVariants.{OfSets, OfRoles, OfOrder, OfRoleSets, OfSessions}
 
@@ -77,9 +77,10 @@ taken_out (DeleteSession user session) s = change (DeleteSession user session) s
 taken_out (DropActiveRole user session role) s = change (DropActiveRole user session role) s
 taken_out c s = s
 
--- where an assignment is taken out, each session is as it should be
+-- where an assignment is taken out, each session is as it should be, and where a pair was, each was so with it
 abbrev pub TakesFromSound : Command → Tables → Type 0
 TakesFromSound (DeassignUser user role) t = HasSoundSessions t
+TakesFromSound (DeleteInheritance ascendant descendant) t = HadSoundSessions descendant t
 TakesFromSound c t = ⊤
 
 -- the roles of the role sets after that

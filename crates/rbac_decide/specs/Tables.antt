@@ -1,6 +1,8 @@
 -- The sets that commands change, with a vocabulary, as the state of a policy.
 use Rattle.std.specs.Prelude.{[], ◌≡◌, None}
 use Rattle.std.specs.List.{AllByRecursion as Each}
+use Rattle.sorted_keys.specs.Keys.{with_key}
+use Rattle.rbac_terms.specs.Name.{Name, pair_cmp}
 use Rattle.rbac_terms.specs.Vocabulary.{Vocabulary, no_vocabulary}
 use Rattle.rbac_terms.specs.State.{State}
 use Rattle.rbac_terms.specs.Rows.{first_denial}
@@ -50,6 +52,12 @@ pub record IsUndenied (c : Command) (t : Tables) : Type 0 where
 -- each session is as it should be, whatever the vocabulary
 abbrev pub HasSoundSessions : Tables → Type 0
 HasSoundSessions t = (v : Vocabulary) → Each (λ e. IsSessionSound (state_of t v) e.1) t.sessions.content
+
+-- each session was as it should be while some pair with this descendant was declared
+abbrev pub HadSoundSessions : Name → Tables → Type 0
+HadSoundSessions descendant t =
+    (ascendant : Name)
+    × ((v : Vocabulary) → Each (λ e. IsSessionSound (record (state_of t v) { declared = with_key pair_cmp (ascendant, descendant) t.hierarchy.content.declared }) e.1) t.sessions.content)
 
 -- both have the same sets
 pub record HaveSameSets (t other : Tables) : Type 0 where

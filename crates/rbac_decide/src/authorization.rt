@@ -27,6 +27,13 @@ fn some_inherits(hierarchy: &Hierarchy, assignments: &[(Name, Name)], role: &Nam
         .any(|pair| hierarchy.inherits(&pair.1, role))
 }
 
+/// Whether the senior inherits one of the roles.
+pub(crate) fn inherits_one_of(hierarchy: &Hierarchy, senior: &Name, roles: &[Name]) -> bool
+    ensures { let h = hierarchy.now.content in result ≡ list_any (λ role. inherits h.roles h.declared senior.now role) roles.now }
+{
+    roles.iter().any(|role| hierarchy.inherits(senior, role))
+}
+
 // Whether the role inherits the role of one of the grants.
 fn inherits_some(hierarchy: &Hierarchy, role: &Name, grants: &[((Name, Name), Name)]) -> bool
     ensures { let h = hierarchy.now.content in result ≡ list_any (λ grant. inherits h.roles h.declared role.now grant.1) grants.now }

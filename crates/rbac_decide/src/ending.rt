@@ -1,12 +1,14 @@
 //! Which sessions a deletion ends.
 ghost use Rattle.std.specs.Prelude.{◌≡◌, ◌&&◌, ◌||◌, not};
+ghost use Rattle.std.specs.List.{list_any};
 ghost use Rattle.std.specs.Ordering.{eq_by_cmp};
 ghost use Rattle.sorted_keys.specs.Keys.{has};
 ghost use Rattle.rbac_terms.specs.Name.{name_cmp};
 ghost use Rattle.rbac_terms.specs.Authorization.{is_entitled as is_entitled_in};
+ghost use Rattle.rbac_terms.specs.Inheritance.{inherits};
 ghost use Rattle.rbac_decide.specs.Tables.{state_of_roles};
 
-use crate::authorization::is_entitled;
+use crate::authorization::{inherits_one_of, is_entitled};
 use rbac_hierarchy::Hierarchy;
 use rbac_rolesets::RoleSets;
 use rbac_sessions::SessionTest;
@@ -26,17 +28,19 @@ impl SessionTest for OwnedBy<'_> {
     }
 }
 
-/// The sessions in which a role is active.
+/// The sessions in which a role is active, or one that the owner is not authorized for.
 #[derive(Drop)]
-pub(crate) struct WithActive<'a> {
+pub(crate) struct ActiveOrUnentitled<'a> {
+    pub sets: &'a RoleSets,
+    pub hierarchy: &'a Hierarchy,
     pub role: &'a Name,
 }
 
-impl SessionTest for WithActive<'_> {
-    ghost passes = { λ active _ _ roles. has name_cmp active.role.now roles };
+impl SessionTest for ActiveOrUnentitled<'_> {
+    ghost passes = { λ t _ owner roles. has name_cmp t.role.now roles || not (is_entitled_in (state_of_roles t.sets.now.content t.hierarchy.now.content) (record { owner = owner; active = roles })) };
 
-    fn test(&self, _session: &Name, _owner: &Name, roles: &NameSet) -> bool {
-        roles.contains(self.role)
+    fn test(&self, _session: &Name, owner: &Name, roles: &NameSet) -> bool {
+        roles.contains(self.role) || !is_entitled(self.sets, self.hierarchy, owner, roles)
     }
 }
 
@@ -58,17 +62,19 @@ impl SessionTest for OwnedUnentitled<'_> {
     }
 }
 
-/// The sessions with an active role that is not there, or that the owner is not authorized for.
+/// The sessions with an active role that a role inherits, and with one that the owner is not authorized for.
 #[derive(Drop)]
-pub(crate) struct Unentitled<'a> {
+pub(crate) struct BelowUnentitled<'a> {
     pub sets: &'a RoleSets,
     pub hierarchy: &'a Hierarchy,
+    pub senior: &'a Name,
 }
 
-impl SessionTest for Unentitled<'_> {
-    ghost passes = { λ unentitled _ owner roles. not (is_entitled_in (state_of_roles unentitled.sets.now.content unentitled.hierarchy.now.content) (record { owner = owner; active = roles })) };
+impl SessionTest for BelowUnentitled<'_> {
+    ghost passes = { λ t _ owner roles. list_any (λ role. inherits t.hierarchy.now.content.roles t.hierarchy.now.content.declared t.senior.now role) roles && not (is_entitled_in (state_of_roles t.sets.now.content t.hierarchy.now.content) (record { owner = owner; active = roles })) };
 
     fn test(&self, _session: &Name, owner: &Name, roles: &NameSet) -> bool {
-        !is_entitled(self.sets, self.hierarchy, owner, roles)
+        inherits_one_of(self.hierarchy, self.senior, roles.names())
+            && !is_entitled(self.sets, self.hierarchy, owner, roles)
     }
 }

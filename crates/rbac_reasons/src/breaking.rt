@@ -186,6 +186,23 @@ fn breaking_session<'a>(
         .find(|entry| is_broken(set, &entry.1.active))
 }
 
+// The first session of the policy that would break a dynamic set.
+fn dynamic_breach(
+    alloc: Global,
+    policy: &Policy,
+    sessions: &[(Name, Session)],
+    entry: &(Name, RoleSet),
+) -> Result<Option<Breach>, AllocError>
+    requires { sessions.now ≡ policy.now.sessions }
+    ensures { IfOk result (TellsBreach Dynamic (with_sets Dynamic (put name_cmp entry.now.0 entry.now.1 policy.now.dynamic_sets) policy.now)) }
+{
+    policy.invariants();
+    match breaking_session(sessions, &entry.1) {
+        Some((session, state)) => Ok(Some(breach_of(alloc, session, entry, &state.active)?)),
+        None => Ok(None),
+    }
+}
+
 // The session that would break a dynamic set.
 fn dynamic_set_breach(
     alloc: Global,
@@ -194,12 +211,8 @@ fn dynamic_set_breach(
 ) -> Result<Option<Breach>, AllocError>
     ensures { IfOk result (TellsBreach Dynamic (with_sets Dynamic (put name_cmp entry.now.0 entry.now.1 policy.now.dynamic_sets) policy.now)) }
 {
-    policy.invariants();
     let sessions = policy.sessions(alloc)?;
-    match breaking_session(&sessions, &entry.1) {
-        Some((session, state)) => Ok(Some(breach_of(alloc, session, entry, &state.active)?)),
-        None => Ok(None),
-    }
+    dynamic_breach(alloc, policy, &sessions, entry)
 }
 
 // The user that would break a static set.

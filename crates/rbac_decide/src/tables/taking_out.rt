@@ -5,25 +5,13 @@ ghost use Rattle.rbac_terms.specs.Change.{change};
 ghost use Rattle.rbac_terms.specs.Vocabulary.{Vocabulary as VocabularyValue};
 ghost use Rattle.rbac_terms.specs.declared.command.Command.TheVariants.{DeleteUser, DeleteRole, DeassignUser, DeleteSet, DeleteRoleMember, SetCardinality};
 
-use crate::ending::{OwnedBy, OwnedUnentitled, Unentitled, WithActive};
+use crate::ending::{ActiveOrUnentitled, BelowUnentitled, OwnedBy, OwnedUnentitled};
 use crate::tables::Tables;
 use rbac_terms::{Command, Name, Separation};
 
 impl Tables {
     ghost use Rattle.rbac_decide.specs.Planning.{taken_out, roles_left, TakesFromSound};
-    ghost use Rattle.rbac_decide.specs.Tables.{state_of, HasSoundSessions};
-
-    // Ends the sessions that are not entitled to an active role.
-    fn purge(&mut self)
-        ensures state { (v : VocabularyValue) → state_of self.new v ≡ purge (state_of self.old v) }
-        ensures sets { self.new.sets.content ≡ self.old.sets.content }
-        ensures hierarchy { self.new.hierarchy.content ≡ self.old.hierarchy.content }
-    {
-        self.sessions.delete_where(&Unentitled {
-            sets: &self.sets,
-            hierarchy: &self.hierarchy,
-        });
-    }
+    ghost use Rattle.rbac_decide.specs.Tables.{state_of, HasSoundSessions, HadSoundSessions};
 
     fn delete_user(&mut self, user: &Name)
         ensures state { (v : VocabularyValue) → state_of self.new v ≡ change (DeleteUser user.now) (state_of self.old v) }
@@ -41,8 +29,26 @@ impl Tables {
         ensures hierarchy { self.new.hierarchy.content ≡ self.old.hierarchy.content }
     {
         self.sets.remove_role(role);
-        self.sessions.delete_where(&WithActive { role });
-        self.purge();
+        self.sessions.delete_where(&ActiveOrUnentitled {
+            sets: &self.sets,
+            hierarchy: &self.hierarchy,
+            role,
+        });
+    }
+
+    // Ends sessions where a pair of this descendant was taken back. Of a sound policy none can end but those with an active role that the
+    // descendant inherits: the others are passed over at once.
+    fn delete_inheritance(&mut self, descendant: &Name)
+        requires { HadSoundSessions descendant.now self.old }
+        ensures state { (v : VocabularyValue) → state_of self.new v ≡ purge (state_of self.old v) }
+        ensures sets { self.new.sets.content ≡ self.old.sets.content }
+        ensures hierarchy { self.new.hierarchy.content ≡ self.old.hierarchy.content }
+    {
+        self.sessions.delete_where(&BelowUnentitled {
+            sets: &self.sets,
+            hierarchy: &self.hierarchy,
+            senior: descendant,
+        });
     }
 
     // Of a sound policy none but the user's own sessions can end, so no other is looked at.
@@ -110,7 +116,7 @@ impl Tables {
                 object,
                 role,
             } => self.sets.revoke(operation, object, role),
-            Command::DeleteInheritance { .. } => self.purge(),
+            Command::DeleteInheritance { descendant, .. } => self.delete_inheritance(descendant),
             Command::DeleteSet { kind, set } => self.delete_set(*kind, set),
             Command::DeleteRoleMember { kind, set, role } => {
                 self.delete_role_member(*kind, set, role)

@@ -5,7 +5,7 @@ use Rattle.sorted_keys.specs.Keys.{has}
 use Rattle.rbac_terms.specs.Separation.{is_broken}
 use Rattle.rbac_terms.specs.State.{Session}
 use Rattle.rbac_reasons.proofs.BreachLemmas.{IsBreachOf, dynamic_broken, dynamic_unbroken}
-use Rattle.rbac_reasons.proofs.breaking.dynamic_set_breach.Goals as goal
+use Rattle.rbac_reasons.proofs.breaking.dynamic_breach.Goals as goal
 
 pub returns-in_ok-breach_of-in-Some : goal.returns-in_ok-breach_of-in-Some
 returns-in_ok-breach_of-in-Some c =
