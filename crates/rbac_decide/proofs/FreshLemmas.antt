@@ -136,30 +136,54 @@ none_constrained s none role r = ap (λ (sets : List (Name × RoleSet)). inherit
 
 -- ---- The loop that gathers the names that pass a test
 
-module _ (passes : Name → Bool) (x : Name) (rest fresh all : List Name)
-    (so_far : (r : Name) → (has name_cmp r fresh || (has name_cmp r (x ∷ rest) && passes r)) ≡ (has name_cmp r all && passes r)) where
-  pub kept_one : passes x ≡ true → (r : Name) → (has name_cmp r (with_key name_cmp x fresh) || (has name_cmp r rest && passes r)) ≡ (has name_cmp r all && passes r)
+module _ (passes : Name → Bool) (x : Name) (rest fresh : List Name) (all : Name → Bool)
+    (so_far : (r : Name) → (has name_cmp r fresh || (has name_cmp r (x ∷ rest) && passes r)) ≡ all r) where
+  pub kept_one : passes x ≡ true → (r : Name) → (has name_cmp r (with_key name_cmp x fresh) || (has name_cmp r rest && passes r)) ≡ all r
   kept_one is r = ap (λ b. b || (has name_cmp r rest && passes r)) (has-with_key names_total x fresh r) ∙ go (eq_by_cmp name_cmp r x) refl (so_far r)
     where
       last : (b : Bool) → (b || true) ≡ true
       last true = refl
       last false = refl
 
-      go : (b : Bool) → eq_by_cmp name_cmp r x ≡ b → (has name_cmp r fresh || ((b || has name_cmp r rest) && passes r)) ≡ (has name_cmp r all && passes r)
-          → ((b || has name_cmp r fresh) || (has name_cmp r rest && passes r)) ≡ (has name_cmp r all && passes r)
+      go : (b : Bool) → eq_by_cmp name_cmp r x ≡ b → (has name_cmp r fresh || ((b || has name_cmp r rest) && passes r)) ≡ all r
+          → ((b || has name_cmp r fresh) || (has name_cmp r rest && passes r)) ≡ all r
       go true e told = sym (last (has name_cmp r fresh)) ∙ ap (λ b. has name_cmp r fresh || b) (sym (ap passes (one_key names_exact r x e) ∙ is)) ∙ told
       go false e told = told
 
-  pub kept_none : passes x ≡ false → (r : Name) → (has name_cmp r fresh || (has name_cmp r rest && passes r)) ≡ (has name_cmp r all && passes r)
+  pub kept_none : passes x ≡ false → (r : Name) → (has name_cmp r fresh || (has name_cmp r rest && passes r)) ≡ all r
   kept_none is r = go (eq_by_cmp name_cmp r x) refl (so_far r)
     where
       nothing : (b : Bool) → (b && false) ≡ false
       nothing true = refl
       nothing false = refl
 
-      go : (b : Bool) → eq_by_cmp name_cmp r x ≡ b → (has name_cmp r fresh || ((b || has name_cmp r rest) && passes r)) ≡ (has name_cmp r all && passes r)
-          → (has name_cmp r fresh || (has name_cmp r rest && passes r)) ≡ (has name_cmp r all && passes r)
+      go : (b : Bool) → eq_by_cmp name_cmp r x ≡ b → (has name_cmp r fresh || ((b || has name_cmp r rest) && passes r)) ≡ all r
+          → (has name_cmp r fresh || (has name_cmp r rest && passes r)) ≡ all r
       go true e told =
           let none : passes r ≡ false = ap passes (one_key names_exact r x e) ∙ is in
           ap (λ b. has name_cmp r fresh || b) (ap (λ b. has name_cmp r rest && b) none ∙ nothing (has name_cmp r rest) ∙ sym none) ∙ told
       go false e told = told
+
+-- ---- The loop that gathers the roles of sets that are among some
+
+gathers : (n x a c : Bool) → ((n || (x && a)) || (c && a)) ≡ (n || ((x || c) && a))
+gathers true x a c = refl
+gathers false true true c = refl
+gathers false true false true = refl
+gathers false true false false = refl
+gathers false false a c = refl
+
+module _ (among names more : List Name) (e : Name × RoleSet) (rest : List (Name × RoleSet)) (all : Name → Bool)
+    (added : (r : Name) → has name_cmp r more ≡ (has name_cmp r names || (has name_cmp r e.1.roles && has name_cmp r among)))
+    (so_far : (r : Name) → (has name_cmp r names || (is_constrained r (e ∷ rest) && has name_cmp r among)) ≡ all r) where
+  pub set_gathered : (r : Name) → (has name_cmp r more || (is_constrained r rest && has name_cmp r among)) ≡ all r
+  set_gathered r =
+      ap (λ b. b || (is_constrained r rest && has name_cmp r among)) (added r)
+      ∙ gathers (has name_cmp r names) (has name_cmp r e.1.roles) (has name_cmp r among) (is_constrained r rest)
+      ∙ so_far r
+
+pub both_swapped : (a b : Bool) → (a && b) ≡ (b && a)
+both_swapped true true = refl
+both_swapped true false = refl
+both_swapped false true = refl
+both_swapped false false = refl

@@ -9,3 +9,4 @@ pub mod PlanningLemmas
 pub mod SeparationLemmas
 pub mod TablesLemmas
 pub mod ToldLemmas
+pub mod TouchedLemmas

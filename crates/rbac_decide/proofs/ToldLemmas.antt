@@ -48,10 +48,10 @@ and_false false c e = refl
 -- ---- The numbers of one user
 
 module _ (numbers : Name → ℕ) (test : Name → Bool) (user : Name) where
-  abbrev given : Name × RoleSet → CountChange
+  abbrev pub given : Name × RoleSet → CountChange
   given e = record { set = e.0; user = user; number = numbers e.0 + count_by test e.1.roles }
 
-  abbrev has_some : Name × RoleSet → Bool
+  abbrev pub has_some : Name × RoleSet → Bool
   has_some e = list_any test e.1.roles
 
   -- those of others stay
@@ -116,7 +116,7 @@ pub on_ok : {A E : Type 0} {P Q : Type 0} (r : Result A E) → (P → Q) → OnO
 on_ok (Ok a) f h = f h
 on_ok (Err e) f h = tt
 
-neither : (a b : Bool) → (a || b) ≡ false → (a ≡ false) × (b ≡ false)
+pub neither : (a b : Bool) → (a || b) ≡ false → (a ≡ false) × (b ≡ false)
 neither true b e = absurd (false≢true (sym e))
 neither false b e = (refl, e)
 

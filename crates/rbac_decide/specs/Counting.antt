@@ -56,6 +56,14 @@ abbrev pub touches : List Name → Option RoleSet → Bool
 touches below None = false
 touches below (Some set) = list_any (λ r. has name_cmp r below) set.roles
 
+-- a set with those of its roles alone that are among these
+abbrev pub cut_to : List Name → RoleSet → RoleSet
+cut_to below set = record { roles = filter (λ r. has name_cmp r below) set.roles; cardinality = set.cardinality }
+
+-- the sets that have one of these roles, each with such roles alone
+abbrev pub touched_sets : List Name → List (Name × RoleSet) → List (Name × RoleSet)
+touched_sets below sets = map (λ e. (e.0, cut_to below e.1)) (filter (λ e. touches below (Some e.1)) sets)
+
 abbrev pub AreCountsBy : Tables → Counts → Type 0
 AreCountsBy t counts = (set user : Name) → numbers_of counts set user ≡ count_by_tables t set user
 

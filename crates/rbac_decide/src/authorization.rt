@@ -1,5 +1,5 @@
 //! Who is authorized for a role, and which roles have a permission, by the sets of a policy.
-ghost use Rattle.std.specs.Prelude.{◌≡◌, ◌&&◌, not, count_by, IfOk};
+ghost use Rattle.std.specs.Prelude.{◌≡◌, ◌&&◌, ◌||◌, not, count_by, IfOk, OnOk};
 ghost use Rattle.sorted_keys.specs.Keys.{has};
 ghost use Rattle.rbac_terms.specs.Name.{Name as NameValue, name_cmp};
 ghost use Rattle.std.specs.List.{list_all, list_any};
@@ -13,7 +13,7 @@ ghost use Rattle.rbac_decide.specs.Breaking.{is_constrained_junior};
 use crate::tables::Tables;
 use rbac_hierarchy::{Hierarchy, RoleOrder};
 use rbac_rolesets::RoleSets;
-use rbac_separation::SetTable;
+use rbac_separation::RoleSet;
 use rbac_terms::{Name, NameSet};
 use sorted_keys::KeyTest;
 use std::alloc::{AllocError, Global};
@@ -82,6 +82,22 @@ pub(crate) fn is_authorized_for_all(
         .all(|role| is_authorized(sets, hierarchy, user, role))
 }
 
+// Adds those of the names that pass a test.
+fn add_where<T: KeyTest<Name>>(
+    kept: &mut NameSet,
+    names: &NameSet,
+    test: &T,
+) -> Result<(), AllocError>
+    ensures { OnOk result ((r : NameValue) → has name_cmp r kept.new ≡ (has name_cmp r kept.old || (has name_cmp r names.now && T.passes test.now r))) }
+{
+    for name in names.names() {
+        if test.test(name) {
+            kept.add_copy(name)?;
+        }
+    }
+    Ok(())
+}
+
 /// Those of the names that pass a test.
 pub(crate) fn names_where<T: KeyTest<Name>>(
     alloc: Global,
@@ -91,27 +107,22 @@ pub(crate) fn names_where<T: KeyTest<Name>>(
     ensures { IfOk result (λ kept. (r : NameValue) → has name_cmp r kept ≡ (has name_cmp r names.now && T.passes test.now r)) }
 {
     let mut kept = NameSet::new(alloc);
-    for name in names.names() {
-        if test.test(name) {
-            kept.add_copy(name)?;
-        }
-    }
+    add_where(&mut kept, names, test)?;
     Ok(kept)
 }
 
-// The roles that a user is not authorized for.
+// The roles that the role of none of the assignments inherits.
 #[derive(Drop)]
 struct NewTo<'a> {
-    sets: &'a RoleSets,
     hierarchy: &'a Hierarchy,
-    user: &'a Name,
+    assignments: &'a [(Name, Name)],
 }
 
 impl KeyTest<Name> for NewTo<'_> {
-    ghost passes = { λ new role. not (is_authorized (state_of_roles new.sets.now.content new.hierarchy.now.content) new.user.now role) };
+    ghost passes = { λ new role. not (list_any (λ pair. inherits new.hierarchy.now.content.roles new.hierarchy.now.content.declared pair.1 role) new.assignments.now) };
 
     fn test(&self, role: &Name) -> bool {
-        !is_authorized(self.sets, self.hierarchy, self.user, role)
+        !some_inherits(self.hierarchy, self.assignments, role)
     }
 }
 
@@ -127,25 +138,25 @@ pub(crate) fn fresh_roles(
         has name_cmp r fresh ≡ (has name_cmp r roles.now && not (is_authorized s user.now r))) }
 {
     let test = NewTo {
-        sets,
         hierarchy,
-        user,
+        assignments: sets.assignments_of(user),
     };
     names_where(alloc, roles, &test)
 }
 
-// The roles of some of the sets.
-#[derive(Drop)]
-struct Constrained<'a> {
-    sets: &'a SetTable,
-}
-
-impl KeyTest<Name> for Constrained<'_> {
-    ghost passes = { λ constrained role. is_constrained role constrained.sets.now.content };
-
-    fn test(&self, role: &Name) -> bool {
-        self.sets.holds_role(role)
+// The roles of the sets that are among these.
+fn constrained_among(
+    alloc: Global,
+    sets: &[(Name, RoleSet)],
+    among: &NameSet,
+) -> Result<NameSet, AllocError>
+    ensures { IfOk result (λ names. (r : NameValue) → has name_cmp r names ≡ (is_constrained r sets.now && has name_cmp r among.now)) }
+{
+    let mut names = NameSet::new(alloc);
+    for entry in sets {
+        add_where(&mut names, &entry.1.roles, among)?;
     }
+    Ok(names)
 }
 
 /// The roles of static sets that the role inherits. Where there is no static set nothing is gathered.
@@ -160,10 +171,7 @@ pub(crate) fn constrained_juniors(
         return Ok(NameSet::new(alloc));
     }
     let juniors = tables.hierarchy.juniors(alloc, role)?;
-    let constrained = Constrained {
-        sets: &tables.static_sets,
-    };
-    names_where(alloc, &juniors, &constrained)
+    constrained_among(alloc, tables.static_sets.entries(), &juniors)
 }
 
 // How many of the roles the role of one of the assignments inherits.

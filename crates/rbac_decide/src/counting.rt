@@ -13,7 +13,6 @@ mod told;
 
 use crate::authorization::count_authorized;
 use crate::counting::affected::affected_pairs;
-pub(crate) use crate::counting::affected::touches;
 use crate::counting::told::{told_of_assignment, told_of_inheritance};
 use crate::tables::Tables;
 use rbac_separation::{CountChange, CountPlan, Counts, Numbering, RecountPlan, RoleSet};

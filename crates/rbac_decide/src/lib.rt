@@ -7,6 +7,7 @@ mod counting;
 mod ending;
 mod policy;
 mod tables;
+mod touched;
 
 pub use policy::Policy;
 pub use rbac_separation::RoleSet;

@@ -1,10 +1,11 @@
 -- Numbers kept of sets of roles and users, and what they say of a set.
-use Rattle.std.specs.Prelude.{ℕ, ◌+◌, List, [], ◌∷◌, Bool, ◌&&◌, Option, Some, None, if◌then◌else◌, nat_le, count_by}
+use Rattle.std.specs.Prelude.{ℕ, ◌+◌, List, [], ◌∷◌, Bool, ◌&&◌, ◌==◌, Option, Some, None, if◌then◌else◌, nat_le, count_by}
 use Rattle.std.specs.Ordering.{eq_by_cmp}
 use Rattle.std.specs.Option.{unwrap_or}
-use Rattle.std.specs.FinMap.Entries.{find}
+use Rattle.std.specs.Map.{lookup}
+use Rattle.std.specs.Cmp.Lexicographic.{pointwise}
 use Rattle.sorted_keys.specs.Keys.{has}
-use Rattle.rbac_terms.specs.Name.{Name, name_cmp, pair_cmp}
+use Rattle.rbac_terms.specs.Name.{Name, name_cmp}
 use Rattle.rbac_terms.specs.Separation.{RoleSet}
 use Rattle.rbac_separation.specs.declared.count_plan.CountChange.{CountChange}
 
@@ -13,9 +14,13 @@ pub record Counts : Type 0 where
   pub content : List ((Name × Name) × ℕ)
   pub room : ℕ
 
+-- whether two pairs of a set and a user are one
+abbrev pub pair_eq : Name × Name → Name × Name → Bool
+pair_eq x y = pointwise ◌==◌ x.0 y.0 && pointwise ◌==◌ x.1 y.1
+
 -- the number of a set and a user, 0 where there is none
 abbrev pub numbers_of : Counts → Name → Name → ℕ
-numbers_of counts set user = unwrap_or (find pair_cmp (set, user) counts.content) 0
+numbers_of counts set user = unwrap_or (lookup (pair_eq (set, user)) counts.content) 0
 
 -- 0 for all
 abbrev pub no_numbers : Name → Name → ℕ

@@ -7,93 +7,31 @@ ghost use Rattle.rbac_separation.specs.Counts.{numbers_of, no_numbers, with_numb
 
 use crate::role_set::RoleSet;
 use crate::set_table::SetTable;
+use indexmap::{Equivalent, IndexMap};
 use rbac_terms::{Name, NameSet};
-use sorted_keys::{Duplicate, EntryTest, PairProbe, SortedMap, ValueChange};
 use std::alloc::{AllocError, Global};
-use std::convert::Infallible;
 use std::marker::Model;
 
-// A number above 0.
-#[derive(Drop)]
-struct Positive {
-    number: u32,
-}
-
-impl Model for Positive {
-    ghost use Rattle.std.specs.Prelude.{ℕ, ◌<◌};
-
-    ghost Value = { ℕ };
-
-    ghost view = { λ p. p.number };
-
-    ghost invariant = { λ p. 0 < p.number };
-}
-
-impl Positive {
-    fn new(number: u32) -> Positive
-        requires { 0 < number }
-        ensures { result ≡ number }
-    {
-        Positive { number }
-    }
-
-    fn number(&self) -> u32
-        ensures { result ≡ self.now }
-    {
-        self.number
-    }
-}
-
-impl Duplicate for Positive {
-    fn duplicate(&self) -> Result<Positive, AllocError> {
-        Ok(Positive {
-            number: self.number,
-        })
-    }
-}
-
-// Another number.
-#[derive(Drop)]
-struct NumberChange {
-    number: Positive,
-}
-
-impl ValueChange<Positive> for NumberChange {
-    type Fault = Infallible;
-
-    ghost changed = { λ change _. change.number };
-
-    fn change(self, number: &mut Positive) -> Result<(), Infallible> {
-        *number = self.number;
-        Ok(())
-    }
-}
-
-// The entries of other sets.
-#[derive(Drop)]
-struct OtherSets<'a> {
+// A set and a user by which their number is looked up, so that a look-up needs no names of its own.
+#[derive(Clone, Copy, PartialEq, Eq, Hash)]
+struct Place<'a> {
     set: &'a Name,
-}
-
-impl EntryTest<(Name, Name), Positive> for OtherSets<'_> {
-    ghost passes = { λ others key _. not (eq_by_cmp name_cmp others.set.now key.0) };
-
-    fn test(&self, key: &(Name, Name), _number: &Positive) -> bool {
-        self.set.cmp(&key.0).is_ne()
-    }
-}
-
-// The entries of other users.
-#[derive(Drop)]
-struct EntriesOfOthers<'a> {
     user: &'a Name,
 }
 
-impl EntryTest<(Name, Name), Positive> for EntriesOfOthers<'_> {
-    ghost passes = { λ others key _. not (eq_by_cmp name_cmp others.user.now key.1) };
+impl Equivalent<(Name, Name)> for Place<'_> {
+    ghost use Rattle.std.proofs.Common.{rules};
+    ghost use Rattle.rbac_separation.specs.Counts.{pair_eq};
 
-    fn test(&self, key: &(Name, Name), _number: &Positive) -> bool {
-        self.user.cmp(&key.1).is_ne()
+    ghost equivalent = { λ place. pair_eq (place.set.now, place.user.now) };
+
+    ghost respects_hash = { Prim.search rules };
+
+    ghost respects_eq = { Prim.search rules };
+
+    #[inline(always)]
+    fn equivalent(&self, key: &(Name, Name)) -> bool {
+        *self.set == key.0 && *self.user == key.1
     }
 }
 
@@ -101,7 +39,7 @@ impl EntryTest<(Name, Name), Positive> for EntriesOfOthers<'_> {
 /// set a user is authorized for.
 #[derive(Drop)]
 pub struct Counts {
-    numbers: SortedMap<(Name, Name), Positive>,
+    numbers: IndexMap<(Name, Name), u32>,
 }
 
 impl Model for Counts {
@@ -109,7 +47,9 @@ impl Model for Counts {
 
     ghost Value = { CountsValue };
 
-    ghost view = { λ c. record { content = c.numbers.content; room = c.numbers.room } };
+    ghost use Rattle.indexmap.specs.IndexMap.{spare};
+
+    ghost view = { λ c. record { content = c.numbers.entries; room = spare c.numbers } };
 }
 
 // The name of the first of the sets of which the user's number, and how many of its roles are among these, come to its own number
@@ -136,7 +76,7 @@ impl Counts {
         ensures { numbers_of result ≡ no_numbers }
     {
         Counts {
-            numbers: SortedMap::new(alloc),
+            numbers: IndexMap::new(alloc),
         }
     }
 
@@ -144,12 +84,8 @@ impl Counts {
     pub fn get(&self, set: &Name, user: &Name) -> u32
         ensures { result ≡ numbers_of self.now set.now user.now }
     {
-        let pair = PairProbe {
-            first: set,
-            second: user,
-        };
-        match self.numbers.get(&pair) {
-            Some(number) => number.number(),
+        match self.numbers.get(Place { set, user }) {
+            Some(number) => *number,
             None => 0,
         }
     }
@@ -165,22 +101,16 @@ impl Counts {
         ensures absent { OnErr result (numbers_of self.old set.now user.now ≡ 0) }
         ensures above { OnErr result (0 < number) }
     {
-        let pair = PairProbe {
-            first: set,
-            second: user,
-        };
         if number == 0 {
-            self.numbers.remove(&pair);
+            self.numbers.swap_remove(Place { set, user });
             return Ok(());
         }
-        let number = Positive::new(number);
-        if !self.numbers.contains(&pair) {
-            return self.numbers.insert((set.copy()?, user.copy()?), number);
+        if let Some(kept) = self.numbers.get_mut(Place { set, user }) {
+            *kept = number;
+            return Ok(());
         }
-        match self.numbers.update(&pair, NumberChange { number }) {
-            Ok(()) => Ok(()),
-            Err(never) => match never {},
-        }
+        self.numbers.insert((set.copy()?, user.copy()?), number)?;
+        Ok(())
     }
 
     /// Makes room for the numbers of so many more pairs. The numbers stay as they are, also where memory ends.
@@ -201,9 +131,9 @@ impl Counts {
         ensures room { self.old.room ≤ self.new.room + 1 }
     {
         if number == 0 {
-            self.numbers.remove(&key);
+            self.numbers.swap_remove(&key);
         } else {
-            self.numbers.put(key, Positive::new(number));
+            self.numbers.insert(key, number).unwrap();
         }
     }
 
@@ -211,14 +141,22 @@ impl Counts {
     pub fn forget_set(&mut self, set: &Name)
         ensures { numbers_of self.new ≡ without_set set.now (numbers_of self.old) }
     {
-        self.numbers.retain(&OtherSets { set });
+        self.numbers.retain(
+            |key: &(Name, Name), number: &mut u32| -> bool
+                ensures { (result ≡ not (eq_by_cmp name_cmp set.entry.now key.now.0)) × (number.new ≡ number.old) }
+            { set.cmp(&key.0).is_ne() },
+        );
     }
 
     /// Takes the numbers of a user out. Takes no memory.
     pub fn forget_user(&mut self, user: &Name)
         ensures { numbers_of self.new ≡ without_user user.now (numbers_of self.old) }
     {
-        self.numbers.retain(&EntriesOfOthers { user });
+        self.numbers.retain(
+            |key: &(Name, Name), number: &mut u32| -> bool
+                ensures { (result ≡ not (eq_by_cmp name_cmp user.entry.now key.now.1)) × (number.new ≡ number.old) }
+            { user.cmp(&key.1).is_ne() },
+        );
     }
 
     /// The first set by name of which the user's number, and how many of its roles are among the fresh ones, come to its own
@@ -242,7 +180,7 @@ impl Counts {
         ensures { IfOk result (λ copy. copy.content ≡ self.now.content) }
     {
         Ok(Counts {
-            numbers: self.numbers.copy()?,
+            numbers: self.numbers.clone()?,
         })
     }
 }

@@ -9,6 +9,7 @@ ghost use Rattle.rbac_decide.specs.Counting.{authorized_by, authorized_users_by,
 
 use crate::authorization::is_authorized;
 use crate::tables::Tables;
+use crate::touched::touches;
 use rbac_hierarchy::RoleOrder;
 use rbac_separation::RoleSet;
 use rbac_terms::{Command, Name, NameSet, Separation};
@@ -28,13 +29,6 @@ impl KeyTest<Name> for AuthorizedFor<'_> {
     fn test(&self, user: &Name) -> bool {
         is_authorized(&self.tables.sets, &self.tables.hierarchy, user, self.role)
     }
-}
-
-/// Whether the set has one of the roles.
-pub fn touches(below: &NameSet, roles: &RoleSet) -> bool
-    ensures { result ≡ list_any (λ r. has name_cmp r below.now) roles.now.roles }
-{
-    roles.roles.names().iter().any(|role| below.contains(role))
 }
 
 // Whether some of the sets has one of the roles.

@@ -7,11 +7,11 @@ ghost use Rattle.rbac_terms.specs.Name.{name_cmp};
 ghost use Rattle.rbac_terms.specs.declared.command.Command.TheVariants.{AssignUser, AddInheritance};
 ghost use Rattle.rbac_separation.specs.Counts.{numbers_of, is_over};
 ghost use Rattle.rbac_decide.specs.Tables.{IsUndenied};
-ghost use Rattle.rbac_decide.specs.Counting.{AreCountsBy, authorized_by, breaks_besides, gains, gains_by, TellsAfter};
+ghost use Rattle.rbac_decide.specs.Counting.{AreCountsBy, authorized_by, breaks_besides, gains, gains_by, touched_sets, TellsAfter};
 
 use crate::authorization::{constrained_juniors, fresh_roles, is_authorized};
-use crate::counting::affected::touches;
 use crate::tables::Tables;
+use crate::touched::{touched_sets, touches};
 use rbac_separation::{CountChange, Counts, RoleSet};
 use rbac_terms::{Name, NameSet};
 use std::alloc::{AllocError, Global};
@@ -62,16 +62,19 @@ fn tell_sets(
     Ok(())
 }
 
-// Tells the user's numbers with these roles besides. Of sets without a role that is new to the user nothing is told.
+// Tells the user's numbers with these roles besides, of the sets that have such a role. Of sets without one that is new to the user
+// nothing is told.
 fn tell_user(
     alloc: Global,
     tables: &Tables,
     counts: &Counts,
     user: &Name,
     below: &NameSet,
+    touched: &[(Name, RoleSet)],
     told: &mut Vec<CountChange>,
 ) -> Result<(), AllocError>
     requires counted { AreCountsBy tables.now counts.now }
+    requires touched { touched.now ≡ touched_sets below.now tables.now.static_sets.content }
     requires unbroken { breaks_besides tables.now below.now user.now ≡ false }
     ensures { OnOk result (told.new.items ≡ told.old.items ++ gains_by tables.now counts.now below.now user.now) }
 {
@@ -80,7 +83,7 @@ fn tell_user(
     if fresh.is_empty() {
         return Ok(());
     }
-    tell_sets(counts, tables.static_sets.entries(), user, &fresh, told)
+    tell_sets(counts, touched, user, &fresh, told)
 }
 
 // Tells the numbers, with these roles besides, of those of the users that are authorized for the ascendant.
@@ -91,15 +94,17 @@ fn tell_authorized(
     ascendant: &Name,
     users: &[Name],
     below: &NameSet,
+    touched: &[(Name, RoleSet)],
 ) -> Result<Vec<CountChange>, AllocError>
     requires counted { AreCountsBy tables.now counts.now }
+    requires touched { touched.now ≡ touched_sets below.now tables.now.static_sets.content }
     requires unbroken { list_any (λ user. authorized_by tables.now user ascendant.now && breaks_besides tables.now below.now user) users.now ≡ false }
     ensures { IfOk result (λ told. told.items ≡ flat_map (gains_by tables.now counts.now below.now) (filter (λ user. authorized_by tables.now user ascendant.now) users.now)) }
 {
     let mut told = Vec::new(alloc);
     for user in users {
         if is_authorized(&tables.sets, &tables.hierarchy, user, ascendant) {
-            tell_user(alloc, tables, counts, user, below, &mut told)?;
+            tell_user(alloc, tables, counts, user, below, touched, &mut told)?;
         }
     }
     Ok(told)
@@ -121,8 +126,9 @@ pub(crate) fn told_of_assignment(
     ensures { IfOk result (λ told. TellsAfter (AssignUser user.now role.now) told.items counts.now tables.now) }
 {
     let below = constrained_juniors(alloc, tables, role)?;
+    let touched = touched_sets(alloc, &below, tables.static_sets.entries())?;
     let mut told = Vec::new(alloc);
-    tell_user(alloc, tables, counts, user, &below, &mut told)?;
+    tell_user(alloc, tables, counts, user, &below, &touched, &mut told)?;
     Ok(told)
 }
 
@@ -146,6 +152,7 @@ pub(crate) fn told_of_inheritance(
     if below.is_empty() {
         return Ok(Vec::new(alloc));
     }
+    let touched = touched_sets(alloc, &below, tables.static_sets.entries())?;
     let users = tables.sets.users();
-    tell_authorized(alloc, tables, counts, ascendant, users, &below)
+    tell_authorized(alloc, tables, counts, ascendant, users, &below, &touched)
 }

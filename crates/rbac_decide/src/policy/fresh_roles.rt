@@ -5,12 +5,12 @@ ghost use Rattle.sorted_keys.specs.Keys.{has};
 ghost use Rattle.rbac_terms.specs.Name.{Name as NameValue, name_cmp};
 ghost use Rattle.rbac_terms.specs.Authorization.{is_authorized as is_authorized_in};
 ghost use Rattle.rbac_separation.specs.Counts.{numbers_of, is_over};
-ghost use Rattle.rbac_decide.specs.Counting.{authorized_count, touches};
+ghost use Rattle.rbac_decide.specs.Counting.{authorized_count, touches, touched_sets};
 ghost use Rattle.rbac_decide.specs.Breaking.{breaks_with, breaks_below, is_constrained_junior};
 
 use crate::authorization::{constrained_juniors, fresh_roles};
-use crate::counting::touches;
 use crate::policy::Policy;
+use crate::touched::{touched_sets, touches};
 use rbac_separation::{Counts, RoleSet};
 use rbac_terms::{Name, NameSet};
 use std::alloc::{AllocError, Global};
@@ -24,11 +24,22 @@ fn is_over_some(counts: &Counts, sets: &[(Name, RoleSet)], user: &Name, fresh: &
 }
 
 impl Policy {
-    // Whether the user would break a static set with these roles, of which it is authorized for none, besides.
-    fn breaks_with_fresh(&self, user: &Name, fresh: &NameSet) -> bool
-        ensures { result ≡ list_any (λ e. touches fresh.now (Some e.1) && is_over (authorized_count self.now e.0 user.now) fresh.now e.1) self.now.static_sets }
+    // Whether the user would have too many roles of some of those of these sets that have a fresh one.
+    fn breaks_with_fresh(&self, user: &Name, fresh: &NameSet, touched: &[(Name, RoleSet)]) -> bool
+        ensures { result ≡ list_any (λ e. touches fresh.now (Some e.1) && is_over (authorized_count self.now e.0 user.now) fresh.now e.1) touched.now }
     {
-        is_over_some(&self.counts, self.tables.static_sets.entries(), user, fresh)
+        is_over_some(&self.counts, touched, user, fresh)
+    }
+
+    // The static sets that have one of the roles, each with such roles alone.
+    fn touched_sets(
+        &self,
+        alloc: Global,
+        juniors: &NameSet,
+    ) -> Result<Vec<(Name, RoleSet)>, AllocError>
+        ensures { IfOk result (λ touched. touched.items ≡ touched_sets juniors.now self.now.static_sets) }
+    {
+        touched_sets(alloc, juniors, self.tables.static_sets.entries())
     }
 
     // The roles of static sets that the role inherits.
@@ -38,13 +49,16 @@ impl Policy {
         constrained_juniors(alloc, &self.tables, role)
     }
 
-    // Whether the user would break a static set with what some role inherits besides: of that, these are the roles of static sets.
+    // Whether the user would break a static set with what some role inherits besides: of that, these are the roles of static sets, and
+    // the sets that have one of these.
     fn breaks_with_juniors(
         &self,
         alloc: Global,
         user: &Name,
         juniors: &NameSet,
+        touched: &[(Name, RoleSet)],
     ) -> Result<bool, AllocError>
+        requires { touched.now ≡ touched_sets juniors.now self.now.static_sets }
         ensures { (role : NameValue) → ((r : NameValue) → has name_cmp r juniors.now ≡ is_constrained_junior self.now role r) →
             IfOk result (λ breaks. breaks ≡ breaks_with self.now role user.now) }
     {
@@ -56,7 +70,7 @@ impl Policy {
             user,
             juniors,
         )?;
-        Ok(self.breaks_with_fresh(user, &fresh))
+        Ok(self.breaks_with_fresh(user, &fresh, touched))
     }
 
     /// Whether the user would break a static set with this role, and what it inherits, besides. Only roles that the user is not
@@ -70,25 +84,28 @@ impl Policy {
         ensures { IfOk result (λ breaks. breaks ≡ breaks_with self.now role.now user.now) }
     {
         let juniors = self.constrained_juniors(alloc, role)?;
-        self.breaks_with_juniors(alloc, user, &juniors)
+        let touched = self.touched_sets(alloc, &juniors)?;
+        self.breaks_with_juniors(alloc, user, &juniors, &touched)
     }
 
     // Whether the user is authorized for the ascendant, and would break a static set with what some descendant inherits besides: of
-    // that, these are the roles of static sets.
+    // that, these are the roles of static sets, and the sets that have one of these.
     fn breaks_through(
         &self,
         alloc: Global,
         ascendant: &Name,
         user: &Name,
         juniors: &NameSet,
+        touched: &[(Name, RoleSet)],
     ) -> Result<bool, AllocError>
+        requires { touched.now ≡ touched_sets juniors.now self.now.static_sets }
         ensures { (descendant : NameValue) → ((r : NameValue) → has name_cmp r juniors.now ≡ is_constrained_junior self.now descendant r) →
             IfOk result (λ breaks. breaks ≡ (is_authorized_in self.now user.now ascendant.now && breaks_with self.now descendant user.now)) }
     {
         if !self.is_authorized(user, ascendant) {
             return Ok(false);
         }
-        self.breaks_with_juniors(alloc, user, juniors)
+        self.breaks_with_juniors(alloc, user, juniors, touched)
     }
 
     /// Whether some user who is authorized for the ascendant would break a static set with the descendant. Only roles that such
@@ -106,8 +123,9 @@ impl Policy {
         if juniors.is_empty() {
             return Ok(false);
         }
+        let touched = self.touched_sets(alloc, &juniors)?;
         for user in self.tables.sets.users() {
-            if self.breaks_through(alloc, ascendant, user, &juniors)? {
+            if self.breaks_through(alloc, ascendant, user, &juniors, &touched)? {
                 return Ok(true);
             }
         }

@@ -1,0 +1,9 @@
+use Rattle.std.proofs.Common.{◌≡◌, ◌||◌, ◌&&◌, drop}
+use Rattle.sorted_keys.specs.Keys.{has}
+use Rattle.rbac_terms.specs.Name.{Name, name_cmp}
+use Rattle.rbac_terms.specs.Separation.{is_constrained}
+use Rattle.rbac_decide.proofs.authorization.constrained_among.Given as goal
+
+abbrev pub invariant-loop-entry : goal.invariant-loop-entry
+invariant-loop-entry l =
+    (r : Name) → (has name_cmp r l.names || (is_constrained r (drop l.entry-index l.sets) && has name_cmp r l.among)) ≡ (is_constrained r l.sets && has name_cmp r l.among)

@@ -1,8 +1,0 @@
-use Rattle.std.proofs.Common.{◌≡◌, ◌||◌, ◌&&◌, drop}
-use Rattle.sorted_keys.specs.Keys.{has}
-use Rattle.rbac_terms.specs.Name.{Name, name_cmp}
-use Rattle.rbac_decide.proofs.authorization.names_where.Given as goal
-
-abbrev pub invariant-loop-name : goal.invariant-loop-name
-invariant-loop-name g l =
-    (r : Name) → (has name_cmp r l.kept || (has name_cmp r (drop l.name-index l.names) && g.T.KeyTest.passes l.test r)) ≡ (has name_cmp r l.names && g.T.KeyTest.passes l.test r)
