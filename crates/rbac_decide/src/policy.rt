@@ -24,6 +24,7 @@ use crate::authorization::some_inherits_some;
 use crate::counting::{commit_counts, plan_counts};
 use crate::policy::hindrance::Hindrance;
 use crate::tables::Tables;
+use digests::Digest;
 use rbac_separation::Counts;
 use rbac_terms::{Answer, Command, Denial, Name, Vocabulary};
 use sorted_keys::Probe;
@@ -113,7 +114,7 @@ impl Policy {
     ///
     /// # Errors
     /// The first denial that applies: `NoSession`, `NoOperation`, `NoObject`.
-    pub fn check<S: Probe<Name>, O: Probe<Name>, B: Probe<Name>>(
+    pub fn check<S: Probe<Name> + Digest, O: Probe<Name> + Digest, B: Probe<Name> + Digest>(
         &self,
         session: &S,
         operation: &O,

@@ -6,7 +6,7 @@ ghost use Rattle.rbac_terms.specs.Replay.{state_after, replies};
 ghost use Rattle.rbac_terms.specs.Sound.{BringsASet};
 ghost use Rattle.rbac_terms.specs.State.{founding_state};
 ghost use Rattle.rbac_terms.specs.declared.answer.Answer.TheVariants.{Done};
-ghost use Rattle.rbac_dump.specs.Dump.{set_command, dump_of};
+ghost use Rattle.rbac_dump.specs.Dump.{set_command, session_command, dump_of};
 
 use crate::telling::{
     tell_all, tell_assignment, tell_declaration, tell_grant, tell_role, tell_session, tell_set,
@@ -28,8 +28,20 @@ fn tell_sets(
     tell_all(commands, sets, |entry| tell_set(kind, entry))
 }
 
+// Adds the command of each session.
+fn tell_sessions(
+    alloc: Global,
+    commands: &mut Vec<Command>,
+    policy: &Policy,
+) -> Result<(), AllocError>
+    ensures { OnOk result (commands.new.items ≡ commands.old.items ++ map session_command policy.now.sessions) }
+{
+    let sessions = policy.sessions(alloc)?;
+    tell_all(commands, &sessions, tell_session)
+}
+
 // Fills an empty list with the commands.
-fn fill(commands: &mut Vec<Command>, policy: &Policy) -> Result<(), AllocError>
+fn fill(alloc: Global, commands: &mut Vec<Command>, policy: &Policy) -> Result<(), AllocError>
     ensures { commands.old.items ≡ [] → OnOk result (commands.new.items ≡ dump_of policy.now) }
 {
     tell_all(commands, policy.users(), tell_user)?;
@@ -38,7 +50,7 @@ fn fill(commands: &mut Vec<Command>, policy: &Policy) -> Result<(), AllocError>
     tell_all(commands, policy.declarations(), tell_declaration)?;
     tell_all(commands, policy.grants(), tell_grant)?;
     tell_sets(commands, policy, Separation::Static)?;
-    tell_all(commands, policy.sessions(), tell_session)?;
+    tell_sessions(alloc, commands, policy)?;
     tell_sets(commands, policy, Separation::Dynamic)?;
     Ok(())
 }
@@ -56,6 +68,6 @@ pub fn commands_of(alloc: Global, policy: &Policy) -> Result<Vec<Command>, Alloc
 {
     policy.invariants();
     let mut commands = Vec::new(alloc);
-    fill(&mut commands, policy)?;
+    fill(alloc, &mut commands, policy)?;
     Ok(commands)
 }

@@ -156,6 +156,7 @@ impl Teller<(Name, RoleSet), u8> for SetTeller {
 pub fn page(alloc: Global, policy: &Policy) -> Result<Vec<u8>, AllocError>
     ensures { IfOk result (λ text. text.items ≡ page_text policy.now) }
 {
+    let sessions = policy.sessions(alloc)?;
     let mut text = Vec::new(alloc);
     put_part(
         &mut text,
@@ -173,7 +174,7 @@ pub fn page(alloc: Global, policy: &Policy) -> Result<Vec<u8>, AllocError>
         &mut text,
         "sessions, the owner of each, and its active roles\n",
         &SessionTeller,
-        policy.sessions(),
+        &sessions,
     )?;
     put_part(
         &mut text,

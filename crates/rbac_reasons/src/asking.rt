@@ -72,8 +72,7 @@ pub(crate) fn is_granted(policy: &Policy, operation: &Name, object: &Name, role:
 pub(crate) fn session_called<'a>(policy: &'a Policy, session: &Name) -> Option<&'a Session>
     ensures { option_copied result ≡ find name_cmp session.now policy.now.sessions }
 {
-    policy.invariants();
-    value_at(policy.sessions(), session)
+    policy.session(session)
 }
 
 /// Whether it is the name of a session.

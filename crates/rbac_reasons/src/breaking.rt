@@ -195,7 +195,8 @@ fn dynamic_set_breach(
     ensures { IfOk result (TellsBreach Dynamic (with_sets Dynamic (put name_cmp entry.now.0 entry.now.1 policy.now.dynamic_sets) policy.now)) }
 {
     policy.invariants();
-    match breaking_session(policy.sessions(), &entry.1) {
+    let sessions = policy.sessions(alloc)?;
+    match breaking_session(&sessions, &entry.1) {
         Some((session, state)) => Ok(Some(breach_of(alloc, session, entry, &state.active)?)),
         None => Ok(None),
     }

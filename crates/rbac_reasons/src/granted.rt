@@ -10,7 +10,8 @@ ghost use Rattle.rbac_terms.specs.declared.answer.Answer.TheVariants.{Granted};
 ghost use Rattle.rbac_terms.specs.declared.command.Command.TheVariants.{CheckAccess};
 ghost use Rattle.rbac_reasons.specs.Reason.{IsReason};
 
-use crate::sorted::{seconds, value_at};
+use crate::asking::session_called;
+use crate::sorted::seconds;
 use crate::told::Reason;
 use crate::walk::find_chain;
 use rbac_decide::Policy;
@@ -48,7 +49,7 @@ pub fn reason(
     if !is_granted(policy, session, operation, object) {
         return Ok(None);
     }
-    let Some(session) = value_at(policy.sessions(), session) else {
+    let Some(session) = session_called(policy, session) else {
         return Ok(None);
     };
     let permission = PairProbe {

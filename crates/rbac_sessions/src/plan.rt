@@ -8,8 +8,8 @@ ghost use Rattle.rbac_terms.specs.Change.{with_active};
 
 use crate::session::Session;
 use crate::sessions::Sessions;
+use hashed_keys::HashedMap;
 use rbac_terms::{Name, NameSet};
-use sorted_keys::SortedMap;
 use staged::{EntryChange, Found, commit, make_plan};
 use std::alloc::{AllocError, Global};
 
@@ -90,6 +90,6 @@ impl Sessions {
         requires { length plan ≤ self.old.room }
         ensures { self.new.content ≡ after_entries name_cmp plan self.old.content }
     {
-        commit::<Change, SortedMap<Name, Session>>(&mut self.sessions, plan);
+        commit::<Change, HashedMap<Name, Session>>(&mut self.sessions, plan);
     }
 }

@@ -9,15 +9,17 @@ ghost use Rattle.rbac_terms.specs.Name.{Name as NameValue, name_cmp};
 
 use crate::change::{Activation, Deactivation};
 use crate::session::Session;
+use digests::Digest;
+use hashed_keys::HashedMap;
 use rbac_terms::{Name, NameSet};
-use sorted_keys::{EntryTest, Probe, SortedMap};
+use sorted_keys::{EntryTest, Probe};
 use std::alloc::{AllocError, Global};
 use std::marker::Model;
 
 /// The sessions, each by its name.
 #[derive(Drop)]
 pub struct Sessions {
-    pub(crate) sessions: SortedMap<Name, Session>,
+    pub(crate) sessions: HashedMap<Name, Session>,
 }
 
 impl Model for Sessions {
@@ -36,6 +38,20 @@ pub trait SessionTest {
     /// Whether the session passes.
     fn test(&self, session: &Name, owner: &Name, roles: &NameSet) -> bool
         ensures { result ≡ passes self.now session.now owner.now roles.now };
+}
+
+// The sessions that a test passes.
+#[derive(Drop)]
+struct PassesTest<'a, T> {
+    test: &'a T,
+}
+
+impl<T: SessionTest> EntryTest<Name, Session> for PassesTest<'_, T> {
+    ghost passes = { λ passing name session. T.passes passing.test.now name session.owner session.active };
+
+    fn test(&self, name: &Name, session: &Session) -> bool {
+        self.test.test(name, &session.owner, &session.active)
+    }
 }
 
 // The sessions that a test does not pass.
@@ -58,7 +74,7 @@ impl Sessions {
         ensures { result.content ≡ [] }
     {
         Sessions {
-            sessions: SortedMap::new(alloc),
+            sessions: HashedMap::new(alloc),
         }
     }
 
@@ -77,17 +93,20 @@ impl Sessions {
     }
 
     /// The session of this name.
-    pub fn get<P: Probe<Name>>(&self, session: &P) -> Option<&Session>
+    pub fn get<P: Probe<Name> + Digest>(&self, session: &P) -> Option<&Session>
         ensures { option_copied result ≡ find name_cmp (P.sought session.now) self.now.content }
     {
         self.sessions.get(session)
     }
 
-    /// The sessions with their names, sorted by these.
-    pub fn entries(&self) -> &[(Name, Session)]
-        ensures { result.now ≡ self.now.content }
+    /// The sessions with their names, sorted by these, copied.
+    ///
+    /// # Errors
+    /// `AllocError` where the copy gets no memory.
+    pub fn entries(&self, alloc: Global) -> Result<Vec<(Name, Session)>, AllocError>
+        ensures { IfOk result (λ entries. entries.items ≡ self.now.content) }
     {
-        self.sessions.entries()
+        self.sessions.entries(alloc)
     }
 
     /// The owner of the session.
@@ -114,11 +133,7 @@ impl Sessions {
     pub fn any<T: SessionTest>(&self, test: &T) -> bool
         ensures { result ≡ list_any (λ e. T.passes test.now e.0 e.1.owner e.1.active) self.now.content }
     {
-        self.sessions.entries().iter().any(|entry| test.test(
-            &entry.0,
-            &entry.1.owner,
-            &entry.1.active,
-        ))
+        self.sessions.any(&PassesTest { test })
     }
 
     /// Opens a session of a user, in which these roles are active. One of the same name is replaced.
@@ -175,7 +190,7 @@ impl Sessions {
     pub fn invariants(&self)
         ensures { IsStrictlySortedBy (by_key name_cmp) self.now.content }
     {
-        let _sessions = self.sessions.entries();
+        self.sessions.invariants();
     }
 
     /// Equal sessions.

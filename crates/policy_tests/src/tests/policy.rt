@@ -243,7 +243,12 @@ fn lends_what_it_holds(rt: HostRuntime) {
     expect_pairs(&rt, policy.assignments(), ("ann", "clerk"));
     expect_pairs(&rt, policy.declarations(), ("boss", "clerk"));
     expect_grant(&rt, policy.grants());
-    expect_sessions(&rt, policy.sessions());
+    let sessions = policy.sessions(rt.alloc()).expect(&rt, "memory");
+    expect_sessions(&rt, &sessions);
+    drop(sessions);
+    assert_eq!(rt; policy.session_count(), 2);
+    let found = policy.session(&lent(&rt, "s1")).expect(&rt, "a session");
+    assert_eq!(rt; found.owner.as_bytes(), "ann".as_bytes());
     let read = lent(&rt, "read");
     assert!(rt; policy.vocabulary().has_operation(&read));
     assert_eq!(rt; policy.separation_sets(Separation::Static).len(), 0);

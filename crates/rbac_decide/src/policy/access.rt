@@ -2,8 +2,6 @@
 ghost use Rattle.std.specs.Prelude.{◌≡◌, length};
 ghost use Rattle.sorted_keys.specs.Keys.{has};
 ghost use Rattle.std.specs.List.{list_all};
-ghost use Rattle.std.specs.Option.{option_copied};
-ghost use Rattle.std.specs.FinMap.Entries.{find};
 ghost use Rattle.rbac_terms.specs.Name.{name_cmp};
 ghost use Rattle.rbac_terms.specs.Authorization.{inherits_in, is_authorized as is_authorized_in};
 ghost use Rattle.rbac_terms.specs.Effect.{reply};
@@ -12,9 +10,7 @@ ghost use Rattle.rbac_terms.specs.declared.command.Command.TheVariants.{CheckAcc
 use crate::authorization::{is_authorized, is_authorized_for_all};
 use crate::policy::Policy;
 use rbac_hierarchy::RoleOrder;
-use rbac_sessions::Session;
 use rbac_terms::{Answer, Name};
-use sorted_keys::Probe;
 
 impl Policy {
     /// Whether it is one of the roles.
@@ -50,13 +46,6 @@ impl Policy {
         ensures { result ≡ list_all (is_authorized_in self.now user.now) roles.now }
     {
         is_authorized_for_all(&self.tables.sets, &self.tables.hierarchy, user, roles)
-    }
-
-    /// The session of this name.
-    pub(crate) fn session<P: Probe<Name>>(&self, session: &P) -> Option<&Session>
-        ensures { option_copied result ≡ find name_cmp (P.sought session.now) self.now.sessions }
-    {
-        self.tables.sessions.get(session)
     }
 
     /// The answer to CheckAccess.

@@ -1,12 +1,18 @@
-//! What a policy holds, lent in order.
-ghost use Rattle.std.specs.Prelude.{◌≡◌};
+//! What a policy holds: lists in order, and each session by its name.
+ghost use Rattle.std.specs.Prelude.{◌≡◌, length, IfOk};
+ghost use Rattle.std.specs.FinMap.Entries.{find};
+ghost use Rattle.std.specs.Option.{option_copied};
+ghost use Rattle.rbac_terms.specs.Name.{name_cmp};
 ghost use Rattle.rbac_terms.specs.Constraints.{sets_of};
 
 use crate::policy::Policy;
+use digests::Digest;
 use rbac_hierarchy::RoleOrder;
 use rbac_separation::RoleSet;
 use rbac_sessions::Session;
 use rbac_terms::{Name, Separation, Vocabulary};
+use sorted_keys::Probe;
+use std::alloc::{AllocError, Global};
 
 impl Policy {
     /// The users, sorted by their bytes.
@@ -54,11 +60,28 @@ impl Policy {
         }
     }
 
-    /// The sessions with their names, sorted by these.
-    pub fn sessions(&self) -> &[(Name, Session)]
-        ensures { result.now ≡ self.now.sessions }
+    /// How many sessions there are.
+    pub fn session_count(&self) -> usize
+        ensures { result ≡ length self.now.sessions }
     {
-        self.tables.sessions.entries()
+        self.tables.sessions.len()
+    }
+
+    /// The session of this name.
+    pub fn session<P: Probe<Name> + Digest>(&self, session: &P) -> Option<&Session>
+        ensures { option_copied result ≡ find name_cmp (P.sought session.now) self.now.sessions }
+    {
+        self.tables.sessions.get(session)
+    }
+
+    /// The sessions with their names, sorted by these, copied.
+    ///
+    /// # Errors
+    /// `AllocError` where the copy gets no memory.
+    pub fn sessions(&self, alloc: Global) -> Result<Vec<(Name, Session)>, AllocError>
+        ensures { IfOk result (λ sessions. sessions.items ≡ self.now.sessions) }
+    {
+        self.tables.sessions.entries(alloc)
     }
 
     /// The vocabulary that the policy was founded with.

@@ -55,7 +55,7 @@ pub(super) fn create_session(
     if let Some(breach) = session_breach(alloc, policy, session, roles)? {
         return Ok(violated(Separation::Dynamic, Some(breach)));
     }
-    if is_full(policy.sessions().len(), MOST_SESSIONS) {
+    if is_full(policy.session_count(), MOST_SESSIONS) {
         return Ok(limit(Counted::Sessions));
     }
     Ok(None)

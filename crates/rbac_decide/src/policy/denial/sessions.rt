@@ -11,6 +11,7 @@ ghost use Rattle.rbac_decide.specs.Denying.{verdict, TellsDenial};
 use crate::policy::Policy;
 use crate::policy::denial::deny_if;
 use crate::policy::hindrance::Hindrance;
+use digests::Digest;
 use rbac_sessions::Session;
 use rbac_terms::limits::MOST_SESSIONS;
 use rbac_terms::{Denial, Name, NameSet};
@@ -124,7 +125,7 @@ impl Policy {
     }
 
     /// The session that a check asks of, or the check's first failing precondition. It takes the grants of the operation on the object.
-    pub(crate) fn checked_session<S: Probe<Name>, O: Probe<Name>, B: Probe<Name>>(
+    pub(crate) fn checked_session<S: Probe<Name> + Digest, O: Probe<Name>, B: Probe<Name>>(
         &self,
         session: &S,
         operation: &O,
