@@ -27,22 +27,22 @@ fn some_inherits(hierarchy: &Hierarchy, assignments: &[(Name, Name)], role: &Nam
         .any(|pair| hierarchy.inherits(&pair.1, role))
 }
 
-// Whether the role inherits the role of one of the grants.
-fn inherits_some(hierarchy: &Hierarchy, role: &Name, grants: &[((Name, Name), Name)]) -> bool
-    ensures { let h = hierarchy.now.content in result ≡ list_any (λ grant. inherits h.roles h.declared role.now grant.1) grants.now }
+// Whether the role inherits one of the roles that something is granted to.
+fn inherits_some(hierarchy: &Hierarchy, role: &Name, grants: &[Name]) -> bool
+    ensures { let h = hierarchy.now.content in result ≡ list_any (inherits h.roles h.declared role.now) grants.now }
 {
     grants
         .iter()
-        .any(|grant| hierarchy.inherits(role, &grant.1))
+        .any(|junior| hierarchy.inherits(role, junior))
 }
 
-/// Whether one of the roles inherits the role of one of the grants.
+/// Whether one of the roles inherits one of those that something is granted to.
 pub(crate) fn some_inherits_some(
     hierarchy: &Hierarchy,
     roles: &[Name],
-    grants: &[((Name, Name), Name)],
+    grants: &[Name],
 ) -> bool
-    ensures { let h = hierarchy.now.content in result ≡ list_any (λ role. list_any (λ grant. inherits h.roles h.declared role grant.1) grants.now) roles.now }
+    ensures { let h = hierarchy.now.content in result ≡ list_any (λ role. list_any (inherits h.roles h.declared role) grants.now) roles.now }
 {
     roles
         .iter()

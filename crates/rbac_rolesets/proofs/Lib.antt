@@ -1,2 +1,2 @@
 mod Listed
-mod GrantLemmas
+pub mod GrantLemmas
