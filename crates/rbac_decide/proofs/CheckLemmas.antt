@@ -1,5 +1,5 @@
 -- What a check reads off the grants of what it asks for.
-use Rattle.std.proofs.Common.{◌≡◌, ◌≢◌, List, [], ◌∷◌, true, refl, sym, subst}
+use Rattle.std.proofs.Common.{◌≡◌, ◌≢◌, List, [], ◌∷◌, map, true, refl, sym, subst, ◌∙◌}
 use Rattle.std.proofs.lemmas.Bool.{and_parts, or_left}
 use Rattle.std.specs.List.{list_any, filter}
 use Rattle.std.specs.Ordering.{eq_by_cmp}
@@ -12,17 +12,21 @@ use Rattle.rbac_terms.specs.Sound.{IsSound}
 use Rattle.sorted_keys.proofs.Ties.{one_key, ties_itself, all_member}
 use Rattle.rbac_terms.proofs.NameLemmas.{pairs_exact, pairs_total, grants_total, grants_exact}
 use Rattle.sorted_keys.proofs.Kept.{was_kept}
-use Rattle.rbac_review.proofs.ReviewLemmas.{any-filter}
+use Rattle.rbac_rolesets.proofs.GrantLemmas.{any_granted, has_granted}
 use Rattle.sorted_keys.proofs.Lists.{any-same}
 
-abbrev pub grants_in : State → Permission → List Grant
-grants_in s permission = filter (λ grant. eq_by_cmp pair_cmp permission grant.0) s.granted
+-- the grants of a permission, and the roles that it is granted to
+abbrev grants_of : State → Permission → List Grant
+grants_of s permission = filter (λ grant. eq_by_cmp pair_cmp permission grant.0) s.granted
+
+abbrev pub grants_in : State → Permission → List Name
+grants_in s permission = map (λ grant. grant.1) (grants_of s permission)
 
 -- of what something is granted, operation and object are known
-pub granted_is_known : (s : State) (permission : Permission) (grants : List Grant) → IsSound s → grants ≡ grants_in s permission → grants ≢ []
+known_by_grants : (s : State) (permission : Permission) (grants : List Grant) → IsSound s → grants ≡ grants_of s permission → (map (λ grant. grant.1) grants ≡ [] → ⊥)
     → (has name_cmp permission.0 s.vocabulary.operations ≡ true) × (has name_cmp permission.1 s.vocabulary.objects ≡ true)
-granted_is_known s permission [] h are some = absurd (some refl)
-granted_is_known s permission (grant ∷ grants) h are some = and_parts _ _ listed where
+known_by_grants s permission [] h are some = absurd (some refl)
+known_by_grants s permission (grant ∷ grants) h are some = and_parts _ _ listed where
   among : has grant_cmp grant (grant ∷ grants) ≡ true
   among = or_left _ _ (ties_itself grants_total grant)
 
@@ -38,10 +42,16 @@ granted_is_known s permission (grant ∷ grants) h are some = and_parts _ _ list
   listed : is_listed s.vocabulary.operations s.vocabulary.objects permission ≡ true
   listed = all_member pairs_total pairs_exact (is_listed s.vocabulary.operations s.vocabulary.objects) s.vocabulary.permissions permission h.vocabulary.listed permitted
 
--- whether one of the roles has the permission, by the grants of it
+pub granted_is_known : (s : State) (permission : Permission) (grants : List Name) → IsSound s → grants ≡ grants_in s permission → grants ≢ []
+    → (has name_cmp permission.0 s.vocabulary.operations ≡ true) × (has name_cmp permission.1 s.vocabulary.objects ≡ true)
+granted_is_known s permission grants h are some = known_by_grants s permission (grants_of s permission) h refl (λ none. some (are ∙ none))
+
+-- whether one of the roles has the permission, by the roles that it is granted to
 pub has_by_grants : (s : State) (permission : Permission) (roles : List Name)
-    → list_any (λ role. list_any (λ (grant : Grant). inherits_in s role grant.1) (grants_in s permission)) roles ≡ list_any (has_permission s permission) roles
+    → list_any (λ role. list_any (inherits_in s role) (grants_in s permission)) roles ≡ list_any (has_permission s permission) roles
 has_by_grants s permission roles =
-    any-same (λ role. list_any (λ (grant : Grant). inherits_in s role grant.1) (grants_in s permission)) (has_permission s permission)
-    (λ role. any-filter (λ (grant : Grant). eq_by_cmp pair_cmp permission grant.0) (λ grant. inherits_in s role grant.1) s.granted)
-    roles
+    any-same (λ role. list_any (inherits_in s role) (grants_in s permission)) (has_permission s permission) (λ role. any_granted (inherits_in s role) permission s.granted) roles
+
+-- whether a role is one of those that have the permission by themselves
+pub among_granted : (s : State) (permission : Permission) (role : Name) → has name_cmp role (grants_in s permission) ≡ has grant_cmp (permission, role) s.granted
+among_granted s permission role = has_granted permission role s.granted

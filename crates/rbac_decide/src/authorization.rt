@@ -29,31 +29,22 @@ fn some_inherits(hierarchy: &Hierarchy, assignments: &[(Name, Name)], role: &Nam
 
 /// Whether the senior inherits one of the roles.
 pub(crate) fn inherits_one_of(hierarchy: &Hierarchy, senior: &Name, roles: &[Name]) -> bool
-    ensures { let h = hierarchy.now.content in result ≡ list_any (λ role. inherits h.roles h.declared senior.now role) roles.now }
+    ensures { let h = hierarchy.now.content in result ≡ list_any (inherits h.roles h.declared senior.now) roles.now }
 {
     roles.iter().any(|role| hierarchy.inherits(senior, role))
 }
 
-// Whether the role inherits the role of one of the grants.
-fn inherits_some(hierarchy: &Hierarchy, role: &Name, grants: &[((Name, Name), Name)]) -> bool
-    ensures { let h = hierarchy.now.content in result ≡ list_any (λ grant. inherits h.roles h.declared role.now grant.1) grants.now }
-{
-    grants
-        .iter()
-        .any(|grant| hierarchy.inherits(role, &grant.1))
-}
-
-/// Whether one of the roles inherits the role of one of the grants.
+/// Whether one of the roles inherits one of those that something is granted to.
 pub(crate) fn some_inherits_some(
     hierarchy: &Hierarchy,
     roles: &[Name],
-    grants: &[((Name, Name), Name)],
+    grants: &[Name],
 ) -> bool
-    ensures { let h = hierarchy.now.content in result ≡ list_any (λ role. list_any (λ grant. inherits h.roles h.declared role grant.1) grants.now) roles.now }
+    ensures { let h = hierarchy.now.content in result ≡ list_any (λ role. list_any (inherits h.roles h.declared role) grants.now) roles.now }
 {
     roles
         .iter()
-        .any(|role| inherits_some(hierarchy, role, grants))
+        .any(|role| inherits_one_of(hierarchy, role, grants))
 }
 
 /// Whether the user is authorized for the role: it is assigned one that inherits it.

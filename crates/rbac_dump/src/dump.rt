@@ -6,7 +6,7 @@ ghost use Rattle.rbac_terms.specs.Replay.{state_after, replies};
 ghost use Rattle.rbac_terms.specs.Sound.{BringsASet};
 ghost use Rattle.rbac_terms.specs.State.{founding_state};
 ghost use Rattle.rbac_terms.specs.declared.answer.Answer.TheVariants.{Done};
-ghost use Rattle.rbac_dump.specs.Dump.{set_command, session_command, dump_of};
+ghost use Rattle.rbac_dump.specs.Dump.{grant_command, set_command, session_command, dump_of};
 
 use crate::telling::{
     tell_all, tell_assignment, tell_declaration, tell_grant, tell_role, tell_session, tell_set,
@@ -26,6 +26,18 @@ fn tell_sets(
 {
     let sets = policy.separation_sets(kind);
     tell_all(commands, sets, |entry| tell_set(kind, entry))
+}
+
+// Adds the command of each grant.
+fn tell_grants(
+    alloc: Global,
+    commands: &mut Vec<Command>,
+    policy: &Policy,
+) -> Result<(), AllocError>
+    ensures { OnOk result (commands.new.items ≡ commands.old.items ++ map grant_command policy.now.granted) }
+{
+    let grants = policy.grants(alloc)?;
+    tell_all(commands, &grants, tell_grant)
 }
 
 // Adds the command of each session.
@@ -48,7 +60,7 @@ fn fill(alloc: Global, commands: &mut Vec<Command>, policy: &Policy) -> Result<(
     tell_all(commands, policy.roles(), tell_role)?;
     tell_all(commands, policy.assignments(), tell_assignment)?;
     tell_all(commands, policy.declarations(), tell_declaration)?;
-    tell_all(commands, policy.grants(), tell_grant)?;
+    tell_grants(alloc, commands, policy)?;
     tell_sets(commands, policy, Separation::Static)?;
     tell_sessions(alloc, commands, policy)?;
     tell_sets(commands, policy, Separation::Dynamic)?;

@@ -1,6 +1,7 @@
 //! What a policy holds, as a page for people.
 ghost use Rattle.std.specs.Prelude.{◌≡◌, ◌++◌, IfOk, OnOk};
-ghost use Rattle.rbac_pages.specs.PageText.{none_text, part_text, user_text, descendants_text, grant_text, role_line, role_text, session_text, set_text, page_text};
+ghost use Rattle.std.specs.List.{flat_map};
+ghost use Rattle.rbac_pages.specs.PageText.{none_text, part_text, user_text, descendants_text, grant_text, role_line, session_text, set_text, page_text};
 
 use crate::text::{NameTeller, SecondTeller, Teller, put, put_all};
 use rbac_decide::{Policy, RoleSet, Session};
@@ -100,14 +101,15 @@ fn put_role_line(text: &mut Vec<u8>, policy: &Policy, role: &Name) -> Result<(),
 #[derive(Drop)]
 struct RoleTeller<'p> {
     policy: &'p Policy,
+    grants: &'p [((Name, Name), Name)],
 }
 
 impl Teller<Name, u8> for RoleTeller<'_> {
-    ghost told_of = { λ teller role. role_text teller.policy.now role };
+    ghost told_of = { λ teller role. role_line teller.policy.now role ++ flat_map (grant_text role) teller.grants.now };
 
     fn put(&self, text: &mut Vec<u8>, role: &Name) -> Result<(), AllocError> {
         put_role_line(text, self.policy, role)?;
-        put_all(text, &GrantTeller { role }, self.policy.grants())
+        put_all(text, &GrantTeller { role }, self.grants)
     }
 }
 
@@ -156,6 +158,7 @@ impl Teller<(Name, RoleSet), u8> for SetTeller {
 pub fn page(alloc: Global, policy: &Policy) -> Result<Vec<u8>, AllocError>
     ensures { IfOk result (λ text. text.items ≡ page_text policy.now) }
 {
+    let grants = policy.grants(alloc)?;
     let sessions = policy.sessions(alloc)?;
     let mut text = Vec::new(alloc);
     put_part(
@@ -167,7 +170,10 @@ pub fn page(alloc: Global, policy: &Policy) -> Result<Vec<u8>, AllocError>
     put_part(
         &mut text,
         "roles, the roles that each is declared to inherit, and its own grants\n",
-        &RoleTeller { policy },
+        &RoleTeller {
+            policy,
+            grants: &grants,
+        },
         policy.roles(),
     )?;
     put_part(

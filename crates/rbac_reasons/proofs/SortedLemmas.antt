@@ -17,6 +17,12 @@ pub is_there : {K : Type 0} (R : K → K → Ordering) (k : K) (xs : List K) (r 
 is_there R k xs (Ok i) found gap = sym found.present
 is_there R k xs (Err i) found gap = sym gap.absent
 
+or_back : (a b : Bool) → (b || a) ≡ (a || (b || false))
+or_back true true = refl
+or_back true false = refl
+or_back false true = refl
+or_back false false = refl
+
 -- ---- The second halves of the pairs with one first half
 
 module _ {A : Type 0} (R : A → A → Ordering) where
@@ -38,12 +44,6 @@ module _ {A : Type 0} (R : A → A → Ordering) where
       go true e rest = ap (λ b. ends_in name p || b) rest ∙ sym (ap (λ b. b || has by_halves (first, name) ps) (ties-pair R name_cmp (first, name) p ∙ ap (λ b. b && ends_in name p) e))
       go false e rest = rest ∙ sym (ap (λ b. b || has by_halves (first, name) ps) (ties-pair R name_cmp (first, name) p ∙ ap (λ b. b && ends_in name p) e))
 
-  or_back : (a b : Bool) → (b || a) ≡ (a || (b || false))
-  or_back true true = refl
-  or_back true false = refl
-  or_back false true = refl
-  or_back false false = refl
-
   -- one pair more
   pub second_more : (name : Name) (pairs : List (A × Name)) (i : ℕ) (pair : A × Name) (names : List Name) → i < length pairs → pair ≡ get_or pairs i pair → has name_cmp name names ≡ list_any (ends_in name) (take i pairs)
       → has name_cmp name (with_key name_cmp pair.1 names) ≡ list_any (ends_in name) (take (i + 1) pairs)
@@ -54,3 +54,14 @@ module _ {A : Type 0} (R : A → A → Ordering) where
       ∙ sym (list_any-append (ends_in name) (take i pairs) (pair ∷ []))
       ∙ ap (λ p. list_any (ends_in name) (take i pairs ++ p ∷ [])) is
       ∙ sym (ap (list_any (ends_in name)) (take_more pairs i pair within))
+
+-- one name more
+pub name_more : (name : Name) (names : List Name) (i : ℕ) (more : Name) (set : List Name) → i < length names → more ≡ get_or names i more → has name_cmp name set ≡ has name_cmp name (take i names)
+    → has name_cmp name (with_key name_cmp more set) ≡ has name_cmp name (take (i + 1) names)
+name_more name names i more set within is before =
+    has-with_key names_total more set name
+    ∙ ap (λ b. eq_by_cmp name_cmp name more || b) before
+    ∙ or_back (has name_cmp name (take i names)) (eq_by_cmp name_cmp name more)
+    ∙ sym (list_any-append (eq_by_cmp name_cmp name) (take i names) (more ∷ []))
+    ∙ ap (λ n. has name_cmp name (take i names ++ n ∷ [])) is
+    ∙ sym (ap (has name_cmp name) (take_more names i more within))

@@ -56,16 +56,7 @@ pub(crate) fn is_declared(policy: &Policy, ascendant: &Name, descendant: &Name) 
 pub(crate) fn is_granted(policy: &Policy, operation: &Name, object: &Name, role: &Name) -> bool
     ensures { result ≡ has grant_cmp ((operation.now, object.now), role.now) policy.now.granted }
 {
-    policy.invariants();
-    let permission = PairProbe {
-        first: operation,
-        second: object,
-    };
-    let grant = PairProbe {
-        first: &permission,
-        second: role,
-    };
-    has_key(policy.grants(), &grant)
+    policy.is_granted(operation, object, role)
 }
 
 /// The session of this name.

@@ -11,12 +11,11 @@ ghost use Rattle.rbac_terms.specs.declared.command.Command.TheVariants.{CheckAcc
 ghost use Rattle.rbac_reasons.specs.Reason.{IsReason};
 
 use crate::asking::session_called;
-use crate::sorted::seconds;
+use crate::sorted::names_of;
 use crate::told::Reason;
 use crate::walk::find_chain;
 use rbac_decide::Policy;
-use rbac_terms::Name;
-use sorted_keys::PairProbe;
+use rbac_terms::{Name, NameSet};
 use std::alloc::{AllocError, Global};
 
 // Whether a check is answered Granted.
@@ -28,6 +27,18 @@ fn is_granted(policy: &Policy, session: &Name, operation: &Name, object: &Name) 
         Ok(granted) => granted,
         Err(_) => false,
     }
+}
+
+// The roles that are granted the permission.
+fn goals_of(
+    alloc: Global,
+    policy: &Policy,
+    operation: &Name,
+    object: &Name,
+) -> Result<NameSet, AllocError>
+    ensures { IfOk result (λ goals. (role : NameValue) → has name_cmp role goals ≡ has grant_cmp ((operation.now, object.now), role) policy.now.granted) }
+{
+    names_of(alloc, policy.granted_roles(operation, object))
 }
 
 /// Why a check of access is granted: a role that is active in the session, and the roles from it down the declared pairs to one
@@ -52,11 +63,7 @@ pub fn reason(
     let Some(session) = session_called(policy, session) else {
         return Ok(None);
     };
-    let permission = PairProbe {
-        first: operation,
-        second: object,
-    };
-    let goals = seconds(alloc, policy.grants(), &permission)?;
+    let goals = goals_of(alloc, policy, operation, object)?;
     match find_chain(alloc, policy.declarations(), &session.active, &goals)? {
         Some(chain) => Ok(Some(Reason {
             active: chain.first,

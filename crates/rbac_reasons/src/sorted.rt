@@ -62,3 +62,14 @@ pub(crate) fn seconds<A: Ord, P: Probe<A>>(
     }
     Ok(names)
 }
+
+/// The set of these names.
+pub(crate) fn names_of(alloc: Global, names: &[Name]) -> Result<NameSet, AllocError>
+    ensures { IfOk result (λ set. (name : NameValue) → has name_cmp name set ≡ has name_cmp name names.now) }
+{
+    let mut set = NameSet::new(alloc);
+    for name in names {
+        set.add_copy(name)?;
+    }
+    Ok(set)
+}

@@ -13,11 +13,11 @@ use rbac_rolesets::RoleSets;
 use rbac_terms::{Name, NameSet, PermissionSet, Vocabulary};
 use std::alloc::{AllocError, Global};
 
-// Whether one of the grants is to one of the roles.
-fn is_to_one(grants: &[((Name, Name), Name)], roles: &NameSet) -> bool
-    ensures { result ≡ list_any (λ grant. has name_cmp grant.1 roles.now) grants.now }
+// Whether one of the roles that something is granted to is among these.
+fn is_to_one(grants: &[Name], roles: &NameSet) -> bool
+    ensures { result ≡ list_any (λ role. has name_cmp role roles.now) grants.now }
 {
-    grants.iter().any(|grant| roles.contains(&grant.1))
+    grants.iter().any(|role| roles.contains(role))
 }
 
 /// Whether the operation on the object is granted to one of the roles.

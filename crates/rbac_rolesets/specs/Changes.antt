@@ -1,6 +1,7 @@
 -- What changes that may want memory make of users, roles, UA and PA (ANSI INCITS 359-2004, 6.1.1: AddUser, AddRole, AssignUser,
 -- GrantPermission).
 use Rattle.sorted_keys.specs.Keys.{with_key}
+use Rattle.hashed_keys.specs.Pairs.{replaced}
 use Rattle.rbac_terms.specs.Name.{name_cmp, pair_cmp, grant_cmp}
 use Rattle.rbac_rolesets.specs.Sets.{Sets}
 use Rattle.rbac_rolesets.specs.declared.change.Change.{Change}
@@ -20,4 +21,4 @@ abbrev pub made : Step → Sets → Sets
 made (UserAdded user) s = record s { users = with_key name_cmp user s.users }
 made (RoleAdded role) s = record s { roles = with_key name_cmp role s.roles }
 made (RoleAssigned user role) s = record s { assigned = with_key pair_cmp (user, role) s.assigned }
-made (PermissionGranted operation object role) s = record s { granted = with_key grant_cmp ((operation, object), role) s.granted }
+made (PermissionGranted permission roles) s = record s { granted = replaced pair_cmp name_cmp permission roles s.granted }

@@ -1,4 +1,5 @@
 //! Changes of users, roles, UA and PA that may want memory.
+use hashed_keys::KeySet;
 use rbac_terms::Name;
 
 /// A call that may be refused, with its arguments.
@@ -21,7 +22,7 @@ pub enum Change<'a> {
     },
 }
 
-// A change with names of its own.
+// A change with names of its own. A grant has all roles of its permission, so that no set in PA has to grow.
 #[derive(Drop)]
 pub enum Step {
     AddUser {
@@ -35,8 +36,7 @@ pub enum Step {
         role: Name,
     },
     Grant {
-        operation: Name,
-        object: Name,
-        role: Name,
+        permission: (Name, Name),
+        roles: KeySet<Name>,
     },
 }

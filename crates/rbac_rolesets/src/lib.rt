@@ -3,6 +3,7 @@
 
 mod assigned;
 mod change;
+mod granting;
 mod plan;
 mod removal;
 mod role_sets;

@@ -1,7 +1,9 @@
 //! The users and roles, UA and PA.
-ghost use Rattle.std.specs.Prelude.{◌≡◌, ◌↔◌, ◌<◌, ◌≤◌, ◌+◌, length, filter, IsTrue, IfOk, OnOk, OnErr};
+ghost use Rattle.std.specs.Prelude.{◌≡◌, ◌↔◌, ◌<◌, ◌≤◌, ◌+◌, length, filter, map, IsTrue, IfOk, OnOk, OnErr};
+ghost use Rattle.std.specs.Option.{option_copied};
 ghost use Rattle.std.specs.Ordering.{eq_by_cmp};
 ghost use Rattle.sorted_keys.specs.Keys.{has, with_key, without};
+ghost use Rattle.hashed_keys.specs.Pairs.{found, seconds};
 ghost use Rattle.rbac_terms.specs.Name.{name_cmp, pair_cmp, grant_cmp};
 ghost use Rattle.rbac_terms.specs.Relations.{begins_with, roles_of, without_user, without_role};
 ghost use Rattle.rbac_rolesets.specs.Changes.{changed, made};
@@ -11,7 +13,10 @@ mod listed;
 
 use crate::assigned::RolesOf;
 use crate::change::{Change, Step};
-use crate::removal::{OtherRoles, OtherUsers};
+use crate::granting::grant_step;
+use crate::removal::{AnotherRole, OtherRoles, OtherUsers};
+use digests::Digest;
+use hashed_keys::{HashedPairs, KeySet};
 use rbac_terms::{Name, NameSet};
 use sorted_keys::{KeyTest, PairProbe, Probe, SortedSet};
 use staged::{Plan, Staged};
@@ -32,7 +37,7 @@ pub struct RoleSets {
     users: SortedSet<Name>,
     roles: SortedSet<Name>,
     assigned: SortedSet<(Name, Name)>,
-    granted: SortedSet<((Name, Name), Name)>,
+    granted: HashedPairs<(Name, Name), Name>,
 }
 
 impl Model for RoleSets {
@@ -53,7 +58,7 @@ impl RoleSets {
             users: SortedSet::new(alloc),
             roles: SortedSet::new(alloc),
             assigned: SortedSet::new(alloc),
-            granted: SortedSet::new(alloc),
+            granted: HashedPairs::new(alloc),
         }
     }
 
@@ -86,10 +91,13 @@ impl RoleSets {
     }
 
     /// The pairs of PA, a permission and a role each, sorted by operation, object and role.
-    pub fn grants(&self) -> &[((Name, Name), Name)]
-        ensures { result.now ≡ self.now.content.granted }
+    ///
+    /// # Errors
+    /// `AllocError` where there is no memory for it.
+    pub fn grants(&self, alloc: Global) -> Result<Vec<((Name, Name), Name)>, AllocError>
+        ensures { IfOk result (λ grants. grants.items ≡ self.now.content.granted) }
     {
-        self.granted.keys()
+        self.granted.pairs(alloc)
     }
 
     /// How many roles there are.
@@ -124,7 +132,7 @@ impl RoleSets {
     pub fn granted(&self, operation: &Name, object: &Name, role: &Name) -> bool
         ensures { result ≡ has grant_cmp ((operation.now, object.now), role.now) self.now.content.granted }
     {
-        self.granted.contains(&pair(&pair(operation, object), role))
+        self.granted.contains(&pair(operation, object), role)
     }
 
     /// The pairs of UA that are the user's.
@@ -134,15 +142,22 @@ impl RoleSets {
         self.assigned.beginning_with(user)
     }
 
-    /// The grants of an operation on an object.
-    pub fn grants_of<P: Probe<Name>, Q: Probe<Name>>(
+    /// The roles that an operation on an object is granted to, sorted by their bytes. They are found by the permission's digest.
+    pub fn grants_of<P: Probe<Name> + Digest, Q: Probe<Name> + Digest>(
         &self,
         operation: &P,
         object: &Q,
-    ) -> &[((Name, Name), Name)]
-        ensures { result.now ≡ filter (λ grant. eq_by_cmp pair_cmp (P.sought operation.now, Q.sought object.now) grant.0) self.now.content.granted }
+    ) -> &[Name]
+        ensures { result.now ≡ map (λ grant. grant.1) (filter (λ grant. eq_by_cmp pair_cmp (P.sought operation.now, Q.sought object.now) grant.0) self.now.content.granted) }
     {
-        self.granted.beginning_with(&pair(operation, object))
+        self.granted.seconds(&pair(operation, object))
+    }
+
+    // The set of roles of a permission, where there are such.
+    pub(crate) fn grant_set(&self, permission: &(Name, Name)) -> Option<&KeySet<Name>>
+        ensures { found (option_copied result) ≡ seconds pair_cmp permission.now self.now.content.granted }
+    {
+        self.granted.set(permission)
     }
 
     /// The users that pass a test.
@@ -206,7 +221,7 @@ impl RoleSets {
     {
         self.roles.remove(role);
         self.assigned.retain(&OtherRoles { role });
-        self.granted.retain(&OtherRoles { role });
+        self.granted.retain(&AnotherRole { role });
     }
 
     /// Assigns a role to a user. Where it is assigned, nothing changes.
@@ -231,18 +246,24 @@ impl RoleSets {
     ///
     /// # Errors
     /// `AllocError` where there is no memory for it. Nothing has changed.
-    pub fn grant(&mut self, operation: Name, object: Name, role: Name) -> Result<(), AllocError>
+    pub fn grant(
+        &mut self,
+        alloc: Global,
+        operation: Name,
+        object: Name,
+        role: Name,
+    ) -> Result<(), AllocError>
         ensures granted { let s = self.old.content in OnOk result (self.new.content ≡ record s { granted = with_key grant_cmp ((operation, object), role) s.granted }) }
         ensures unchanged { OnErr result (self.new.content ≡ self.old.content) }
     {
-        self.granted.insert(((operation, object), role))
+        self.granted.insert(alloc, (operation, object), role)
     }
 
     /// Takes an operation on an object from a role.
     pub fn revoke(&mut self, operation: &Name, object: &Name, role: &Name)
         ensures { let s = self.old.content in self.new.content ≡ record s { granted = without grant_cmp ((operation.now, object.now), role.now) s.granted } }
     {
-        self.granted.remove(&pair(&pair(operation, object), role));
+        self.granted.remove(&pair(operation, object), role);
     }
 
     /// Users, roles, UA and PA are sets: each list is in order and without repeats.
@@ -252,7 +273,7 @@ impl RoleSets {
         let _users = self.users.keys();
         let _roles = self.roles.keys();
         let _assigned = self.assigned.keys();
-        let _granted = self.granted.keys();
+        self.granted.invariants();
     }
 
     /// Equal sets.
@@ -297,8 +318,8 @@ impl Staged<Change<'_>> for RoleSets {
     #[inline(always)]
     fn prepare(
         &self,
-        _alloc: Global,
-        _before: &Plan<Step>,
+        alloc: Global,
+        before: &Plan<Step>,
         change: &Change,
     ) -> Result<Step, AllocError> {
         Ok(match change {
@@ -312,11 +333,7 @@ impl Staged<Change<'_>> for RoleSets {
                 operation,
                 object,
                 role,
-            } => Step::Grant {
-                operation: operation.copy()?,
-                object: object.copy()?,
-                role: role.copy()?,
-            },
+            } => grant_step(alloc, self, before, operation, object, role)?,
         })
     }
 
@@ -341,11 +358,7 @@ impl Staged<Change<'_>> for RoleSets {
             Step::AddUser { user } => self.users.put(user),
             Step::AddRole { role } => self.roles.put(role),
             Step::Assign { user, role } => self.assigned.put((user, role)),
-            Step::Grant {
-                operation,
-                object,
-                role,
-            } => self.granted.put(((operation, object), role)),
+            Step::Grant { permission, roles } => self.granted.put(permission, roles),
         }
     }
 }

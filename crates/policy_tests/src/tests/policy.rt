@@ -224,6 +224,16 @@ fn expect_grant(rt: &impl Abort, grants: &[((Name, Name), Name)]) {
     }
 }
 
+// Reading the ledger is granted to clerks, and not to bosses; paying it to nobody.
+fn expect_granted(rt: &impl Abort, alloc: Global, policy: &Policy) {
+    let (read, pay, ledger) = (name(rt, alloc, "read"), name(rt, alloc, "pay"), name(rt, alloc, "ledger"));
+    assert_called(rt, policy.granted_roles(&read, &ledger), &["clerk"]);
+    assert_called(rt, policy.granted_roles(&pay, &ledger), &[]);
+    let (clerk, boss) = (name(rt, alloc, "clerk"), name(rt, alloc, "boss"));
+    assert!(rt; policy.is_granted(&read, &ledger, &clerk));
+    assert!(rt; !policy.is_granted(&read, &ledger, &boss));
+}
+
 // The names of the sessions, and the roles that are active in the first.
 fn expect_sessions(rt: &impl Abort, sessions: &[(Name, Session)]) {
     assert_eq!(rt; sessions.len(), 2);
@@ -242,7 +252,10 @@ fn lends_what_it_holds(rt: HostRuntime) {
     assert_called(&rt, policy.roles(), &["boss", "clerk"]);
     expect_pairs(&rt, policy.assignments(), ("ann", "clerk"));
     expect_pairs(&rt, policy.declarations(), ("boss", "clerk"));
-    expect_grant(&rt, policy.grants());
+    let grants = policy.grants(rt.alloc()).expect(&rt, "memory");
+    expect_grant(&rt, &grants);
+    drop(grants);
+    expect_granted(&rt, rt.alloc(), &policy);
     let sessions = policy.sessions(rt.alloc()).expect(&rt, "memory");
     expect_sessions(&rt, &sessions);
     drop(sessions);

@@ -83,6 +83,7 @@ fn office_hierarchy(rt: &impl Abort, alloc: Global) -> Hierarchy {
 
 fn grant(rt: &impl Abort, alloc: Global, sets: &mut RoleSets, texts: (&str, &str, &str)) {
     let granted = sets.grant(
+        alloc,
         name(rt, alloc, texts.0),
         name(rt, alloc, texts.1),
         name(rt, alloc, texts.2),

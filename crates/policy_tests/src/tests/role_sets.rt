@@ -15,7 +15,8 @@ fn assign(rt: &impl Abort, alloc: Global, sets: &mut RoleSets, user: &str, role:
 fn grant(rt: &impl Abort, alloc: Global, sets: &mut RoleSets, texts: [&str; 3]) {
     let (operation, object) = (name(rt, alloc, texts[0]), name(rt, alloc, texts[1]));
     let role = name(rt, alloc, texts[2]);
-    sets.grant(operation, object, role).expect(rt, "memory");
+    sets.grant(alloc, operation, object, role)
+        .expect(rt, "memory");
 }
 
 fn deassign(rt: &impl Abort, alloc: Global, sets: &mut RoleSets, user: &str, role: &str) {
@@ -290,7 +291,7 @@ fn assert_grants(
     roles: &[&str],
 ) {
     let (operation, object) = (name(rt, alloc, operation), name(rt, alloc, object));
-    assert_seconds(rt, sets.grants_of(&operation, &object), roles);
+    assert_called(rt, sets.grants_of(&operation, &object), roles);
 }
 
 #[test]

@@ -1,8 +1,10 @@
 //! What a policy holds: lists in order, and each session by its name.
-ghost use Rattle.std.specs.Prelude.{◌≡◌, length, IfOk};
+ghost use Rattle.std.specs.Prelude.{◌≡◌, length, map, filter, IfOk};
 ghost use Rattle.std.specs.FinMap.Entries.{find};
 ghost use Rattle.std.specs.Option.{option_copied};
-ghost use Rattle.rbac_terms.specs.Name.{name_cmp};
+ghost use Rattle.std.specs.Ordering.{eq_by_cmp};
+ghost use Rattle.sorted_keys.specs.Keys.{has};
+ghost use Rattle.rbac_terms.specs.Name.{name_cmp, pair_cmp, grant_cmp};
 ghost use Rattle.rbac_terms.specs.Constraints.{sets_of};
 
 use crate::policy::Policy;
@@ -36,11 +38,28 @@ impl Policy {
         self.tables.sets.assignments()
     }
 
-    /// The grants (PA), a permission and a role each, sorted by operation, object and role.
-    pub fn grants(&self) -> &[((Name, Name), Name)]
-        ensures { result.now ≡ self.now.granted }
+    /// The grants (PA), a permission and a role each, sorted by operation, object and role, copied.
+    ///
+    /// # Errors
+    /// `AllocError` where the copy gets no memory.
+    pub fn grants(&self, alloc: Global) -> Result<Vec<((Name, Name), Name)>, AllocError>
+        ensures { IfOk result (λ grants. grants.items ≡ self.now.granted) }
     {
-        self.tables.sets.grants()
+        self.tables.sets.grants(alloc)
+    }
+
+    /// The roles that an operation on an object is granted to, sorted by their bytes.
+    pub fn granted_roles(&self, operation: &Name, object: &Name) -> &[Name]
+        ensures { result.now ≡ map (λ grant. grant.1) (filter (λ grant. eq_by_cmp pair_cmp (operation.now, object.now) grant.0) self.now.granted) }
+    {
+        self.tables.sets.grants_of(operation, object)
+    }
+
+    /// Whether an operation on an object is granted to a role.
+    pub fn is_granted(&self, operation: &Name, object: &Name, role: &Name) -> bool
+        ensures { result ≡ has grant_cmp ((operation.now, object.now), role.now) self.now.granted }
+    {
+        self.tables.sets.granted(operation, object, role)
     }
 
     /// The declared pairs of roles (RH), an ascendant and a descendant each, sorted by both.

@@ -1,7 +1,8 @@
-//! The users of roles and what is granted to them, each list by one walk over UA or PA.
+//! The users of roles, by one walk over UA, and what is granted to them, by a look at each permission.
 ghost use Rattle.std.specs.Prelude.{◌≡◌, ◌&&◌, IfOk, filter};
 ghost use Rattle.std.specs.List.{list_any};
 ghost use Rattle.std.specs.Ordering.{eq_by_cmp};
+ghost use Rattle.hashed_keys.specs.Pairs.{seconds};
 ghost use Rattle.rbac_terms.specs.Name.{name_cmp, pair_cmp};
 ghost use Rattle.rbac_terms.specs.Relations.{users_of};
 
@@ -10,6 +11,24 @@ use crate::role_sets::RoleSets;
 use rbac_terms::{Name, NameSet, PermissionSet, Vocabulary};
 use sorted_keys::KeyTest;
 use std::alloc::{AllocError, Global};
+
+// The permissions that are granted to a role that passes a test.
+#[derive(Drop)]
+struct GrantedTo<'a, T> {
+    sets: &'a RoleSets,
+    test: &'a T,
+}
+
+impl<T: KeyTest<Name>> KeyTest<(Name, Name)> for GrantedTo<'_, T> {
+    ghost passes = { λ granted permission. list_any (T.passes granted.test.now) (seconds pair_cmp permission granted.sets.now.content.granted) };
+
+    fn test(&self, permission: &(Name, Name)) -> bool {
+        self.sets
+            .grants_of(&permission.0, &permission.1)
+            .iter()
+            .any(|role| self.test.test(role))
+    }
+}
 
 impl RoleSets {
     /// The users that a role that passes the test is assigned to.
@@ -49,6 +68,7 @@ impl RoleSets {
     ) -> Result<PermissionSet, AllocError>
         ensures { IfOk result (λ permissions. permissions ≡ filter (λ permission. list_any (λ grant. eq_by_cmp pair_cmp permission grant.0 && T.passes test.now grant.1) self.now.content.granted) vocabulary.now.permissions) }
     {
-        vocabulary.permissions_granted(alloc, &self.granted, test)
+        let granted = GrantedTo { sets: self, test };
+        vocabulary.permissions_where(alloc, &granted)
     }
 }

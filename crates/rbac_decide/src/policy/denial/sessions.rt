@@ -1,5 +1,5 @@
 //! The first failing precondition of each command about sessions, and of a check.
-ghost use Rattle.std.specs.Prelude.{◌≡◌, IfErr, IfOk, OnOk, Ok, Err, Some, None, not, if◌then◌else◌, filter};
+ghost use Rattle.std.specs.Prelude.{◌≡◌, IfErr, IfOk, OnOk, Ok, Err, Some, None, not, if◌then◌else◌, map, filter};
 ghost use Rattle.std.specs.FinMap.Entries.{find};
 ghost use Rattle.std.specs.Ordering.{eq_by_cmp};
 ghost use Rattle.sorted_keys.specs.Keys.{has};
@@ -108,9 +108,9 @@ impl Policy {
         &self,
         operation: &O,
         object: &B,
-        grants: &[((Name, Name), Name)],
+        grants: &[Name],
     ) -> Result<(), Denial>
-        requires { grants.now ≡ filter (λ grant. eq_by_cmp pair_cmp (O.sought operation.now, B.sought object.now) grant.0) self.now.granted }
+        requires { grants.now ≡ map (λ grant. grant.1) (filter (λ grant. eq_by_cmp pair_cmp (O.sought operation.now, B.sought object.now) grant.0) self.now.granted) }
         ensures { result ≡ (if not (has name_cmp (O.sought operation.now) self.now.vocabulary.operations) then Err Denial.NoOperation else if not (has name_cmp (B.sought object.now) self.now.vocabulary.objects) then Err Denial.NoObject else Ok tt) }
     {
         if !grants.is_empty() {
@@ -124,15 +124,15 @@ impl Policy {
         deny_if(!self.vocabulary.has_object(object), Denial::NoObject)
     }
 
-    /// The session that a check asks of, or the check's first failing precondition. It takes the grants of the operation on the object.
+    /// The session that a check asks of, or the check's first failing precondition. It takes the roles that the operation on the object is granted to.
     pub(crate) fn checked_session<S: Probe<Name> + Digest, O: Probe<Name>, B: Probe<Name>>(
         &self,
         session: &S,
         operation: &O,
         object: &B,
-        grants: &[((Name, Name), Name)],
+        grants: &[Name],
     ) -> Result<&Session, Denial>
-        requires { grants.now ≡ filter (λ grant. eq_by_cmp pair_cmp (O.sought operation.now, B.sought object.now) grant.0) self.now.granted }
+        requires { grants.now ≡ map (λ grant. grant.1) (filter (λ grant. eq_by_cmp pair_cmp (O.sought operation.now, B.sought object.now) grant.0) self.now.granted) }
         ensures denied { IfErr result (λ denial. first_denial (CheckAccess (S.sought session.now) (O.sought operation.now) (B.sought object.now)) self.now ≡ Some denial) }
         ensures allowed { OnOk result (first_denial (CheckAccess (S.sought session.now) (O.sought operation.now) (B.sought object.now)) self.now ≡ None) }
         ensures found { IfOk result (λ found. find name_cmp (S.sought session.now) self.now.sessions ≡ Some found.now) }

@@ -1,7 +1,7 @@
 use Rattle.std.proofs.Common.{ap, ◌∙◌}
 use Rattle.std.specs.List.{list_any}
 use Rattle.rbac_terms.specs.Authorization.{inherits_in, has_permission}
-use Rattle.rbac_terms.specs.Name.{Permission, Grant}
+use Rattle.rbac_terms.specs.Name.{Permission}
 use Rattle.rbac_terms.specs.State.{State}
 use Rattle.rbac_rules.proofs.ReviewLemmas.{holds_what_is_listed}
 use Rattle.rbac_decide.specs.Tables.{state_of}
@@ -14,7 +14,7 @@ returns-clause-held g c =
     let s : State = state_of c.self.inside.tables c.self.inside.vocabulary in
     rw c.in_ok-session.ensures.found
     (c.some_inherits_some.ensures
-    ∙ ap (λ grants. list_any (λ role. list_any (λ (grant : Grant). inherits_in s role grant.1) grants) c.names.result.now) c.grants_of-grants.ensures
+    ∙ ap (λ grants. list_any (λ role. list_any (inherits_in s role) grants) c.names.result.now) c.grants_of-grants.ensures
     ∙ has_by_grants s asked c.names.result.now
     ∙ ap (λ (seen : State). list_any (has_permission seen asked) c.names.result.now) c.self.view_is
     ∙ ap (λ roles. list_any (has_permission c.args.self.now asked) roles) (c.names.ensures.names ∙ ap (λ session. session.active) c.session.view_is))
