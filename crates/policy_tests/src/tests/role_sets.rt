@@ -357,3 +357,35 @@ fn a_copy_is_the_same_until_it_is_changed(rt: HostRuntime) {
     drop(copy);
     drop(sets);
 }
+
+// Plans that two roles more read the ledger.
+fn plan_two_grants(rt: &impl Abort, alloc: Global, sets: &mut RoleSets) -> Plan
+    ensures { length result ≤ sets.new.room }
+{
+    let (read, ledger) = (name(rt, alloc, "read"), name(rt, alloc, "ledger"));
+    let (payer, auditor) = (name(rt, alloc, "payer"), name(rt, alloc, "auditor"));
+    let changes = [
+        Change::Grant {
+            operation: &read,
+            object: &ledger,
+            role: &payer,
+        },
+        Change::Grant {
+            operation: &read,
+            object: &ledger,
+            role: &auditor,
+        },
+    ];
+    sets.plan(alloc, &changes).expect(rt, "memory")
+}
+
+#[test]
+fn a_plan_may_grant_a_permission_twice(rt: HostRuntime) {
+    let alloc = rt.alloc();
+    let mut sets = small_office(&rt, alloc);
+    let plan = plan_two_grants(&rt, alloc, &mut sets);
+    sets.commit(plan);
+    let readers = ["auditor", "clerk", "payer"];
+    assert_grants(&rt, alloc, &sets, "read", "ledger", &readers);
+    drop(sets);
+}
