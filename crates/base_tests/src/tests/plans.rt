@@ -63,6 +63,19 @@ fn plans_change_nothing_and_commits_do(rt: HostRuntime) {
     assert_eq!(rt; row.numbers.as_slice(), [3, 5].as_slice());
 }
 
+#[test]
+fn a_plan_lends_its_steps_in_order(rt: HostRuntime) {
+    let alloc = rt.alloc();
+    let mut row = Numbers {
+        numbers: Vec::new(alloc),
+    };
+    let changes = [OneMore { number: 3 }, OneMore { number: 5 }];
+    let planned = make_plan(alloc, &mut row, &changes).expect(&rt, "memory");
+    assert_eq!(rt; planned.len(), 2);
+    assert_eq!(rt; planned.get(1).copied(), Some(5));
+    assert_eq!(rt; planned.get(2).copied(), None);
+}
+
 // Another number at a key, where there is one.
 #[derive(Clone, Copy)]
 struct Replacement {
