@@ -35,11 +35,7 @@ pub(crate) fn inherits_one_of(hierarchy: &Hierarchy, senior: &Name, roles: &[Nam
 }
 
 /// Whether one of the roles inherits one of those that something is granted to.
-pub(crate) fn some_inherits_some(
-    hierarchy: &Hierarchy,
-    roles: &[Name],
-    grants: &[Name],
-) -> bool
+pub(crate) fn some_inherits_some(hierarchy: &Hierarchy, roles: &[Name], grants: &[Name]) -> bool
     ensures { let h = hierarchy.now.content in result ≡ list_any (λ role. list_any (inherits h.roles h.declared role) grants.now) roles.now }
 {
     roles

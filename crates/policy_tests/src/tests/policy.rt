@@ -226,7 +226,11 @@ fn expect_grant(rt: &impl Abort, grants: &[((Name, Name), Name)]) {
 
 // Reading the ledger is granted to clerks, and not to bosses; paying it to nobody.
 fn expect_granted(rt: &impl Abort, alloc: Global, policy: &Policy) {
-    let (read, pay, ledger) = (name(rt, alloc, "read"), name(rt, alloc, "pay"), name(rt, alloc, "ledger"));
+    let (read, pay, ledger) = (
+        name(rt, alloc, "read"),
+        name(rt, alloc, "pay"),
+        name(rt, alloc, "ledger"),
+    );
     assert_called(rt, policy.granted_roles(&read, &ledger), &["clerk"]);
     assert_called(rt, policy.granted_roles(&pay, &ledger), &[]);
     let (clerk, boss) = (name(rt, alloc, "clerk"), name(rt, alloc, "boss"));
