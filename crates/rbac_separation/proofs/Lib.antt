@@ -1,3 +1,4 @@
 pub mod ChangeLemmas
 pub mod CountLemmas
+pub mod NumberLemmas
 pub mod PlanLemmas

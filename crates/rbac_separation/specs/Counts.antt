@@ -1,26 +1,49 @@
 -- Numbers kept of sets of roles and users, and what they say of a set.
-use Rattle.std.specs.Prelude.{ℕ, ◌+◌, List, [], ◌∷◌, Bool, ◌&&◌, ◌==◌, Option, Some, None, if◌then◌else◌, nat_le, count_by}
+use Rattle.std.specs.Prelude.{ℕ, ◌≡◌, ◌+◌, List, [], ◌∷◌, Bool, ◌&&◌, ◌==◌, Option, Some, None, if◌then◌else◌, nat_le, count_by}
 use Rattle.std.specs.Ordering.{eq_by_cmp}
 use Rattle.std.specs.Option.{unwrap_or}
 use Rattle.std.specs.Map.{lookup}
-use Rattle.std.specs.Cmp.Lexicographic.{pointwise}
+use Rattle.std.specs.FinMap.Entries.{find}
 use Rattle.sorted_keys.specs.Keys.{has}
 use Rattle.rbac_terms.specs.Name.{Name, name_cmp}
 use Rattle.rbac_terms.specs.Separation.{RoleSet}
 use Rattle.rbac_separation.specs.declared.count_plan.CountChange.{CountChange}
 
--- numbers by the names of a set and a user, and for how many more there is room
+-- the numbers by which sets and users are known, and the counts by these
+pub record Kept : Type 0 where
+  pub sets : List (Name × ℕ)
+  pub users : List (Name × ℕ)
+  pub numbers : List ((ℕ × ℕ) × ℕ)
+
+-- what is kept of sets and users, and for how many more pairs of them there is room
 pub record Counts : Type 0 where
-  pub content : List ((Name × Name) × ℕ)
+  pub content : Kept
   pub room : ℕ
 
--- whether two pairs of a set and a user are one
-abbrev pub pair_eq : Name × Name → Name × Name → Bool
-pair_eq x y = pointwise ◌==◌ x.0 y.0 && pointwise ◌==◌ x.1 y.1
+-- whether two places are one
+abbrev pub pair_eq : ℕ × ℕ → ℕ × ℕ → Bool
+pair_eq x y = x.0 == y.0 && x.1 == y.1
+
+-- the place of a set and a user that may have numbers
+abbrev pub place_of : Option ℕ → Option ℕ → Option (ℕ × ℕ)
+place_of None b = None
+place_of (Some i) None = None
+place_of (Some i) (Some j) = Some (i, j)
+
+-- what stands at a place, 0 where there is none or nothing
+abbrev pub number_at : Option (ℕ × ℕ) → (ℕ × ℕ → Option ℕ) → ℕ
+number_at None found = 0
+number_at (Some p) found = unwrap_or (found p) 0
 
 -- the number of a set and a user, 0 where there is none
 abbrev pub numbers_of : Counts → Name → Name → ℕ
-numbers_of counts set user = unwrap_or (lookup (pair_eq (set, user)) counts.content) 0
+numbers_of counts set user =
+    number_at (place_of (find name_cmp set counts.content.sets) (find name_cmp user counts.content.users)) (λ p. lookup (pair_eq p) counts.content.numbers)
+
+-- nothing stands at a number that no set has, or no user
+pub record IsKept (sets users : List (Name × ℕ)) (numbers : List ((ℕ × ℕ) × ℕ)) : Type 0 where
+  pub of_sets : (i : ℕ) → ((set : Name) → find name_cmp set sets ≡ Some i → ⊥) → (j : ℕ) → lookup (pair_eq (i, j)) numbers ≡ None
+  pub of_users : (j : ℕ) → ((user : Name) → find name_cmp user users ≡ Some j → ⊥) → (i : ℕ) → lookup (pair_eq (i, j)) numbers ≡ None
 
 -- 0 for all
 abbrev pub no_numbers : Name → Name → ℕ

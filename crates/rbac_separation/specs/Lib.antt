@@ -1,3 +1,4 @@
 pub mod Changes
 pub mod Counts
+pub mod Numbered
 pub mod SetTable

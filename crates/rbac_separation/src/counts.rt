@@ -1,55 +1,38 @@
 //! Numbers kept of sets and users.
-ghost use Rattle.std.specs.Prelude.{◌≡◌, ◌<◌, ◌≤◌, ◌+◌, not, IfOk, OnOk, OnErr};
+ghost use Rattle.std.specs.Prelude.{◌≡◌, ◌<◌, ◌≤◌, ◌+◌, ◌==◌, not, IfOk, OnOk, OnErr};
 ghost use Rattle.std.specs.Option.{option_copied};
-ghost use Rattle.std.specs.Ordering.{eq_by_cmp};
+ghost use Rattle.std.specs.FinMap.Entries.{find};
 ghost use Rattle.rbac_terms.specs.Name.{name_cmp};
-ghost use Rattle.rbac_separation.specs.Counts.{numbers_of, no_numbers, with_number, without_set, without_user, first_over};
+ghost use Rattle.rbac_separation.specs.Counts.{numbers_of, place_of, no_numbers, with_number, without_set, without_user, first_over};
 
+use crate::numbered::Numbered;
 use crate::role_set::RoleSet;
 use crate::set_table::SetTable;
-use indexmap::{Equivalent, IndexMap};
+use indexmap::IndexMap;
 use rbac_terms::{Name, NameSet};
 use std::alloc::{AllocError, Global};
 use std::marker::Model;
-
-// A set and a user by which their number is looked up, so that a look-up needs no names of its own.
-#[derive(Clone, Copy, PartialEq, Eq, Hash)]
-struct Place<'a> {
-    set: &'a Name,
-    user: &'a Name,
-}
-
-impl Equivalent<(Name, Name)> for Place<'_> {
-    ghost use Rattle.std.proofs.Common.{rules};
-    ghost use Rattle.rbac_separation.specs.Counts.{pair_eq};
-
-    ghost equivalent = { λ place. pair_eq (place.set.now, place.user.now) };
-
-    ghost respects_hash = { Prim.search rules };
-
-    ghost respects_eq = { Prim.search rules };
-
-    #[inline(always)]
-    fn equivalent(&self, key: &(Name, Name)) -> bool {
-        *self.set == key.0 && *self.user == key.1
-    }
-}
 
 /// For each set, by its name, and each user a number, 0 where none was given. Static separation keeps so how many roles of a
 /// set a user is authorized for.
 #[derive(Drop)]
 pub struct Counts {
-    numbers: IndexMap<(Name, Name), u32>,
+    sets: Numbered,
+    users: Numbered,
+    // By the numbers of a set and a user, and none of them is 0. So a look-up by names that are lent wants no names of its own.
+    numbers: IndexMap<(usize, usize), u32>,
 }
 
 impl Model for Counts {
-    ghost use Rattle.rbac_separation.specs.Counts.{Counts as CountsValue};
+    ghost use Rattle.std.specs.Prelude.{min};
+    ghost use Rattle.indexmap.specs.IndexMap.{spare};
+    ghost use Rattle.rbac_separation.specs.Counts.{Counts as CountsValue, IsKept};
 
     ghost Value = { CountsValue };
 
-    ghost use Rattle.indexmap.specs.IndexMap.{spare};
+    ghost view = { λ c. record { content = record { sets = c.sets.content; users = c.users.content; numbers = c.numbers.entries }; room = min (min c.sets.room c.users.room) (spare c.numbers) } };
 
-    ghost view = { λ c. record { content = c.numbers.entries; room = spare c.numbers } };
+    ghost invariant = { λ c. IsKept c.sets.content c.users.content c.numbers.entries };
 }
 
 // The name of the first of the sets of which the user's number, and how many of its roles are among these, come to its own number
@@ -76,21 +59,48 @@ impl Counts {
         ensures { numbers_of result ≡ no_numbers }
     {
         Counts {
+            sets: Numbered::empty(alloc),
+            users: Numbered::empty(alloc),
             numbers: IndexMap::new(alloc),
         }
+    }
+
+    // Where the number of a set and a user is kept, if both have numbers.
+    #[inline(always)]
+    fn place(&self, set: &Name, user: &Name) -> Option<(usize, usize)>
+        ensures { result ≡ place_of (find name_cmp set.now self.now.content.sets) (find name_cmp user.now self.now.content.users) }
+    {
+        let set = self.sets.number(set)?;
+        let user = self.users.number(user)?;
+        Some((set, user))
     }
 
     /// The number of a set and a user. Takes no memory.
     pub fn get(&self, set: &Name, user: &Name) -> u32
         ensures { result ≡ numbers_of self.now set.now user.now }
     {
-        match self.numbers.get(Place { set, user }) {
-            Some(number) => *number,
+        match self.place(set, user) {
+            Some(place) => match self.numbers.get(&place) {
+                Some(number) => *number,
+                None => 0,
+            },
             None => 0,
         }
     }
 
-    /// Gives a set and a user a number. Names are copied where there was none, and 0 takes the number out: that needs no memory,
+    // Takes the number of a set and a user out.
+    fn take_out(&mut self, set: &Name, user: &Name)
+        ensures numbers { numbers_of self.new ≡ with_number set.now user.now 0 (numbers_of self.old) }
+        ensures room { self.old.room ≤ self.new.room }
+    {
+        if let Some(place) = self.place(set, user) {
+            self.sets.invariants();
+            self.users.invariants();
+            self.numbers.swap_remove(&place);
+        }
+    }
+
+    /// Gives a set and a user a number. Names are copied where one of them has no number of its own, and 0 takes the number out: that needs no memory,
     /// nor does another number for the same pair.
     ///
     /// # Errors
@@ -102,14 +112,18 @@ impl Counts {
         ensures above { OnErr result (0 < number) }
     {
         if number == 0 {
-            self.numbers.swap_remove(Place { set, user });
+            self.take_out(set, user);
             return Ok(());
         }
-        if let Some(kept) = self.numbers.get_mut(Place { set, user }) {
-            *kept = number;
+        if let Some(place) = self.place(set, user) {
+            self.sets.invariants();
+            self.users.invariants();
+            self.numbers.insert(place, number)?;
             return Ok(());
         }
-        self.numbers.insert((set.copy()?, user.copy()?), number)?;
+        self.reserve(1)?;
+        let key = (set.copy()?, user.copy()?);
+        self.put_ready(key, number);
         Ok(())
     }
 
@@ -119,8 +133,11 @@ impl Counts {
     /// `AllocError` where there is no memory for so many more. No number has changed.
     pub fn reserve(&mut self, more: usize) -> Result<(), AllocError>
         ensures numbers { numbers_of self.new ≡ numbers_of self.old }
+        ensures content { self.new.content ≡ self.old.content }
         ensures room { OnOk result (more ≤ self.new.room) }
     {
+        self.sets.reserve(more)?;
+        self.users.reserve(more)?;
         self.numbers.reserve(more)
     }
 
@@ -131,32 +148,46 @@ impl Counts {
         ensures room { self.old.room ≤ self.new.room + 1 }
     {
         if number == 0 {
-            self.numbers.swap_remove(&key);
-        } else {
-            self.numbers.insert(key, number).unwrap();
+            self.take_out(&key.0, &key.1);
+            return;
         }
+        let set = self.sets.add_ready(key.0);
+        let user = self.users.add_ready(key.1);
+        self.sets.invariants();
+        self.users.invariants();
+        self.numbers.insert((set, user), number).unwrap();
     }
 
     /// Takes the numbers of a set out. Takes no memory.
     pub fn forget_set(&mut self, set: &Name)
         ensures { numbers_of self.new ≡ without_set set.now (numbers_of self.old) }
     {
+        let Some(gone) = self.sets.number(set) else {
+            return;
+        };
+        self.sets.invariants();
         self.numbers.retain(
-            |key: &(Name, Name), number: &mut u32| -> bool
-                ensures { (result ≡ not (eq_by_cmp name_cmp set.entry.now key.now.0)) × (number.new ≡ number.old) }
-            { set.cmp(&key.0).is_ne() },
+            |key: &(usize, usize), number: &mut u32| -> bool
+                ensures { (result ≡ not (gone == key.now.0)) × (number.new ≡ number.old) }
+            { gone != key.0 },
         );
+        self.sets.remove(set);
     }
 
     /// Takes the numbers of a user out. Takes no memory.
     pub fn forget_user(&mut self, user: &Name)
         ensures { numbers_of self.new ≡ without_user user.now (numbers_of self.old) }
     {
+        let Some(gone) = self.users.number(user) else {
+            return;
+        };
+        self.users.invariants();
         self.numbers.retain(
-            |key: &(Name, Name), number: &mut u32| -> bool
-                ensures { (result ≡ not (eq_by_cmp name_cmp user.entry.now key.now.1)) × (number.new ≡ number.old) }
-            { user.cmp(&key.1).is_ne() },
+            |key: &(usize, usize), number: &mut u32| -> bool
+                ensures { (result ≡ not (gone == key.now.1)) × (number.new ≡ number.old) }
+            { gone != key.1 },
         );
+        self.users.remove(user);
     }
 
     /// The first set by name of which the user's number, and how many of its roles are among the fresh ones, come to its own
@@ -180,6 +211,8 @@ impl Counts {
         ensures { IfOk result (λ copy. copy.content ≡ self.now.content) }
     {
         Ok(Counts {
+            sets: self.sets.copy()?,
+            users: self.users.copy()?,
             numbers: self.numbers.clone()?,
         })
     }

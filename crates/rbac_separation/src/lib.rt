@@ -4,6 +4,7 @@
 mod change;
 mod count_plan;
 mod counts;
+mod numbered;
 mod recount;
 mod role_set;
 mod set_plan;

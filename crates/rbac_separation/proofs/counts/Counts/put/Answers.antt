@@ -1,28 +1,42 @@
-use Rattle.std.proofs.Common.{Some, None, is_some, sym, ap, ◌∙◌}
-use Rattle.rbac_separation.specs.Counts.{Counts, numbers_of, with_number}
-use Rattle.rbac_separation.proofs.CountLemmas.{numbers, updated_numbers}
+use Rattle.std.proofs.Common.{ℕ, Option, Some, None, Result, Ok, Err, OnErr, ◌≡◌, sym, ap, ◌∙◌}
+use Rattle.std.specs.FinMap.Entries.{find}
+use Rattle.std.specs.Option.{unwrap_or}
+use Rattle.rbac_terms.specs.Name.{Name, name_cmp}
+use Rattle.rbac_separation.specs.Counts.{Counts, numbers_of, place_of, number_at, with_number}
+use Rattle.rbac_separation.proofs.CountLemmas.{found_in, at_place, set_numbers, set_kept}
 use Rattle.rbac_separation.proofs.counts.Counts.put.Goals as goal
 
-pub returns-then-number-eq0-clause-put : goal.returns-then-number-eq0-clause-put
-returns-then-number-eq0-clause-put c =
+refused : {A E : Type 0} {P : Type 0} (r : Result A E) → P → OnErr r P
+refused (Ok a) p = tt
+refused (Err e) p = p
+
+pub returns-in_err-insert-clause-absent : goal.returns-in_err-insert-clause-absent
+returns-in_err-insert-clause-absent c =
+    let m = c.args.self.now in
+    let p = c.in-Some.place in
+    refused c.from_residual.result
+    (ap (λ o. number_at o (found_in m.content.numbers)) (sym c.place.ensures ∙ c.in-Some.is)
+    ∙ ap (λ (seen : Counts). unwrap_or (found_in seen.content.numbers p) 0) (sym c.self.view_is)
+    ∙ ap (λ o. unwrap_or o 0) c.in_err-insert.ensures.absent)
+
+pub invariant_of-self-in-Some : goal.invariant_of-self-in-Some
+invariant_of-self-in-Some c =
+    let h = c.self.inside in
     let set = c.args.set.now in
     let user = c.args.user.now in
-    updated_numbers set user None c.self.inside.numbers.entries c.swap_remove.new.self.entries c.swap_remove.ensures.updates.0
-    ∙ ap (λ (seen : Counts). with_number set user 0 (numbers_of seen)) c.self.view_is
-    ∙ ap (λ n. with_number set user n (numbers_of c.args.self.now)) (sym c.if-number-eq0.true)
+    let p = c.in-Some.place in
+    let is = sym c.in-Some.is ∙ c.place.ensures ∙ ap (λ (m : Counts). place_of (find name_cmp set m.content.sets) (find name_cmp user m.content.users)) (sym c.self.view_is) in
+    let at = at_place (find name_cmp set h.sets.content) (find name_cmp user h.users.content) p is in
+    set_kept h.sets.content h.users.content h.numbers.entries c.insert.new.self.entries set user p.0 p.1 (Some c.args.number) at.0 at.1 c.in_ok-insert.ensures.updates.0 c.self.invariant
 
 pub returns-in-Some-clause-put : goal.returns-in-Some-clause-put
 returns-in-Some-clause-put c =
+    let h = c.self.inside in
     let set = c.args.set.now in
     let user = c.args.user.now in
-    let n = c.args.number in
-    updated_numbers set user (Some n) c.self.inside.numbers.entries (c.get_mut.follows.lender n).entries ((c.get_mut.follows.holds n).3 (sym (ap is_some c.in-Some.ensures.value))).0
-    ∙ ap (λ (seen : Counts). with_number set user n (numbers_of seen)) c.self.view_is
-
-pub returns-clause-put : goal.returns-clause-put
-returns-clause-put c =
-    let n = c.args.number in
-    updated_numbers c.in_ok-copy.field-0 c.in_ok-copy-2.field-0 (Some n) c.get_mut.follows.lender-at-none.entries c.insert.new.self.entries c.in_ok-insert.ensures.updates.0
-    ∙ (λ i. with_number (c.in_ok-copy.ensures i) (c.in_ok-copy-2.ensures i) n (numbers c.get_mut.follows.lender-at-none.entries))
-    ∙ (λ i. with_number c.args.set.now c.args.user.now n (numbers (c.get_mut.follows.holds-at-none i).entries))
-    ∙ ap (λ (seen : Counts). with_number c.args.set.now c.args.user.now n (numbers_of seen)) c.self.view_is
+    let p = c.in-Some.place in
+    let is = sym c.in-Some.is ∙ c.place.ensures ∙ ap (λ (m : Counts). place_of (find name_cmp set m.content.sets) (find name_cmp user m.content.users)) (sym c.self.view_is) in
+    let at = at_place (find name_cmp set h.sets.content) (find name_cmp user h.users.content) p is in
+    set_numbers (λ x. find name_cmp x h.sets.content) (λ x. find name_cmp x h.users.content) set user p.0 p.1 (Some c.args.number) (found_in h.numbers.entries) (found_in c.insert.new.self.entries)
+    at.0 at.1 c.invariants.ensures c.invariants-in-Some.ensures c.in_ok-insert.ensures.updates.0
+    ∙ ap (λ (seen : Counts). with_number set user c.args.number (numbers_of seen)) c.self.view_is

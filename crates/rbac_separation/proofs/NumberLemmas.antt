@@ -1,0 +1,180 @@
+-- Numbers that names have, and what a name more or less makes of what is kept by them.
+use Rattle.std.proofs.Common.{ℕ, List, ◌≢◌, ◌≡◌, ◌==◌, inl, inr, Bool, true, false, cond, Option, Some, None, is_some, refl, sym, ap, ◌∙◌, true≢false}
+use Rattle.std.proofs.lemmas.Bool.{eq-eqb, cases_eq}
+use Rattle.std.proofs.lemmas.Bool.Decides.{eqb_tells}
+use Rattle.std.specs.Option.{unwrap_or}
+use Rattle.std.specs.Ordering.{eq_by_cmp}
+use Rattle.std.specs.FinMap.Entries.{find, put, find-put}
+use Rattle.slab.specs.Slab.{Slab, get, Updates}
+use Rattle.sorted_keys.specs.Keys.{without_key}
+use Rattle.sorted_keys.proofs.Lookups.{find-without_key}
+use Rattle.sorted_keys.proofs.Ties.{one_key, ties_itself}
+use Rattle.rbac_terms.specs.Name.{Name, name_cmp}
+use Rattle.rbac_terms.proofs.NameLemmas.{names_total, names_exact}
+use Rattle.rbac_separation.specs.Numbered.{IsNumbered}
+
+pub Some-same : {X : Type 0} {x y : X} → Some x ≡ Some y → x ≡ y
+Some-same {X} {x} {y} e = ap (λ o. unwrap_or o x) e
+
+pub None-not : {X : Type 0} {x : X} → None ≡ Some x → ⊥
+None-not e = true≢false (sym (ap is_some e))
+
+pub one_number : (i k : ℕ) → i == k ≡ true → i ≡ k
+one_number i k e = elim (eqb_tells i k) [
+  | inl same ↦ same.1
+  | inr other ↦ absurd (true≢false (sym e ∙ other.0))
+]
+
+-- a name has this number, beside names that have theirs
+pub record IsAdded (before after : Name → Option ℕ) (name : Name) (i : ℕ) : Type 0 where
+  pub numbers : (x : Name) → after x ≡ cond (eq_by_cmp name_cmp x name) (Some i) (before x)
+  pub kept : (n : ℕ) → before name ≡ Some n → n ≡ i
+  pub own : (x : Name) → before x ≡ Some i → eq_by_cmp name_cmp x name ≡ true
+
+-- no name has this number
+abbrev pub IsFree : (Name → Option ℕ) → ℕ → Type 0
+IsFree numbers i = (x : Name) → numbers x ≡ Some i → ⊥
+
+module _ (before after : Name → Option ℕ) (name : Name) (i : ℕ) (added : IsAdded before after name i) where
+  pub added_found : after name ≡ Some i
+  added_found = added.numbers name ∙ ap (λ b. cond b (Some i) (before name)) (ties_itself names_total name)
+
+  -- what is read by numbers stays, where nothing was at a free one
+  pub added_same : (read : Option ℕ → ℕ) → read None ≡ 0 → (IsFree before i → read (Some i) ≡ 0) → (x : Name) → read (after x) ≡ read (before x)
+  added_same read none free x = ap read (added.numbers x) ∙ go (eq_by_cmp name_cmp x name) refl
+    where
+      first : (o : Option ℕ) → before name ≡ o → read (Some i) ≡ read o
+      first (Some n) e = ap (λ k. read (Some k)) (sym (added.kept n e))
+      first None e = free (λ y is. None-not (sym e ∙ ap before (sym (one_key names_exact y name (added.own y is))) ∙ is)) ∙ sym none
+
+      go : (b : Bool) → eq_by_cmp name_cmp x name ≡ b → read (cond b (Some i) (before x)) ≡ read (before x)
+      go true e = first (before name) refl ∙ ap (λ y. read (before y)) (sym (one_key names_exact x name e))
+      go false e = refl
+
+  -- what is free after was free before
+  pub free_before : (k : ℕ) → IsFree after k → IsFree before k
+  free_before k free x is = go (eq_by_cmp name_cmp x name) refl
+    where
+      go : (b : Bool) → eq_by_cmp name_cmp x name ≡ b → ⊥
+      go true e =
+          let named : before name ≡ Some k = ap before (sym (one_key names_exact x name e)) ∙ is in
+          free name (added_found ∙ ap (λ n. Some n) (sym (added.kept k named)))
+      go false e = free x (added.numbers x ∙ ap (λ b. cond b (Some i) (before x)) e ∙ is)
+
+  -- no two names have one number
+  pub added_own : ((a b : Name) (n : ℕ) → before a ≡ Some n → before b ≡ Some n → eq_by_cmp name_cmp a b ≡ true) → (a b : Name) (n : ℕ) → after a ≡ Some n → after b ≡ Some n → eq_by_cmp name_cmp a b ≡ true
+  added_own own a b n is also = go (eq_by_cmp name_cmp a name) (eq_by_cmp name_cmp b name) refl refl
+    where
+      at : (x : Name) (c : Bool) → eq_by_cmp name_cmp x name ≡ c → after x ≡ Some n → cond c (Some i) (before x) ≡ Some n
+      at x c e is = ap (λ b. cond b (Some i) (before x)) (sym e) ∙ sym (added.numbers x) ∙ is
+
+      go : (c d : Bool) → eq_by_cmp name_cmp a name ≡ c → eq_by_cmp name_cmp b name ≡ d → eq_by_cmp name_cmp a b ≡ true
+      go true d e f = met d f
+        where
+          met : (d : Bool) → eq_by_cmp name_cmp b name ≡ d → eq_by_cmp name_cmp a b ≡ true
+          met true f = ap (λ y. eq_by_cmp name_cmp a y) (one_key names_exact b name f ∙ sym (one_key names_exact a name e)) ∙ ties_itself names_total a
+          met false f =
+              let here : n ≡ i = sym (Some-same (at a true e is)) in
+              absurd (true≢false (sym (added.own b (at b false f also ∙ ap (λ k. Some k) here)) ∙ f))
+      go false true e f =
+          let here : n ≡ i = sym (Some-same (at b true f also)) in
+          absurd (true≢false (sym (added.own a (at a false e is ∙ ap (λ k. Some k) here)) ∙ e))
+      go false false e f = own a b n (at a false e is) (at b false f also)
+
+module _ (before after : Name → Option ℕ) (name : Name) (i : ℕ) (found : before name ≡ Some i)
+    (own : (a b : Name) (n : ℕ) → before a ≡ Some n → before b ≡ Some n → eq_by_cmp name_cmp a b ≡ true)
+    (gone : (x : Name) → after x ≡ cond (eq_by_cmp name_cmp x name) None (before x)) where
+  -- a name that is left, and its number
+  pub left_before : (x : Name) (n : ℕ) → after x ≡ Some n → (before x ≡ Some n) × (eq_by_cmp name_cmp x name ≡ false)
+  left_before x n is = go (eq_by_cmp name_cmp x name) refl
+    where
+      go : (b : Bool) → eq_by_cmp name_cmp x name ≡ b → (before x ≡ Some n) × (eq_by_cmp name_cmp x name ≡ false)
+      go true e = absurd (None-not (ap (λ b. cond b None (before x)) (sym e) ∙ sym (gone x) ∙ is))
+      go false e = (ap (λ b. cond b None (before x)) (sym e) ∙ sym (gone x) ∙ is, e)
+
+  -- what is free after was free before, or is the number that is given back
+  pub free_but : (k : ℕ) → i == k ≡ false → IsFree after k → IsFree before k
+  free_but k other free x is = go (eq_by_cmp name_cmp x name) refl
+    where
+      go : (b : Bool) → eq_by_cmp name_cmp x name ≡ b → ⊥
+      go true e = true≢false (sym (eq-eqb i k (Some-same (sym found ∙ ap before (sym (one_key names_exact x name e)) ∙ is))) ∙ other)
+      go false e = free x (gone x ∙ ap (λ b. cond b None (before x)) e ∙ is)
+
+  -- what is read by numbers is 0 at the name, and stays where nothing but its number's is taken out
+  pub gone_read : (read left : Option ℕ → ℕ) → read None ≡ 0 → left None ≡ 0 → ((k : ℕ) → i == k ≡ false → left (Some k) ≡ read (Some k))
+      → (x : Name) → left (after x) ≡ cond (eq_by_cmp name_cmp name x) 0 (read (before x))
+  gone_read read left none nothing same x =
+      ap left (gone x) ∙ go (eq_by_cmp name_cmp x name) refl
+      ∙ ap (λ b. cond b 0 (read (before x))) (flip (eq_by_cmp name_cmp x name) (eq_by_cmp name_cmp name x) refl refl)
+    where
+      flip : (b c : Bool) → eq_by_cmp name_cmp x name ≡ b → eq_by_cmp name_cmp name x ≡ c → eq_by_cmp name_cmp x name ≡ eq_by_cmp name_cmp name x
+      flip true c e f = e ∙ sym (ap (λ y. eq_by_cmp name_cmp name y) (one_key names_exact x name e) ∙ ties_itself names_total name)
+      flip false true e f = absurd (true≢false (sym (ap (λ y. eq_by_cmp name_cmp x y) (one_key names_exact name x f) ∙ ties_itself names_total x) ∙ e))
+      flip false false e f = e ∙ sym f
+
+      apart : (k : ℕ) (c : Bool) → before x ≡ Some k → eq_by_cmp name_cmp x name ≡ false → i == k ≡ c → c ≡ false
+      apart k true is e one = absurd (true≢false (sym (own x name i (is ∙ ap (λ n. Some n) (sym (one_number i k one))) found) ∙ e))
+      apart k false is e one = refl
+
+      held : (o : Option ℕ) → before x ≡ o → eq_by_cmp name_cmp x name ≡ false → left o ≡ read o
+      held None is e = nothing ∙ sym none
+      held (Some k) is e = same k (apart k (i == k) is e refl)
+
+      go : (b : Bool) → eq_by_cmp name_cmp x name ≡ b → left (cond b None (before x)) ≡ cond b 0 (read (before x))
+      go true e = nothing
+      go false e = held (before x) refl e
+
+-- a name that has a number keeps it
+pub named_same : (numbers : Name → Option ℕ) (name : Name) (o : Option ℕ) → numbers name ≡ o → (x : Name) → numbers x ≡ cond (eq_by_cmp name_cmp x name) o (numbers x)
+named_same numbers name o is x = go (eq_by_cmp name_cmp x name) refl
+  where
+    go : (b : Bool) → eq_by_cmp name_cmp x name ≡ b → numbers x ≡ cond b o (numbers x)
+    go true e = ap numbers (one_key names_exact x name e) ∙ is
+    go false e = refl
+
+module _ {X : Type 0} (es fs : List (Name × ℕ)) (old new : Slab X) (name : Name) (i : ℕ) (numbered : IsNumbered es old) where
+  -- a name gets a number that was vacant
+  pub fresh_added : find name_cmp name es ≡ None → get old i ≡ None → fs ≡ put name_cmp name i es → IsAdded (λ x. find name_cmp x es) (λ x. find name_cmp x fs) name i
+  fresh_added none vacant made =
+      record {
+        numbers = λ x. ap (find name_cmp x) made ∙ find-put name_cmp names_total x name i es;
+        kept = λ n is. absurd (None-not (sym none ∙ is));
+        own = λ x is. absurd (true≢false (sym (numbered.taken x i is) ∙ ap is_some vacant));
+      }
+
+  -- and all names have numbers of their own
+  pub fresh_numbered : find name_cmp name es ≡ None → get old i ≡ None → fs ≡ put name_cmp name i es → is_some (get new i) ≡ true → ((k : ℕ) → k ≢ i → get new k ≡ get old k) → IsNumbered fs new
+  fresh_numbered none vacant made taken others =
+      record {
+        taken = λ x n is. elim (cases_eq n i) [
+          | inl same ↦ ap (λ k. is_some (get new k)) same ∙ taken
+          | inr differs ↦ ap is_some (others n differs) ∙ numbered.taken x n (was x n is differs)
+        ];
+        own = added_own (λ x. find name_cmp x es) (λ x. find name_cmp x fs) name i added numbered.own;
+      }
+    where
+      added : IsAdded (λ x. find name_cmp x es) (λ x. find name_cmp x fs) name i
+      added = fresh_added none vacant made
+
+      was : (x : Name) (n : ℕ) → find name_cmp x fs ≡ Some n → n ≢ i → find name_cmp x es ≡ Some n
+      was x n is differs = go (eq_by_cmp name_cmp x name) refl
+        where
+          go : (b : Bool) → eq_by_cmp name_cmp x name ≡ b → find name_cmp x es ≡ Some n
+          go true e = absurd (differs (sym (Some-same (sym (ap (λ b. cond b (Some i) (find name_cmp x es)) e) ∙ sym (added.numbers x) ∙ is))))
+          go false e = sym (ap (λ b. cond b (Some i) (find name_cmp x es)) e) ∙ sym (added.numbers x) ∙ is
+
+  -- a name that is taken out
+  pub gone_found : fs ≡ without_key name_cmp name es → (x : Name) → find name_cmp x fs ≡ cond (eq_by_cmp name_cmp x name) None (find name_cmp x es)
+  gone_found made x = ap (find name_cmp x) made ∙ find-without_key name_cmp names_total name es x
+
+  pub gone_numbered : find name_cmp name es ≡ Some i → fs ≡ without_key name_cmp name es → ((k : ℕ) → k ≢ i → get new k ≡ get old k) → IsNumbered fs new
+  gone_numbered found made others =
+      record {
+        taken = λ x n is.
+            let l = left x n is in
+            ap is_some (others n (λ same. true≢false (sym (numbered.own x name i (l.0 ∙ ap (λ k. Some k) same) found) ∙ l.1))) ∙ numbered.taken x n l.0;
+        own = λ a b n p q. numbered.own a b n (left a n p).0 (left b n q).0;
+      }
+    where
+      left : (x : Name) (n : ℕ) → find name_cmp x fs ≡ Some n → (find name_cmp x es ≡ Some n) × (eq_by_cmp name_cmp x name ≡ false)
+      left = left_before (λ x. find name_cmp x es) (λ x. find name_cmp x fs) name i found numbered.own (gone_found made)

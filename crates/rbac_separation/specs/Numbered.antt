@@ -1,0 +1,11 @@
+-- Names with numbers of their own.
+use Rattle.std.specs.Prelude.{ℕ, ◌≡◌, List, true, Some, is_some}
+use Rattle.std.specs.FinMap.Entries.{find}
+use Rattle.std.specs.Ordering.{eq_by_cmp}
+use Rattle.slab.specs.Slab.{Slab, get}
+use Rattle.rbac_terms.specs.Name.{Name, name_cmp}
+
+-- each name's number is taken, and no other name has it
+pub record IsNumbered {X : Type 0} (names : List (Name × ℕ)) (numbers : Slab X) : Type 0 where
+  pub taken : (name : Name) (n : ℕ) → find name_cmp name names ≡ Some n → is_some (get numbers n) ≡ true
+  pub own : (a b : Name) (n : ℕ) → find name_cmp a names ≡ Some n → find name_cmp b names ≡ Some n → eq_by_cmp name_cmp a b ≡ true
