@@ -109,12 +109,14 @@ impl<K: Ord + Digest + Drop, V: Drop> HashedMap<K, V> {
         let _order = &self.order;
     }
 
-    // Makes the table of hints large enough for the entries that there is room for.
+    // Makes the table of hints large enough for the entries that there is room for, but not for many times those that are there: room is
+    // often made for more than come.
     fn renew_hints(&mut self) -> Result<(), AllocError>
         ensures content { self.new.content ≡ self.old.content }
         ensures room { self.new.room ≡ self.old.room }
     {
-        let keys = self.entries.capacity();
+        let soon = self.order.len().saturating_mul(4).saturating_add(8);
+        let keys = self.entries.capacity().min(soon);
         if self.hints.has_room_for(keys) {
             return Ok(());
         }
