@@ -205,7 +205,7 @@ no_user_numbers seen user none = λ t s u. at s u (eq_by_cmp name_cmp user u) re
         ∙ sym (ap (λ x. cond x 0 (numbers_of seen s u)) p)
     at s u false p = sym (ap (λ x. cond x 0 (numbers_of seen s u)) p)
 
--- the names of sets are kept by are one name fewer, and what stood at its number is taken out
+-- a name fewer among the sets, or the users, where all that stands at its number is taken out
 module _ (sets users left : List (Name × ℕ)) (es : Entries) (name : Name) (n : ℕ) where
   kept_first : (k l : ℕ) → n == k ≡ false → found_in (filter (λ e. not (n == e.0.0)) es) (k, l) ≡ found_in es (k, l)
   kept_first k l e = kept_found (λ q. n == q.0) es (k, l) ∙ ap (λ b. cond b None (found_in es (k, l))) e

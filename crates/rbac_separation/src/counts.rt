@@ -100,8 +100,8 @@ impl Counts {
         }
     }
 
-    /// Gives a set and a user a number. Names are copied where one of them has no number of its own, and 0 takes the number out: that needs no memory,
-    /// nor does another number for the same pair.
+    /// Gives a set and a user a number. Names are copied where one of the two has no number of its own yet. 0 takes the number
+    /// out: that needs no memory, nor does another number for the same pair.
     ///
     /// # Errors
     /// `AllocError` where there is no memory for it. Nothing has changed.
