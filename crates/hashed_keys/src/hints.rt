@@ -36,7 +36,7 @@ pub(crate) struct Hints {
 
 impl Hints {
     /// No hints, and no memory.
-    pub fn none(alloc: Global) -> Hints {
+    pub(crate) fn none(alloc: Global) -> Hints {
         Hints {
             hints: Vec::new(alloc),
             shift: 63,
@@ -47,7 +47,7 @@ impl Hints {
     ///
     /// # Errors
     /// `AllocError` where there is no memory for the table.
-    pub fn with_room_for(alloc: Global, keys: usize) -> Result<Hints, AllocError> {
+    pub(crate) fn with_room_for(alloc: Global, keys: usize) -> Result<Hints, AllocError> {
         let bits = (64 - keys.leading_zeros() + 1).clamp(LEAST_BITS, MOST_BITS);
         let mut hints = Vec::with_capacity(alloc, 1 << bits)?;
         hints.resize(1 << bits, NO_HINT)?;
@@ -58,13 +58,13 @@ impl Hints {
     }
 
     /// Whether the table is large enough for so many keys.
-    pub fn has_room_for(&self, keys: usize) -> bool {
+    pub(crate) fn has_room_for(&self, keys: usize) -> bool {
         keys <= self.hints.len() / 2
     }
 
     /// A place at which the key of this digest may stand: the first, or a later one of few.
     #[inline(always)]
-    pub fn place(&self, digest: u64, nth: usize) -> Option<usize> {
+    pub(crate) fn place(&self, digest: u64, nth: usize) -> Option<usize> {
         let tag = tag_of(digest);
         match self.hints.get(self.first(digest).saturating_add(nth)) {
             Some(hint) if hint.tag == tag => Some(hint.place as usize),
@@ -80,7 +80,7 @@ impl Hints {
 
     /// Notes that the key of this digest stands at a place. Where all its hints are taken, the first is given up.
     #[inline(always)]
-    pub fn note(&mut self, digest: u64, place: usize) {
+    pub(crate) fn note(&mut self, digest: u64, place: usize) {
         let Ok(place) = u32::try_from(place) else {
             return;
         };
@@ -97,7 +97,7 @@ impl Hints {
 
     /// Forgets that the key of this digest stands at a place.
     #[inline(always)]
-    pub fn forget(&mut self, digest: u64, place: usize) {
+    pub(crate) fn forget(&mut self, digest: u64, place: usize) {
         let Ok(place) = u32::try_from(place) else {
             return;
         };

@@ -1,5 +1,5 @@
 //! The sessions by their names.
-ghost use Rattle.std.specs.Prelude.{◌≡◌, ◌↔◌, [], List, Bool, not, length, filter, is_some, IsTrue, IfOk, OnOk, OnErr};
+ghost use Rattle.std.specs.Prelude.{◌≡◌, ◌↔◌, [], List, Bool, not, length, filter, is_some, slice_get, IsTrue, IfOk, OnOk, OnErr};
 ghost use Rattle.std.specs.List.{list_any};
 ghost use Rattle.std.specs.List.Sorted.{IsStrictlySortedBy};
 ghost use Rattle.std.specs.Option.{option_copied, option_map};
@@ -97,6 +97,13 @@ impl Sessions {
         ensures { option_copied result ≡ find name_cmp (P.sought session.now) self.now.content }
     {
         self.sessions.get(session)
+    }
+
+    /// The session at a place in the order of the names, with its name.
+    pub fn at(&self, place: usize) -> Option<&(Name, Session)>
+        ensures { option_copied result ≡ slice_get self.now.content place }
+    {
+        self.sessions.at(place)
     }
 
     /// The sessions with their names, sorted by these, copied.

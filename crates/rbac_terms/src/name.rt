@@ -192,6 +192,20 @@ fn ending(bytes: &[u8]) -> u64
     prefix(&bytes[bytes.len().saturating_sub(8)..])
 }
 
+// The digest of a name, by its first eight bytes as one number and all its bytes.
+#[inline(always)]
+fn digest(prefix: u64, bytes: &[u8]) -> u64
+    requires { prefix ≡ first_bytes 8 bytes.now }
+    ensures { result ≡ digest_of bytes.now }
+{
+    // Names of fewer than eight bytes are all in their number.
+    if prefix % 256 == 0 {
+        mixed(prefix, 0)
+    } else {
+        mixed(prefix, ending(bytes))
+    }
+}
+
 // The bytes, to be shared.
 fn shared(alloc: Global, bytes: &[u8]) -> Result<Arc<Bytes>, AllocError>
     ensures { IfOk result (λ shared. shared.value.items ≡ bytes.now) }
@@ -264,12 +278,7 @@ impl Digest for Name {
 
     #[inline(always)]
     fn digest(&self) -> u64 {
-        // Names of fewer than eight bytes are all in their number.
-        if self.prefix % 256 == 0 {
-            mixed(self.prefix, 0)
-        } else {
-            mixed(self.prefix, ending(self.bytes.as_slice()))
-        }
+        digest(self.prefix, self.bytes.as_slice())
     }
 }
 

@@ -184,22 +184,6 @@ impl Vocabulary {
         Ok(PermissionSet::of(self.permissions.copy_where(alloc, test)?))
     }
 
-    /// The permissions of which a grant passes, by the test of what it is granted to.
-    ///
-    /// # Errors
-    /// `AllocError` where there is no memory for it.
-    pub fn permissions_granted<T: KeyTest<Name>>(
-        &self,
-        alloc: Global,
-        grants: &SortedSet<((Name, Name), Name)>,
-        test: &T,
-    ) -> Result<PermissionSet, AllocError>
-        ensures { IfOk result (λ permissions. permissions ≡ filter (λ permission. list_any (λ grant. eq_by_cmp pair_cmp permission grant.0 && T.passes test.now grant.1) grants.now.content) self.now.permissions) }
-    {
-        let permissions = self.permissions.copy_paired(alloc, grants, test)?;
-        Ok(PermissionSet::of(permissions))
-    }
-
     /// Each vocabulary is within the limits, and its permissions speak of its own operations and objects.
     pub fn invariants(&self)
         ensures { IsVocabulary self.now }

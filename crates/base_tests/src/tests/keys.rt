@@ -2,7 +2,7 @@
 ghost use Rattle.std.specs.Prelude.{nat_lt};
 
 use sorted_keys::{
-    Duplicate, EntryTest, KeyTest, PairProbe, RepeatedKey, Same, SortedMap, SortedSet, ValueChange,
+    Duplicate, KeyTest, PairProbe, RepeatedKey, Same, SortedMap, SortedSet, ValueChange,
 };
 use std::alloc::{AllocError, Global};
 use std::convert::Infallible;
@@ -17,18 +17,6 @@ impl KeyTest<u64> for BelowLimit {
 
     fn test(&self, key: &u64) -> bool {
         *key < self.0
-    }
-}
-
-// The entries whose value is above their key.
-#[derive(Drop)]
-struct AboveKey;
-
-impl EntryTest<u64, u64> for AboveKey {
-    ghost passes = { λ _ key value. nat_lt key value };
-
-    fn test(&self, key: &u64, value: &u64) -> bool {
-        *key < *value
     }
 }
 
@@ -302,7 +290,7 @@ fn a_map_finds_its_values(rt: HostRuntime) {
 fn entries_are_taken_out(rt: HostRuntime) {
     let mut map = map_of(&rt, rt.alloc(), &[(5, 51), (3, 30), (9, 9)]);
     let copy = map.copy().expect(&rt, "memory");
-    map.retain(&AboveKey);
+    map.remove(&9);
     map.remove(&3);
     map.remove(&4);
     expect_entries(&rt, &map, &[(5, 51)]);

@@ -8,7 +8,7 @@ use rbac_terms::{
     Command, Denial, HierarchyKind, LentName, Name, NameRefusal, NameSet, PermissionSet,
     Vocabulary, VocabularyRefusal,
 };
-use sorted_keys::{KeyTest, Probe, Same, SortedSet};
+use sorted_keys::{KeyTest, Probe, Same};
 use std::alloc::Global;
 use std::process::Abort;
 
@@ -520,42 +520,6 @@ fn permissions_of_a_vocabulary_are_copied(rt: HostRuntime) {
     assert_called(&rt, &permissions.permissions()[0].1, "ledger");
     drop(permissions);
     drop(vocabulary);
-}
-
-// Paying invoices and reading the ledger, each granted to a clerk, and to a payer what is no permission.
-fn grants(rt: &impl Abort, alloc: Global) -> SortedSet<((Name, Name), Name)> {
-    let texts = [
-        ("read", "ledger", "clerk"),
-        ("read", "invoice", "payer"),
-        ("pay", "invoice", "clerk"),
-    ];
-    let mut grants = SortedSet::new(alloc);
-    for (operation, object, role) in texts {
-        let permission = (name(rt, alloc, operation), name(rt, alloc, object));
-        let grant = (permission, name(rt, alloc, role));
-        grants.insert(grant).expect(rt, "memory");
-    }
-    grants
-}
-
-fn assert_granted(rt: &impl Abort, alloc: Global, role: &str, objects: &[&str]) {
-    let vocabulary = small_vocabulary(rt, alloc, &TWO_PERMISSIONS);
-    let (grants, role) = (grants(rt, alloc), name(rt, alloc, role));
-    let listed = vocabulary.permissions_granted(alloc, &grants, &Only(&role));
-    let permissions = listed.expect(rt, "memory");
-    assert_eq!(rt; permissions.permissions().len(), objects.len());
-    for (permission, object) in permissions.permissions().iter().zip(objects) {
-        assert_called(rt, &permission.1, object);
-    }
-    drop(permissions);
-    drop(grants);
-    drop(vocabulary);
-}
-
-#[test]
-fn permissions_that_are_granted_are_copied(rt: HostRuntime) {
-    assert_granted(&rt, rt.alloc(), "clerk", &["invoice", "ledger"]);
-    assert_granted(&rt, rt.alloc(), "payer", &[]);
 }
 
 #[test]

@@ -248,6 +248,14 @@ fn expect_sessions(rt: &impl Abort, sessions: &[(Name, Session)]) {
     }
 }
 
+// The second session is lent by its place, and there is none behind it.
+fn expect_second_session(rt: &impl Abort, policy: &Policy) {
+    let entry = policy.session_at(1).expect(rt, "a session");
+    assert_eq!(rt; entry.0.as_bytes(), "s2".as_bytes());
+    assert_eq!(rt; entry.1.active.len(), 0);
+    assert!(rt; policy.session_at(2).is_none());
+}
+
 #[test]
 fn lends_what_it_holds(rt: HostRuntime) {
     let mut policy = a_clerk(&rt, rt.alloc());
@@ -263,6 +271,7 @@ fn lends_what_it_holds(rt: HostRuntime) {
     let sessions = policy.sessions(rt.alloc()).expect(&rt, "memory");
     expect_sessions(&rt, &sessions);
     drop(sessions);
+    expect_second_session(&rt, &policy);
     assert_eq!(rt; policy.session_count(), 2);
     let found = policy.session(&lent(&rt, "s1")).expect(&rt, "a session");
     assert_eq!(rt; found.owner.as_bytes(), "ann".as_bytes());

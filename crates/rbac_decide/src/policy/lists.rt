@@ -1,5 +1,5 @@
 //! What a policy holds: lists in order, and each session by its name.
-ghost use Rattle.std.specs.Prelude.{◌≡◌, length, map, filter, IfOk};
+ghost use Rattle.std.specs.Prelude.{◌≡◌, length, map, filter, slice_get, IfOk};
 ghost use Rattle.std.specs.FinMap.Entries.{find};
 ghost use Rattle.std.specs.Option.{option_copied};
 ghost use Rattle.std.specs.Ordering.{eq_by_cmp};
@@ -91,6 +91,13 @@ impl Policy {
         ensures { option_copied result ≡ find name_cmp (P.sought session.now) self.now.sessions }
     {
         self.tables.sessions.get(session)
+    }
+
+    /// The session at a place in the order of the names, with its name.
+    pub fn session_at(&self, place: usize) -> Option<&(Name, Session)>
+        ensures { option_copied result ≡ slice_get self.now.sessions place }
+    {
+        self.tables.sessions.at(place)
     }
 
     /// The sessions with their names, sorted by these, copied.

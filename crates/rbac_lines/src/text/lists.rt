@@ -30,11 +30,11 @@ impl Element for (Name, Name) {
     ghost shown = { permission_text };
 
     fn put(&self, text: &mut Vec<u8>) -> Result<(), AllocError> {
-        text.extend_from_slice(b"[")?;
-        self.0.put(text)?;
-        text.extend_from_slice(b",")?;
-        self.1.put(text)?;
-        text.extend_from_slice(b"]")
+        text.extend_from_slice(b"[\"")?;
+        text.extend_from_slice(self.0.as_bytes())?;
+        text.extend_from_slice(b"\",\"")?;
+        text.extend_from_slice(self.1.as_bytes())?;
+        text.extend_from_slice(b"\"]")
     }
 }
 

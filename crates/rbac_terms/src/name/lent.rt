@@ -3,8 +3,8 @@ ghost use Rattle.std.specs.Prelude.{◌≡◌, ◌↔◌, IsTrue, IfSome, false,
 ghost use Rattle.rbac_terms.specs.Name.{is_name as is_a_name};
 ghost use Rattle.rbac_terms.specs.Keeping.Prefix.{digest_of};
 
-use super::{Name, ending, is_name, prefix};
-use digests::{Digest, mixed};
+use super::{Name, digest, is_name, prefix};
+use digests::Digest;
 use sorted_keys::Probe;
 use std::cmp::Ordering;
 use std::marker::Model;
@@ -67,11 +67,6 @@ impl Digest for LentName<'_> {
 
     #[inline(always)]
     fn digest(&self) -> u64 {
-        // As of a name.
-        if self.prefix % 256 == 0 {
-            mixed(self.prefix, 0)
-        } else {
-            mixed(self.prefix, ending(self.bytes))
-        }
+        digest(self.prefix, self.bytes)
     }
 }
