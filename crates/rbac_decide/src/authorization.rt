@@ -5,15 +5,10 @@ ghost use Rattle.rbac_terms.specs.Name.{Name as NameValue, name_cmp};
 ghost use Rattle.std.specs.List.{list_all, list_any};
 ghost use Rattle.rbac_terms.specs.Inheritance.{inherits};
 ghost use Rattle.rbac_terms.specs.Authorization.{is_authorized, is_entitled};
-ghost use Rattle.rbac_terms.specs.Separation.{is_constrained};
-ghost use Rattle.rbac_terms.specs.Vocabulary.{Vocabulary as VocabularyValue};
-ghost use Rattle.rbac_decide.specs.Tables.{state_of, state_of_roles};
-ghost use Rattle.rbac_decide.specs.Breaking.{is_constrained_junior};
+ghost use Rattle.rbac_decide.specs.Tables.{state_of_roles};
 
-use crate::tables::Tables;
 use rbac_hierarchy::{Hierarchy, RoleOrder};
 use rbac_rolesets::RoleSets;
-use rbac_separation::RoleSet;
 use rbac_terms::{Name, NameSet};
 use sorted_keys::KeyTest;
 use std::alloc::{AllocError, Global};
@@ -69,8 +64,8 @@ pub(crate) fn is_authorized_for_all(
         .all(|role| is_authorized(sets, hierarchy, user, role))
 }
 
-// Adds those of the names that pass a test.
-fn add_where<T: KeyTest<Name>>(
+/// Adds those of the names that pass a test.
+pub(crate) fn add_where<T: KeyTest<Name>>(
     kept: &mut NameSet,
     names: &NameSet,
     test: &T,
@@ -129,36 +124,6 @@ pub(crate) fn fresh_roles(
         assignments: sets.assignments_of(user),
     };
     names_where(alloc, roles, &test)
-}
-
-// The roles of the sets that are among these.
-fn constrained_among(
-    alloc: Global,
-    sets: &[(Name, RoleSet)],
-    among: &NameSet,
-) -> Result<NameSet, AllocError>
-    ensures { IfOk result (λ names. (r : NameValue) → has name_cmp r names ≡ (is_constrained r sets.now && has name_cmp r among.now)) }
-{
-    let mut names = NameSet::new(alloc);
-    for entry in sets {
-        add_where(&mut names, &entry.1.roles, among)?;
-    }
-    Ok(names)
-}
-
-/// The roles of static sets that the role inherits. Where there is no static set nothing is gathered.
-pub(crate) fn constrained_juniors(
-    alloc: Global,
-    tables: &Tables,
-    role: &Name,
-) -> Result<NameSet, AllocError>
-    ensures { IfOk result (λ names. (v : VocabularyValue) (r : NameValue) → has name_cmp r names ≡ is_constrained_junior (state_of tables.now v) role.now r) }
-{
-    if tables.static_sets.len() == 0 {
-        return Ok(NameSet::new(alloc));
-    }
-    let juniors = tables.hierarchy.juniors(alloc, role)?;
-    constrained_among(alloc, tables.static_sets.entries(), &juniors)
 }
 
 // How many of the roles the role of one of the assignments inherits.

@@ -1,20 +1,44 @@
 //! The sets that have one of some roles, gathered once for all users.
-ghost use Rattle.std.specs.Prelude.{◌≡◌, filter, IfOk, Some};
+ghost use Rattle.std.specs.Prelude.{◌≡◌, ◌&&◌, filter, IfOk};
 ghost use Rattle.std.specs.List.{list_any};
 ghost use Rattle.sorted_keys.specs.Keys.{has};
-ghost use Rattle.rbac_terms.specs.Name.{name_cmp};
+ghost use Rattle.rbac_terms.specs.Name.{Name as NameValue, name_cmp};
+ghost use Rattle.rbac_terms.specs.Separation.{is_constrained};
+ghost use Rattle.rbac_terms.specs.Vocabulary.{Vocabulary as VocabularyValue};
+ghost use Rattle.rbac_decide.specs.Breaking.{is_constrained_junior};
 ghost use Rattle.rbac_decide.specs.Counting.{cut_to, touched_sets};
+ghost use Rattle.rbac_decide.specs.Tables.{state_of};
 
-use crate::authorization::names_where;
+use crate::authorization::{add_where, names_where};
+use crate::tables::Tables;
+use rbac_hierarchy::RoleOrder;
 use rbac_separation::RoleSet;
 use rbac_terms::{Name, NameSet};
 use std::alloc::{AllocError, Global};
+
+// Whether one of the names is in the set.
+fn some_among(names: &[Name], set: &NameSet) -> bool
+    ensures { result ≡ list_any (λ r. has name_cmp r set.now) names.now }
+{
+    names.iter().any(|name| set.contains(name))
+}
+
+// Whether one of the names is among the others: each of the fewer is looked for.
+fn have_common(names: &NameSet, others: &NameSet) -> bool
+    ensures { result ≡ list_any (λ r. has name_cmp r others.now) names.now }
+{
+    if others.len() < names.len() {
+        some_among(others.names(), names)
+    } else {
+        some_among(names.names(), others)
+    }
+}
 
 /// Whether the set has one of the roles.
 pub(crate) fn touches(below: &NameSet, roles: &RoleSet) -> bool
     ensures { result ≡ list_any (λ r. has name_cmp r below.now) roles.now.roles }
 {
-    roles.roles.names().iter().any(|role| below.contains(role))
+    have_common(&roles.roles, below)
 }
 
 // Those of the roles that are among these.
@@ -61,4 +85,53 @@ pub(crate) fn touched_sets(
         }
     }
     Ok(touched)
+}
+
+// The roles of the sets that are among these.
+fn constrained_among(
+    alloc: Global,
+    sets: &[(Name, RoleSet)],
+    among: &NameSet,
+) -> Result<NameSet, AllocError>
+    ensures { IfOk result (λ names. (r : NameValue) → has name_cmp r names ≡ (is_constrained r sets.now && has name_cmp r among.now)) }
+{
+    let mut names = NameSet::new(alloc);
+    for entry in sets {
+        add_where(&mut names, &entry.1.roles, among)?;
+    }
+    Ok(names)
+}
+
+/// What a role inherits that some static set counts.
+#[derive(Drop)]
+pub(crate) struct Constrained {
+    /// The roles of static sets that it inherits.
+    pub(crate) roles: NameSet,
+    /// The sets that have one of these, each with such roles alone.
+    pub(crate) sets: Vec<(Name, RoleSet)>,
+}
+
+/// What the role inherits that some static set counts. Each static set is looked at once; where there is none nothing is
+/// gathered.
+///
+/// # Errors
+/// `AllocError` where there is no memory for it.
+pub(crate) fn constrained_below(
+    alloc: Global,
+    tables: &Tables,
+    role: &Name,
+) -> Result<Constrained, AllocError>
+    ensures roles { IfOk result (λ c. (v : VocabularyValue) (r : NameValue) → has name_cmp r c.roles ≡ is_constrained_junior (state_of tables.now v) role.now r) }
+    ensures sets { IfOk result (λ c. c.sets.items ≡ touched_sets c.roles tables.now.static_sets.content) }
+{
+    if tables.static_sets.len() == 0 {
+        return Ok(Constrained {
+            roles: NameSet::new(alloc),
+            sets: Vec::new(alloc),
+        });
+    }
+    let juniors = tables.hierarchy.juniors(alloc, role)?;
+    let sets = touched_sets(alloc, &juniors, tables.static_sets.entries())?;
+    let roles = constrained_among(alloc, &sets, &juniors)?;
+    Ok(Constrained { roles, sets })
 }

@@ -1,5 +1,5 @@
 -- What a member keeps: as it is founded, by a submit, by a delivery and by a receipt.
-use Rattle.std.proofs.Common.{ℕ, zero, suc, Bool, true, false, cond, not, max, ◌≡◌, ◌≤◌, ◌<◌, ◌+◌, ◌-◌, ◌==◌, ◌||◌, ◌&&◌, inl, List, [], ◌∷◌, ◌++◌, length, map, drop, get_or, set, replicate, refl, sym, ap, subst, ◌∙◌, arith, true≢false, append_assoc, append-nil, length-append, length-set, get_or-set_same, get_or-set_other, nat_le, nat_lt, Option, Some, None}
+use Rattle.std.proofs.Common.{ℕ, zero, suc, Bool, true, false, cond, not, max, ◌≡◌, ◌≤◌, ◌<◌, ◌+◌, ◌-◌, ◌==◌, ◌||◌, ◌&&◌, List, [], ◌∷◌, ◌++◌, length, map, drop, get_or, set, replicate, refl, sym, ap, subst, ◌∙◌, arith, true≢false, append_assoc, append-nil, length-append, length-set, get_or-set_same, get_or-set_other, nat_le, nat_lt, Option, Some, None}
 use Rattle.std.specs.List.{AllByRecursion as Each, filter, list_all, list_any}
 use Rattle.std.proofs.lemmas.Bool.{or_left, or_right, ne_eqb}
 use Rattle.std.proofs.lemmas.Bool.Decides.{nat_tests}
@@ -13,7 +13,7 @@ use Rattle.rbac_terms.specs.State.{State, founding_state}
 use Rattle.rbac_terms.specs.Effect.{effect, reply}
 use Rattle.rbac_terms.specs.Replay.{state_after, replies}
 use Rattle.rbac_words.specs.Stamp.{IsBefore, is_before, IsAfter, has_passed, insert_all, last_stamp}
-use Rattle.rbac_words.specs.Message.{stamp_of, submitted_at, next_place, submissions_of, is_bad_batch, has_bad_batch, has_commands, submissions, submission_of, commands_of, has_later, is_by, next_serial, CountsFrom, IsLawful}
+use Rattle.rbac_words.specs.Message.{stamp_of, submitted_at, next_place, submissions_of, is_bad_batch, has_bad_batch, submissions, submission_of, commands_of, has_later, is_by, next_serial, CountsFrom, IsLawful}
 use Rattle.rbac_words.specs.Front.{command_of, is_of, IsLegalFront}
 use Rattle.rbac_words.specs.World.{stamp, read_of, submit_refusal, least, must_acknowledge, acks, room_refusal, is_sent_full}
 use Rattle.rbac_words.specs.Keeping.Member.{Member, node_of, founded, latest_of, known, batch, submitted, received, numbers, is_passed_by_all, if_passed, due_at, delivery, delivered, deliver_due, IsNumber, IsCovered, IsClockAbove, IsMember, IsNext}
@@ -21,7 +21,7 @@ use Rattle.rbac_words.specs.declared.event.Refusal.{Refusal}
 use Rattle.rbac_words.specs.declared.event.Refusal.TheVariants.{BadBatch, ClockFull, SentFull, BadSerial}
 use Rattle.rbac_terms.specs.declared.command.Command.{Command}
 use Rattle.rbac_words.specs.declared.message.Message.{Message}
-use Rattle.rbac_words.specs.declared.message.Message.TheVariants.{Batch, Ack}
+use Rattle.rbac_words.specs.declared.message.Message.TheVariants.{Ack}
 use Rattle.rbac_words.specs.declared.message.Submission.{Submission}
 use Rattle.rbac_words.specs.declared.record.Record.{Record}
 use Rattle.rbac_words.specs.declared.stamp.Stamp.{Stamp}

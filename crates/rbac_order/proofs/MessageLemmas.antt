@@ -1,5 +1,5 @@
 -- Commands in messages, and serials that count up.
-use Rattle.std.proofs.Common.{ℕ, suc, Bool, true, false, cond, ◌≡◌, ◌+◌, ◌==◌, List, [], ◌∷◌, ◌++◌, length, length-append, ◌≤◌, refl, sym, ap, subst, ◌∙◌, arith, append-nil, append_assoc, ◌<◌, inl}
+use Rattle.std.proofs.Common.{ℕ, suc, Bool, true, false, cond, ◌≡◌, ◌+◌, ◌==◌, List, [], ◌∷◌, ◌++◌, length, length-append, ◌≤◌, refl, sym, ap, subst, ◌∙◌, arith, append-nil, append_assoc, ◌<◌}
 use Rattle.std.specs.List.{AllByRecursion as Each, filter}
 use Rattle.std.proofs.lemmas.Bool.Decides.{nat_tests}
 use Rattle.std.proofs.lemmas.Grind.{flat_map-append}

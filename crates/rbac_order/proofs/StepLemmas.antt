@@ -1,5 +1,5 @@
 -- Each step leaves the members of a group members of a group, and so does each list of events.
-use Rattle.std.proofs.Common.{ℕ, zero, suc, Bool, true, false, cond, ◌≡◌, ◌≤◌, ◌<◌, ◌+◌, ◌-◌, ◌==◌, ◌||◌, ◌&&◌, nat_lt, nat_le, List, [], ◌∷◌, ◌++◌, length, map, drop, get_or, set, replicate, refl, sym, ap, subst, ◌∙◌, arith, true≢false, append-nil, append_assoc, length-append, length-set, get_or-set_same, get_or-set_other, Option, Some, None}
+use Rattle.std.proofs.Common.{ℕ, zero, suc, Bool, true, false, cond, ◌≡◌, ◌≤◌, ◌<◌, ◌+◌, ◌-◌, ◌==◌, ◌||◌, ◌&&◌, nat_lt, List, [], ◌∷◌, ◌++◌, length, map, drop, get_or, set, replicate, refl, sym, ap, subst, ◌∙◌, arith, true≢false, append-nil, append_assoc, length-append, length-set, get_or-set_same, get_or-set_other, Option, Some, None}
 use Rattle.std.specs.List.{AllByRecursion as Each, filter}
 use Rattle.std.proofs.lemmas.Bool.{eqb-false}
 use Rattle.std.proofs.lemmas.List.{length-map, map-set}
@@ -10,7 +10,7 @@ use Rattle.rbac_terms.specs.Effect.{reply}
 use Rattle.rbac_terms.specs.Replay.{state_after}
 use Rattle.rbac_words.specs.Stamp.{IsAfter, last_stamp}
 use Rattle.rbac_words.specs.Message.{stamp_of, submissions_of, has_bad_batch, submissions, commands_of, is_by, CountsFrom, IsLawful}
-use Rattle.rbac_words.specs.Front.{is_of, command_of}
+use Rattle.rbac_words.specs.Front.{command_of}
 use Rattle.rbac_words.specs.World.{World, Node, node, is_member, read_of, stamp, submit_at, receive_at, deliver_at, record_of, message, submit_refusal, room_refusal, receive_refusal, refusal, with_node, due, after, world_unless, step}
 use Rattle.rbac_words.specs.Right.{founded_nodes, founding_world}
 use Rattle.rbac_words.specs.Play.{world_after}

@@ -4,9 +4,9 @@ use Rattle.std.proofs.lemmas.Bool.{and_parts, eq-eqb}
 use Rattle.std.specs.Map.{lookup}
 use Rattle.std.specs.Option.{unwrap_or}
 use Rattle.std.specs.Ordering.{eq_by_cmp}
-use Rattle.sorted_keys.proofs.Ties.{one_key, ties_itself, same_bits}
+use Rattle.sorted_keys.proofs.Ties.{one_key, same_bits}
 use Rattle.rbac_terms.specs.Name.{Name, name_cmp}
-use Rattle.rbac_terms.proofs.NameLemmas.{names_total, names_exact}
+use Rattle.rbac_terms.proofs.NameLemmas.{names_exact}
 use Rattle.std.specs.FinMap.Entries.{find}
 use Rattle.rbac_separation.specs.Counts.{Counts, IsKept, numbers_of, pair_eq, place_of, number_at, with_number, without_set, without_user}
 use Rattle.rbac_separation.proofs.NumberLemmas.{Some-same, None-not, one_number, IsAdded, IsFree, added_same, free_before, free_but, gone_read}

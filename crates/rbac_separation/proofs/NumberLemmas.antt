@@ -5,7 +5,7 @@ use Rattle.std.proofs.lemmas.Bool.Decides.{eqb_tells}
 use Rattle.std.specs.Option.{unwrap_or}
 use Rattle.std.specs.Ordering.{eq_by_cmp}
 use Rattle.std.specs.FinMap.Entries.{find, put, find-put}
-use Rattle.slab.specs.Slab.{Slab, get, Updates}
+use Rattle.slab.specs.Slab.{Slab, get}
 use Rattle.sorted_keys.specs.Keys.{without_key}
 use Rattle.sorted_keys.proofs.Lookups.{find-without_key}
 use Rattle.sorted_keys.proofs.Ties.{one_key, ties_itself}

@@ -168,8 +168,8 @@ fn byte_at(bytes: &[u8], at: usize) -> u8
     if at < bytes.len() { bytes[at] } else { 0 }
 }
 
-// The first eight bytes as one number.
-fn prefix(bytes: &[u8]) -> u64
+// Fewer than eight bytes as one number.
+fn short_prefix(bytes: &[u8]) -> u64
     ensures { result ≡ first_bytes 8 bytes.now }
 {
     u64::from_be_bytes([
@@ -182,6 +182,17 @@ fn prefix(bytes: &[u8]) -> u64
         byte_at(bytes, 6),
         byte_at(bytes, 7),
     ])
+}
+
+// The first eight bytes as one number: they are read at once where there are as many.
+#[inline(always)]
+fn prefix(bytes: &[u8]) -> u64
+    ensures { result ≡ first_bytes 8 bytes.now }
+{
+    match bytes {
+        [a, b, c, d, e, f, g, h, ..] => u64::from_be_bytes([*a, *b, *c, *d, *e, *f, *g, *h]),
+        _ => short_prefix(bytes),
+    }
 }
 
 // The last eight bytes as one number, of at least eight.

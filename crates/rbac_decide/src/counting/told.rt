@@ -9,9 +9,9 @@ ghost use Rattle.rbac_separation.specs.Counts.{numbers_of, is_over};
 ghost use Rattle.rbac_decide.specs.Tables.{IsUndenied};
 ghost use Rattle.rbac_decide.specs.Counting.{AreCountsBy, authorized_by, breaks_besides, gains, gains_by, touched_sets, TellsAfter};
 
-use crate::authorization::{constrained_juniors, fresh_roles, is_authorized};
+use crate::authorization::{fresh_roles, is_authorized};
 use crate::tables::Tables;
-use crate::touched::{touched_sets, touches};
+use crate::touched::{constrained_below, touches};
 use rbac_separation::{CountChange, Counts, RoleSet};
 use rbac_terms::{Name, NameSet};
 use std::alloc::{AllocError, Global};
@@ -125,10 +125,17 @@ pub(crate) fn told_of_assignment(
     requires undenied { IsUndenied (AssignUser user.now role.now) tables.now }
     ensures { IfOk result (λ told. TellsAfter (AssignUser user.now role.now) told.items counts.now tables.now) }
 {
-    let below = constrained_juniors(alloc, tables, role)?;
-    let touched = touched_sets(alloc, &below, tables.static_sets.entries())?;
+    let below = constrained_below(alloc, tables, role)?;
     let mut told = Vec::new(alloc);
-    tell_user(alloc, tables, counts, user, &below, &touched, &mut told)?;
+    tell_user(
+        alloc,
+        tables,
+        counts,
+        user,
+        &below.roles,
+        &below.sets,
+        &mut told,
+    )?;
     Ok(told)
 }
 
@@ -148,11 +155,18 @@ pub(crate) fn told_of_inheritance(
     requires undenied { IsUndenied (AddInheritance ascendant.now descendant.now) tables.now }
     ensures { IfOk result (λ told. TellsAfter (AddInheritance ascendant.now descendant.now) told.items counts.now tables.now) }
 {
-    let below = constrained_juniors(alloc, tables, descendant)?;
-    if below.is_empty() {
+    let below = constrained_below(alloc, tables, descendant)?;
+    if below.roles.is_empty() {
         return Ok(Vec::new(alloc));
     }
-    let touched = touched_sets(alloc, &below, tables.static_sets.entries())?;
     let users = tables.sets.users();
-    tell_authorized(alloc, tables, counts, ascendant, users, &below, &touched)
+    tell_authorized(
+        alloc,
+        tables,
+        counts,
+        ascendant,
+        users,
+        &below.roles,
+        &below.sets,
+    )
 }

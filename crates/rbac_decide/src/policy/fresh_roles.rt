@@ -8,9 +8,9 @@ ghost use Rattle.rbac_separation.specs.Counts.{numbers_of, is_over};
 ghost use Rattle.rbac_decide.specs.Counting.{authorized_count, touches, touched_sets};
 ghost use Rattle.rbac_decide.specs.Breaking.{breaks_with, breaks_below, is_constrained_junior};
 
-use crate::authorization::{constrained_juniors, fresh_roles};
+use crate::authorization::fresh_roles;
 use crate::policy::Policy;
-use crate::touched::{touched_sets, touches};
+use crate::touched::{Constrained, constrained_below, touches};
 use rbac_separation::{Counts, RoleSet};
 use rbac_terms::{Name, NameSet};
 use std::alloc::{AllocError, Global};
@@ -31,22 +31,12 @@ impl Policy {
         is_over_some(&self.counts, touched, user, fresh)
     }
 
-    // The static sets that have one of the roles, each with such roles alone.
-    fn touched_sets(
-        &self,
-        alloc: Global,
-        juniors: &NameSet,
-    ) -> Result<Vec<(Name, RoleSet)>, AllocError>
-        ensures { IfOk result (λ touched. touched.items ≡ touched_sets juniors.now self.now.static_sets) }
+    // What the role inherits that some static set counts.
+    fn constrained_below(&self, alloc: Global, role: &Name) -> Result<Constrained, AllocError>
+        ensures roles { IfOk result (λ c. (r : NameValue) → has name_cmp r c.roles ≡ is_constrained_junior self.now role.now r) }
+        ensures sets { IfOk result (λ c. c.sets.items ≡ touched_sets c.roles self.now.static_sets) }
     {
-        touched_sets(alloc, juniors, self.tables.static_sets.entries())
-    }
-
-    // The roles of static sets that the role inherits.
-    fn constrained_juniors(&self, alloc: Global, role: &Name) -> Result<NameSet, AllocError>
-        ensures { IfOk result (λ names. (r : NameValue) → has name_cmp r names ≡ is_constrained_junior self.now role.now r) }
-    {
-        constrained_juniors(alloc, &self.tables, role)
+        constrained_below(alloc, &self.tables, role)
     }
 
     // Whether the user would break a static set with what some role inherits besides: of that, these are the roles of static sets, and
@@ -83,9 +73,8 @@ impl Policy {
     ) -> Result<bool, AllocError>
         ensures { IfOk result (λ breaks. breaks ≡ breaks_with self.now role.now user.now) }
     {
-        let juniors = self.constrained_juniors(alloc, role)?;
-        let touched = self.touched_sets(alloc, &juniors)?;
-        self.breaks_with_juniors(alloc, user, &juniors, &touched)
+        let below = self.constrained_below(alloc, role)?;
+        self.breaks_with_juniors(alloc, user, &below.roles, &below.sets)
     }
 
     // Whether the user is authorized for the ascendant, and would break a static set with what some descendant inherits besides: of
@@ -119,13 +108,12 @@ impl Policy {
         ensures { IfOk result (λ breaks. breaks ≡ breaks_below self.now ascendant.now descendant.now) }
     {
         self.invariants();
-        let juniors = self.constrained_juniors(alloc, descendant)?;
-        if juniors.is_empty() {
+        let below = self.constrained_below(alloc, descendant)?;
+        if below.roles.is_empty() {
             return Ok(false);
         }
-        let touched = self.touched_sets(alloc, &juniors)?;
         for user in self.tables.sets.users() {
-            if self.breaks_through(alloc, ascendant, user, &juniors, &touched)? {
+            if self.breaks_through(alloc, ascendant, user, &below.roles, &below.sets)? {
                 return Ok(true);
             }
         }

@@ -1,7 +1,7 @@
-use Rattle.std.proofs.Common.{rules, ◌≡◌, ◌==◌, not, filter, ℕ, Option, Some, None, sym, ap, subst, ◌∙◌}
+use Rattle.std.proofs.Common.{rules, ◌≡◌, ◌==◌, not, None, sym, ap, subst, ◌∙◌}
 use Rattle.std.specs.FinMap.Entries.{find}
 use Rattle.indexmap.proofs.CallerLemmas.{filter-RetainsPairs}
-use Rattle.rbac_terms.specs.Name.{Name, name_cmp}
+use Rattle.rbac_terms.specs.Name.{name_cmp}
 use Rattle.rbac_separation.specs.Counts.{Counts, IsKept, numbers_of, place_of, number_at, without_user}
 use Rattle.rbac_separation.proofs.CountLemmas.{found_in, no_user_numbers, user_gone, user_gone_kept}
 use Rattle.rbac_separation.proofs.counts.Counts.forget_user.Goals as goal

@@ -1,7 +1,7 @@
-use Rattle.std.proofs.Common.{ℕ, Option, Some, None, Result, Ok, Err, OnErr, ◌≡◌, sym, ap, ◌∙◌}
+use Rattle.std.proofs.Common.{Some, Result, Ok, Err, OnErr, sym, ap, ◌∙◌}
 use Rattle.std.specs.FinMap.Entries.{find}
 use Rattle.std.specs.Option.{unwrap_or}
-use Rattle.rbac_terms.specs.Name.{Name, name_cmp}
+use Rattle.rbac_terms.specs.Name.{name_cmp}
 use Rattle.rbac_separation.specs.Counts.{Counts, numbers_of, place_of, number_at, with_number}
 use Rattle.rbac_separation.proofs.CountLemmas.{found_in, at_place, set_numbers, set_kept}
 use Rattle.rbac_separation.proofs.counts.Counts.put.Goals as goal

@@ -1,6 +1,6 @@
-use Rattle.std.proofs.Common.{ℕ, Option, Some, None, Result, Ok, OnOk, ◌≡◌, sym, ap, subst, ◌∙◌}
+use Rattle.std.proofs.Common.{Some, Result, Ok, OnOk, ◌≡◌, ap, subst, ◌∙◌}
 use Rattle.std.specs.FinMap.Entries.{find}
-use Rattle.rbac_terms.specs.Name.{Name, name_cmp}
+use Rattle.rbac_terms.specs.Name.{name_cmp}
 use Rattle.rbac_separation.specs.Counts.{Counts, numbers_of, with_number}
 use Rattle.rbac_separation.proofs.NumberLemmas.{IsAdded, added_found}
 use Rattle.rbac_separation.proofs.CountLemmas.{found_in, set_numbers, set_kept, added_kept, added_numbers}

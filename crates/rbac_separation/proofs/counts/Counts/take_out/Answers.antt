@@ -1,7 +1,7 @@
-use Rattle.std.proofs.Common.{ℕ, Option, Some, None, sym, ap, ◌∙◌}
+use Rattle.std.proofs.Common.{None, sym, ap, ◌∙◌}
 use Rattle.std.specs.FinMap.Entries.{find}
-use Rattle.rbac_terms.specs.Name.{Name, name_cmp}
-use Rattle.rbac_separation.specs.Counts.{Counts, numbers_of, place_of, number_at, pair_eq, with_number}
+use Rattle.rbac_terms.specs.Name.{name_cmp}
+use Rattle.rbac_separation.specs.Counts.{Counts, numbers_of, place_of, number_at, with_number}
 use Rattle.rbac_separation.proofs.CountLemmas.{found_in, at_place, set_numbers, set_kept, none_put}
 use Rattle.rbac_separation.proofs.counts.Counts.take_out.Goals as goal
 

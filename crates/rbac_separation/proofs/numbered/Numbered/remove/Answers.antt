@@ -1,4 +1,4 @@
-use Rattle.std.proofs.Common.{◌≡◌, cond, Option, Some, None, ℕ, sym, ap, subst, ◌∙◌}
+use Rattle.std.proofs.Common.{cond, None, sym, ap, ◌∙◌}
 use Rattle.std.specs.FinMap.Entries.{find}
 use Rattle.std.specs.Ordering.{eq_by_cmp}
 use Rattle.rbac_terms.specs.Name.{name_cmp}

@@ -4,7 +4,7 @@ use Rattle.rbac_terms.specs.Name.{Name, name_cmp}
 use Rattle.rbac_terms.specs.Separation.{RoleSet, is_constrained}
 use Rattle.rbac_decide.proofs.CountingLemmas.{dropped}
 use Rattle.rbac_decide.proofs.FreshLemmas.{set_gathered}
-use Rattle.rbac_decide.proofs.authorization.constrained_among.Goals as goal
+use Rattle.rbac_decide.proofs.touched.constrained_among.Goals as goal
 
 pub loop-entry-preserved : goal.loop-entry-preserved
 loop-entry-preserved c =

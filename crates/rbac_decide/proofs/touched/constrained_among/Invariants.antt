@@ -2,7 +2,7 @@ use Rattle.std.proofs.Common.{◌≡◌, ◌||◌, ◌&&◌, drop}
 use Rattle.sorted_keys.specs.Keys.{has}
 use Rattle.rbac_terms.specs.Name.{Name, name_cmp}
 use Rattle.rbac_terms.specs.Separation.{is_constrained}
-use Rattle.rbac_decide.proofs.authorization.constrained_among.Given as goal
+use Rattle.rbac_decide.proofs.touched.constrained_among.Given as goal
 
 abbrev pub invariant-loop-entry : goal.invariant-loop-entry
 invariant-loop-entry l =

@@ -1,0 +1,13 @@
+use Rattle.std.proofs.Common.{List, ap, ◌∙◌}
+use Rattle.std.specs.List.{list_any}
+use Rattle.sorted_keys.specs.Keys.{has}
+use Rattle.rbac_terms.specs.Name.{Name, name_cmp}
+use Rattle.rbac_decide.proofs.TouchedLemmas.{in_common}
+use Rattle.rbac_decide.proofs.touched.have_common.Goals as goal
+
+pub returns-then-len : goal.returns-then-len
+returns-then-len c =
+    let names = c.args.names.now in
+    c.some_among.ensures
+    ∙ ap (λ (sought : List Name). list_any (λ r. has name_cmp r names) sought) c.names.ensures.names
+    ∙ in_common c.args.others.now names
