@@ -1,4 +1,4 @@
-use Rattle.std.proofs.Common.{Bool, ◌+◌, ◌≡◌, ◌∙◌, ◌||◌, ◌&&◌, List, drop, sym, ap}
+use Rattle.std.proofs.Common.{◌+◌, ◌∙◌, ◌||◌, ◌&&◌, List, drop, sym, ap}
 use Rattle.sorted_keys.specs.Keys.{has}
 use Rattle.rbac_terms.specs.Name.{Name, name_cmp}
 use Rattle.rbac_terms.specs.Separation.{RoleSet, is_constrained}

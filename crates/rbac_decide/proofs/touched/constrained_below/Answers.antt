@@ -1,4 +1,4 @@
-use Rattle.std.proofs.Common.{◌≡◌, ◌∙◌, ◌&&◌, List, sym, ap}
+use Rattle.std.proofs.Common.{◌∙◌, ◌&&◌, List, ap}
 use Rattle.sorted_keys.specs.Keys.{has}
 use Rattle.rbac_terms.specs.Name.{Name, name_cmp}
 use Rattle.rbac_terms.specs.Separation.{RoleSet, is_constrained}
@@ -14,7 +14,7 @@ returns-clause-roles c = λ v.
     let below = c.in_ok-juniors.juniors in
     gathered (state_of t v) c.args.role.now below c.in_ok-roles.roles c.in_ok-juniors.ensures
     (λ r. c.in_ok-roles.ensures r
-    ∙ ap (λ (sets : List (Name × RoleSet)). is_constrained r sets && has name_cmp r below) (c.in_ok-sets.ensures ∙ ap (touched_sets below) c.entries.ensures.entries)
+    ∙ ap (λ (sets : List (Name × RoleSet)). is_constrained r sets && has name_cmp r below) (c.deref.ensures.value ∙ c.in_ok-sets.ensures ∙ ap (touched_sets below) c.entries.ensures.entries)
     ∙ constrained_touched below r t.static_sets.content
     ∙ both_swapped (is_constrained r t.static_sets.content) (has name_cmp r below))
 
@@ -25,5 +25,5 @@ returns-clause-sets c =
     c.in_ok-sets.ensures ∙ ap (touched_sets below) c.entries.ensures.entries
     ∙ touched_by_constrained below c.in_ok-roles.roles t.static_sets.content
     (λ r. c.in_ok-roles.ensures r
-    ∙ ap (λ (sets : List (Name × RoleSet)). is_constrained r sets && has name_cmp r below) (c.in_ok-sets.ensures ∙ ap (touched_sets below) c.entries.ensures.entries)
+    ∙ ap (λ (sets : List (Name × RoleSet)). is_constrained r sets && has name_cmp r below) (c.deref.ensures.value ∙ c.in_ok-sets.ensures ∙ ap (touched_sets below) c.entries.ensures.entries)
     ∙ constrained_touched below r t.static_sets.content)
