@@ -406,7 +406,9 @@ fn plan_number(rt: &impl Abort, alloc: Global, counts: &mut Counts, number: u32)
     ensures { HasRoomFor (pairs_of result) counts.new }
 {
     let mut changes = Vec::new(alloc);
-    changes.push(change(rt, alloc, "d", "ann", number)).expect(rt, "memory");
+    changes
+        .push(change(rt, alloc, "d", "ann", number))
+        .expect(rt, "memory");
     counts.plan(changes).expect(rt, "memory")
 }
 
@@ -420,9 +422,15 @@ fn plan_numbers(
     ensures { HasRoomFor (pairs_of result) counts.new }
 {
     let mut changes = Vec::new(alloc);
-    changes.push(change(rt, alloc, "d", "ann", wanted.0)).expect(rt, "memory");
-    changes.push(change(rt, alloc, "e", "ann", wanted.1)).expect(rt, "memory");
-    changes.push(change(rt, alloc, "d", "bob", wanted.2)).expect(rt, "memory");
+    changes
+        .push(change(rt, alloc, "d", "ann", wanted.0))
+        .expect(rt, "memory");
+    changes
+        .push(change(rt, alloc, "e", "ann", wanted.1))
+        .expect(rt, "memory");
+    changes
+        .push(change(rt, alloc, "d", "bob", wanted.2))
+        .expect(rt, "memory");
     counts.plan(changes).expect(rt, "memory")
 }
 
