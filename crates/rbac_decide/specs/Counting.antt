@@ -1,5 +1,5 @@
 -- The counts that a policy keeps: for each static set and each user, of how many of its roles the user has the authorization.
-use Rattle.std.specs.Prelude.{ℕ, ◌+◌, List, [], ◌∷◌, length, map, Bool, true, false, not, ◌||◌, ◌&&◌, ◌≡◌, Option, Some, None, count_by}
+use Rattle.std.specs.Prelude.{ℕ, ◌+◌, List, [], ◌∷◌, map, Bool, true, false, not, ◌||◌, ◌&&◌, ◌≡◌, Option, Some, None, count_by}
 use Rattle.std.specs.FinMap.Entries.{find}
 use Rattle.std.specs.List.{list_any, filter}
 use Rattle.std.specs.Ordering.{eq_by_cmp}
@@ -17,7 +17,7 @@ use Rattle.rbac_terms.specs.declared.separation.Separation.{Separation}
 use Rattle.rbac_terms.specs.declared.separation.Separation.TheVariants.{Static, Dynamic}
 use Rattle.rbac_terms.specs.declared.command.Command.{Command}
 use Rattle.rbac_terms.specs.declared.command.Command.TheVariants.{DeleteUser, DeleteRole, AssignUser, DeassignUser, AddInheritance, DeleteInheritance, CreateSet, DeleteSet, AddRoleMember, DeleteRoleMember}
-use Rattle.rbac_separation.specs.Counts.{Counts, numbers_of, with_numbers, without_set, without_user}
+use Rattle.rbac_separation.specs.Counts.{Counts, numbers_of, with_numbers, pairs_of, without_set, without_user}
 use Rattle.rbac_separation.specs.declared.count_plan.CountChange.{CountChange}
 use Rattle.rbac_decide.specs.declared.counting.PlannedCounts.{PlannedCounts}
 use Rattle.rbac_decide.specs.declared.counting.PlannedCounts.TheVariants.{Told, Recounted}
@@ -140,10 +140,10 @@ abbrev pub IsPlannedBy : PlannedCounts → Command → Counts → Tables → Typ
 IsPlannedBy (Told changes) c counts t = TellsAfter c changes counts t
 IsPlannedBy (Recounted pairs) c counts t = (gives_roles c ≡ false) × ((set user : Name) → has pair_cmp (set, user) pairs ≡ may_change c t set user)
 
--- for how many counts a plan wants room
-abbrev pub counts_planned : PlannedCounts → ℕ
-counts_planned (Told changes) = length changes
-counts_planned (Recounted pairs) = length pairs
+-- the sets and users whose counts are planned
+abbrev pub counts_planned : PlannedCounts → List (Name × Name)
+counts_planned (Told changes) = pairs_of changes
+counts_planned (Recounted pairs) = pairs
 
 -- the sets of a policy after a command, with the counts from before it and what was planned of them
 pub record IsPrepared (command : Command) (plan : PlannedCounts) (counts : Counts) (after : Tables) : Type 0 where

@@ -1,9 +1,9 @@
 //! The counts that a policy keeps of its static sets, and what a command makes of them. Where users become authorized for more their
 //! new counts are planned before the change. Of the other commands names and room are planned, and the counts are taken after the
 //! change, from sets that no longer change.
-ghost use Rattle.std.specs.Prelude.{◌≡◌, ◌≤◌, false, not, count_by, IfOk};
+ghost use Rattle.std.specs.Prelude.{◌≡◌, false, not, count_by, IfOk};
 ghost use Rattle.rbac_terms.specs.Separation.{is_broken_by};
-ghost use Rattle.rbac_separation.specs.Counts.{numbers_of};
+ghost use Rattle.rbac_separation.specs.Counts.{numbers_of, HasRoomFor};
 ghost use Rattle.rbac_decide.specs.Counting.{authorized_by, count_by_tables, breaks_some, AreCountsBy, IsPrepared, IsPlannedBy, counts_planned, without_static, remaining};
 ghost use Rattle.rbac_decide.specs.Tables.{IsUndenied};
 ghost use Rattle.rbac_decide.specs.declared.counting.PlannedCounts.TheVariants.{Told, Recounted};
@@ -24,7 +24,7 @@ use std::alloc::{AllocError, Global};
 pub(crate) enum PlannedCounts {
     /// The counts that change, as they are after it.
     Told { counts: CountPlan },
-    /// The sets and users whose counts may change, with room for them.
+    /// The sets and users whose counts may change, numbered, with room for their counts.
     Recounted { pairs: RecountPlan },
 }
 
@@ -89,7 +89,7 @@ fn forget(command: &Command, counts: &mut Counts)
 fn plan_told(counts: &mut Counts, told: Vec<CountChange>) -> Result<PlannedCounts, AllocError>
     ensures numbers { numbers_of counts.new ≡ numbers_of counts.old }
     ensures planned { IfOk result (λ plan. plan ≡ Told told.items) }
-    ensures room { IfOk result (λ plan. counts_planned plan ≤ counts.new.room) }
+    ensures room { IfOk result (λ plan. HasRoomFor (counts_planned plan) counts.new) }
 {
     Ok(PlannedCounts::Told {
         counts: counts.plan(told)?,
@@ -103,7 +103,7 @@ fn plan_recounted(
 ) -> Result<PlannedCounts, AllocError>
     ensures numbers { numbers_of counts.new ≡ numbers_of counts.old }
     ensures planned { IfOk result (λ plan. plan ≡ Recounted pairs.items) }
-    ensures room { IfOk result (λ plan. counts_planned plan ≤ counts.new.room) }
+    ensures room { IfOk result (λ plan. HasRoomFor (counts_planned plan) counts.new) }
 {
     Ok(PlannedCounts::Recounted {
         pairs: counts.plan_recount(pairs)?,
@@ -125,7 +125,7 @@ pub(crate) fn plan_counts(
     requires undenied { IsUndenied command.now tables.now }
     ensures numbers { numbers_of counts.new ≡ numbers_of counts.old }
     ensures planned { IfOk result (λ plan. IsPlannedBy plan command.now counts.new tables.now) }
-    ensures room { IfOk result (λ plan. counts_planned plan ≤ counts.new.room) }
+    ensures room { IfOk result (λ plan. HasRoomFor (counts_planned plan) counts.new) }
 {
     match command {
         Command::AssignUser { user, role } => {
@@ -151,7 +151,7 @@ pub(crate) fn commit_counts(
     counts: &mut Counts,
 )
     requires prepared { IsPrepared command.now plan counts.old tables.now }
-    requires room { counts_planned plan ≤ counts.old.room }
+    requires room { HasRoomFor (counts_planned plan) counts.old }
     ensures { AreCountsBy tables.now counts.new }
 {
     match plan {

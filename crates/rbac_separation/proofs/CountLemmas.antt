@@ -1,5 +1,5 @@
 -- What is found at places of counts after they change.
-use Rattle.std.proofs.Common.{ℕ, ◌≡◌, Bool, true, false, not, cond, ◌&&◌, ◌==◌, List, [], ◌∷◌, filter, Option, Some, None, refl, sym, ap, ◌∙◌, true≢false}
+use Rattle.std.proofs.Common.{ℕ, ◌≡◌, Bool, true, false, not, cond, ◌&&◌, ◌==◌, List, [], ◌∷◌, filter, Option, Some, None, is_some, refl, sym, ap, ◌∙◌, true≢false}
 use Rattle.std.proofs.lemmas.Bool.{and_parts, eq-eqb}
 use Rattle.std.specs.Map.{lookup}
 use Rattle.std.specs.Option.{unwrap_or}
@@ -9,7 +9,8 @@ use Rattle.rbac_terms.specs.Name.{Name, name_cmp}
 use Rattle.rbac_terms.proofs.NameLemmas.{names_exact}
 use Rattle.std.specs.FinMap.Entries.{find}
 use Rattle.rbac_separation.specs.Counts.{Counts, IsKept, numbers_of, pair_eq, place_of, number_at, with_number, without_set, without_user}
-use Rattle.rbac_separation.proofs.NumberLemmas.{Some-same, None-not, one_number, IsAdded, IsFree, added_same, free_before, free_but, gone_read}
+use Rattle.rbac_separation.proofs.NumberLemmas.{Some-same, None-not, one_number, IsFree, more_same, free_but, gone_read}
+use Rattle.rbac_separation.specs.Numbered.{IsMore}
 
 abbrev pub Entries : Type 0
 Entries = List ((ℕ × ℕ) × ℕ)
@@ -144,13 +145,11 @@ set_kept sets users es fs set user i j w is_set is_user changed kept =
     }
 
 -- nor after names have numbers that had none
-pub added_kept : (sets users more_sets more_users : List (Name × ℕ)) (es : Entries) (set user : Name) (i j : ℕ)
-    → IsAdded (λ x. find name_cmp x sets) (λ x. find name_cmp x more_sets) set i → IsAdded (λ x. find name_cmp x users) (λ x. find name_cmp x more_users) user j
-    → IsKept sets users es → IsKept more_sets more_users es
-added_kept sets users more_sets more_users es set user i j a b kept =
+pub more_kept : (sets users more_sets more_users : List (Name × ℕ)) (es : Entries) → IsMore sets more_sets → IsMore users more_users → IsKept sets users es → IsKept more_sets more_users es
+more_kept sets users more_sets more_users es a b kept =
     record {
-      of_sets = λ k free l. kept.of_sets k (free_before (λ x. find name_cmp x sets) (λ x. find name_cmp x more_sets) set i a k free) l;
-      of_users = λ l free k. kept.of_users l (free_before (λ x. find name_cmp x users) (λ x. find name_cmp x more_users) user j b l free) k;
+      of_sets = λ k free j. kept.of_sets k (λ x is. free x (a.kept x k is)) j;
+      of_users = λ j free k. kept.of_users j (λ x is. free x (b.kept x j is)) k;
     }
 
 no_user : (found : Found) (a : Option ℕ) → number_at (place_of a None) found ≡ 0
@@ -166,15 +165,19 @@ bare_user found j None none = refl
 bare_user found j (Some i) none = ap (λ o. unwrap_or o 0) (none i)
 
 -- names that have numbers now change no number of a set and a user
-pub added_numbers : (sets users more_sets more_users : List (Name × ℕ)) (es : Entries) (set user : Name) (i j : ℕ)
-    → IsAdded (λ x. find name_cmp x sets) (λ x. find name_cmp x more_sets) set i → IsAdded (λ x. find name_cmp x users) (λ x. find name_cmp x more_users) user j
-    → IsKept sets users es
+pub more_numbers : (sets users more_sets more_users : List (Name × ℕ)) (es : Entries) → IsMore sets more_sets → IsMore users more_users → IsKept sets users es
     → (s u : Name) → number_at (place_of (find name_cmp s more_sets) (find name_cmp u more_users)) (found_in es) ≡ number_at (place_of (find name_cmp s sets) (find name_cmp u users)) (found_in es)
-added_numbers sets users more_sets more_users es set user i j a b kept s u =
-    added_same (λ x. find name_cmp x sets) (λ x. find name_cmp x more_sets) set i a (λ o. number_at (place_of o (find name_cmp u more_users)) (found_in es)) refl
-    (λ free. bare_set (found_in es) i (find name_cmp u more_users) (kept.of_sets i free)) s
-    ∙ added_same (λ x. find name_cmp x users) (λ x. find name_cmp x more_users) user j b (λ o. number_at (place_of (find name_cmp s sets) o) (found_in es)) (no_user (found_in es) (find name_cmp s sets))
-    (λ free. bare_user (found_in es) j (find name_cmp s sets) (kept.of_users j free)) u
+more_numbers sets users more_sets more_users es a b kept s u =
+    more_same sets more_sets a (λ o. number_at (place_of o (find name_cmp u more_users)) (found_in es)) refl
+    (λ i free. bare_set (found_in es) i (find name_cmp u more_users) (kept.of_sets i free)) s
+    ∙ more_same users more_users b (λ o. number_at (place_of (find name_cmp s sets) o) (found_in es)) (no_user (found_in es) (find name_cmp s sets))
+    (λ j free. bare_user (found_in es) j (find name_cmp s sets) (kept.of_users j free)) u
+
+-- a set and a user that have numbers have a place
+pub has_place : (a b : Option ℕ) → (is_some a && is_some b) ≡ true → place_of a b ≡ None → ⊥
+has_place None b e none = true≢false (sym e)
+has_place (Some i) None e none = true≢false (sym e)
+has_place (Some i) (Some j) e none = None-not (sym none)
 
 -- a set or a user without numbers has none to lose
 pub none_put : (numbers : Name → Name → ℕ) (set user : Name) → numbers set user ≡ 0 → numbers ≡ with_number set user 0 numbers

@@ -1,5 +1,5 @@
 -- Numbers that names have, and what a name more or less makes of what is kept by them.
-use Rattle.std.proofs.Common.{ℕ, List, ◌≢◌, ◌≡◌, ◌==◌, inl, inr, Bool, true, false, cond, Option, Some, None, is_some, refl, sym, ap, ◌∙◌, true≢false}
+use Rattle.std.proofs.Common.{ℕ, List, ◌≢◌, ◌≡◌, ◌==◌, inl, inr, Bool, true, false, cond, Option, Some, None, is_some, IfSome, IfNone, refl, sym, ap, ◌∙◌, true≢false}
 use Rattle.std.proofs.lemmas.Bool.{eq-eqb, cases_eq}
 use Rattle.std.proofs.lemmas.Bool.Decides.{eqb_tells}
 use Rattle.std.specs.Option.{unwrap_or}
@@ -11,13 +11,17 @@ use Rattle.sorted_keys.proofs.Lookups.{find-without_key}
 use Rattle.sorted_keys.proofs.Ties.{one_key, ties_itself}
 use Rattle.rbac_terms.specs.Name.{Name, name_cmp}
 use Rattle.rbac_terms.proofs.NameLemmas.{names_total, names_exact}
-use Rattle.rbac_separation.specs.Numbered.{IsNumbered}
+use Rattle.rbac_separation.specs.Numbered.{IsNumbered, IsMore}
 
 pub Some-same : {X : Type 0} {x y : X} → Some x ≡ Some y → x ≡ y
 Some-same {X} {x} {y} e = ap (λ o. unwrap_or o x) e
 
 pub None-not : {X : Type 0} {x : X} → None ≡ Some x → ⊥
 None-not e = true≢false (sym (ap is_some e))
+
+pub none_of : {X : Type 0} (o : Option X) → is_some o ≡ false → o ≡ None
+none_of None e = refl
+none_of (Some x) e = absurd (true≢false e)
 
 pub one_number : (i k : ℕ) → i == k ≡ true → i ≡ k
 one_number i k e = elim (eqb_tells i k) [
@@ -35,32 +39,35 @@ pub record IsAdded (before after : Name → Option ℕ) (name : Name) (i : ℕ) 
 abbrev pub IsFree : (Name → Option ℕ) → ℕ → Type 0
 IsFree numbers i = (x : Name) → numbers x ≡ Some i → ⊥
 
+-- no name more
+pub same_more : (es : List (Name × ℕ)) → IsMore es es
+same_more es = record { kept = λ x n is. is; fresh = λ x n none is. absurd (None-not (sym none ∙ is)) }
+
+-- a name that has a number, and keeps it
+pub still_numbered : (es fs : List (Name × ℕ)) (name : Name) → IsMore es fs → is_some (find name_cmp name es) ≡ true → is_some (find name_cmp name fs) ≡ true
+still_numbered es fs name more is = go (find name_cmp name es) refl
+  where
+    go : (o : Option ℕ) → find name_cmp name es ≡ o → is_some (find name_cmp name fs) ≡ true
+    go (Some n) e = ap is_some (more.kept name n e)
+    go None e = absurd (true≢false (sym is ∙ ap is_some e))
+
+-- a name that was to be added, or had a number before
+pub numbered_now : (added : Option Name) (es fs : List (Name × ℕ)) (name : Name) → IfNone added (is_some (find name_cmp name es) ≡ true) → IfSome added (λ own. own ≡ name)
+    → IfSome added (λ own. is_some (find name_cmp own fs) ≡ true) → IsMore es fs → is_some (find name_cmp name fs) ≡ true
+numbered_now None es fs name was own now more = still_numbered es fs name more was
+numbered_now (Some x) es fs name was own now more = ap (λ y. is_some (find name_cmp y fs)) (sym own) ∙ now
+
+-- what is read by numbers stays where names get numbers at which nothing is read
+pub more_same : (es fs : List (Name × ℕ)) → IsMore es fs → (read : Option ℕ → ℕ) → read None ≡ 0 → ((n : ℕ) → IsFree (λ x. find name_cmp x es) n → read (Some n) ≡ 0)
+    → (x : Name) → read (find name_cmp x fs) ≡ read (find name_cmp x es)
+more_same es fs more read none free x = go (find name_cmp x es) (find name_cmp x fs) refl refl
+  where
+    go : (a b : Option ℕ) → find name_cmp x es ≡ a → find name_cmp x fs ≡ b → read (find name_cmp x fs) ≡ read (find name_cmp x es)
+    go (Some n) b is now = ap read (more.kept x n is ∙ sym is)
+    go None None is now = ap read (now ∙ sym is)
+    go None (Some n) is now = ap read now ∙ free n (more.fresh x n is now) ∙ sym none ∙ sym (ap read is)
+
 module _ (before after : Name → Option ℕ) (name : Name) (i : ℕ) (added : IsAdded before after name i) where
-  pub added_found : after name ≡ Some i
-  added_found = added.numbers name ∙ ap (λ b. cond b (Some i) (before name)) (ties_itself names_total name)
-
-  -- what is read by numbers stays, where nothing was at a free one
-  pub added_same : (read : Option ℕ → ℕ) → read None ≡ 0 → (IsFree before i → read (Some i) ≡ 0) → (x : Name) → read (after x) ≡ read (before x)
-  added_same read none free x = ap read (added.numbers x) ∙ go (eq_by_cmp name_cmp x name) refl
-    where
-      first : (o : Option ℕ) → before name ≡ o → read (Some i) ≡ read o
-      first (Some n) e = ap (λ k. read (Some k)) (sym (added.kept n e))
-      first None e = free (λ y is. None-not (sym e ∙ ap before (sym (one_key names_exact y name (added.own y is))) ∙ is)) ∙ sym none
-
-      go : (b : Bool) → eq_by_cmp name_cmp x name ≡ b → read (cond b (Some i) (before x)) ≡ read (before x)
-      go true e = first (before name) refl ∙ ap (λ y. read (before y)) (sym (one_key names_exact x name e))
-      go false e = refl
-
-  -- what is free after was free before
-  pub free_before : (k : ℕ) → IsFree after k → IsFree before k
-  free_before k free x is = go (eq_by_cmp name_cmp x name) refl
-    where
-      go : (b : Bool) → eq_by_cmp name_cmp x name ≡ b → ⊥
-      go true e =
-          let named : before name ≡ Some k = ap before (sym (one_key names_exact x name e)) ∙ is in
-          free name (added_found ∙ ap (λ n. Some n) (sym (added.kept k named)))
-      go false e = free x (added.numbers x ∙ ap (λ b. cond b (Some i) (before x)) e ∙ is)
-
   -- no two names have one number
   pub added_own : ((a b : Name) (n : ℕ) → before a ≡ Some n → before b ≡ Some n → eq_by_cmp name_cmp a b ≡ true) → (a b : Name) (n : ℕ) → after a ≡ Some n → after b ≡ Some n → eq_by_cmp name_cmp a b ≡ true
   added_own own a b n is also = go (eq_by_cmp name_cmp a name) (eq_by_cmp name_cmp b name) refl refl
@@ -141,6 +148,31 @@ module _ {X : Type 0} (es fs : List (Name × ℕ)) (old new : Slab X) (name : Na
         kept = λ n is. absurd (None-not (sym none ∙ is));
         own = λ x is. absurd (true≢false (sym (numbered.taken x i is) ∙ ap is_some vacant));
       }
+
+  -- which is a name more
+  pub fresh_more : find name_cmp name es ≡ None → get old i ≡ None → fs ≡ put name_cmp name i es → IsMore es fs
+  fresh_more none vacant made =
+      record {
+        kept = λ x n is. was x n is (eq_by_cmp name_cmp x name) refl;
+        fresh = λ x n free is other at. more x n free is (eq_by_cmp name_cmp x name) refl other at;
+      }
+    where
+      added : IsAdded (λ x. find name_cmp x es) (λ x. find name_cmp x fs) name i
+      added = fresh_added none vacant made
+
+      was : (x : Name) (n : ℕ) → find name_cmp x es ≡ Some n → (b : Bool) → eq_by_cmp name_cmp x name ≡ b → find name_cmp x fs ≡ Some n
+      was x n is true e = absurd (None-not (sym none ∙ ap (λ y. find name_cmp y es) (sym (one_key names_exact x name e)) ∙ is))
+      was x n is false e = added.numbers x ∙ ap (λ b. cond b (Some i) (find name_cmp x es)) e ∙ is
+
+      more : (x : Name) (n : ℕ) → find name_cmp x es ≡ None → find name_cmp x fs ≡ Some n → (b : Bool) → eq_by_cmp name_cmp x name ≡ b → IsFree (λ y. find name_cmp y es) n
+      more x n free is true e other at =
+          let here : n ≡ i = sym (Some-same (sym (ap (λ b. cond b (Some i) (find name_cmp x es)) e) ∙ sym (added.numbers x) ∙ is)) in
+          true≢false (sym (numbered.taken other i (at ∙ ap (λ k. Some k) here)) ∙ ap is_some vacant)
+      more x n free is false e other at = None-not (sym free ∙ sym (ap (λ b. cond b (Some i) (find name_cmp x es)) e) ∙ sym (added.numbers x) ∙ is)
+
+  -- and has a number
+  pub fresh_found : find name_cmp name es ≡ None → get old i ≡ None → fs ≡ put name_cmp name i es → is_some (find name_cmp name fs) ≡ true
+  fresh_found none vacant made = ap is_some ((fresh_added none vacant made).numbers name ∙ ap (λ b. cond b (Some i) (find name_cmp name es)) (ties_itself names_total name))
 
   -- and all names have numbers of their own
   pub fresh_numbered : find name_cmp name es ≡ None → get old i ≡ None → fs ≡ put name_cmp name i es → is_some (get new i) ≡ true → ((k : ℕ) → k ≢ i → get new k ≡ get old k) → IsNumbered fs new

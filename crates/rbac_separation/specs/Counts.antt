@@ -1,5 +1,6 @@
 -- Numbers kept of sets of roles and users, and what they say of a set.
-use Rattle.std.specs.Prelude.{ℕ, ◌≡◌, ◌+◌, List, [], ◌∷◌, Bool, ◌&&◌, ◌==◌, Option, Some, None, if◌then◌else◌, nat_le, count_by}
+use Rattle.std.specs.Prelude.{ℕ, ◌≡◌, ◌≤◌, ◌+◌, List, [], ◌∷◌, length, map, Bool, true, ◌&&◌, ◌==◌, Option, Some, None, is_some, if◌then◌else◌, nat_le, count_by}
+use Rattle.std.specs.List.{list_all}
 use Rattle.std.specs.Ordering.{eq_by_cmp}
 use Rattle.std.specs.Option.{unwrap_or}
 use Rattle.std.specs.Map.{lookup}
@@ -15,7 +16,7 @@ pub record Kept : Type 0 where
   pub users : List (Name × ℕ)
   pub numbers : List ((ℕ × ℕ) × ℕ)
 
--- what is kept of sets and users, and for how many more pairs of them there is room
+-- what is kept of sets and users, and room for so many more counts
 pub record Counts : Type 0 where
   pub content : Kept
   pub room : ℕ
@@ -40,6 +41,15 @@ abbrev pub numbers_of : Counts → Name → Name → ℕ
 numbers_of counts set user =
     number_at (place_of (find name_cmp set counts.content.sets) (find name_cmp user counts.content.users)) (λ p. lookup (pair_eq p) counts.content.numbers)
 
+-- whether the names of a set and a user are numbered
+abbrev pub is_numbered : Counts → Name × Name → Bool
+is_numbered counts pair = is_some (find name_cmp pair.0 counts.content.sets) && is_some (find name_cmp pair.1 counts.content.users)
+
+-- all these names are numbered, and there is room for a count of each pair
+pub record HasRoomFor (pairs : List (Name × Name)) (counts : Counts) : Type 0 where
+  pub numbered : list_all (is_numbered counts) pairs ≡ true
+  pub room : length pairs ≤ counts.room
+
 -- nothing stands at a number that no set has, or no user
 pub record IsKept (sets users : List (Name × ℕ)) (numbers : List ((ℕ × ℕ) × ℕ)) : Type 0 where
   pub of_sets : (i : ℕ) → ((set : Name) → find name_cmp set sets ≡ Some i → ⊥) → (j : ℕ) → lookup (pair_eq (i, j)) numbers ≡ None
@@ -57,6 +67,10 @@ with_number set user n numbers s u = if eq_by_cmp name_cmp set s && eq_by_cmp na
 abbrev pub with_numbers : List CountChange → (Name → Name → ℕ) → Name → Name → ℕ
 with_numbers [] numbers = numbers
 with_numbers (change ∷ changes) numbers = with_numbers changes (with_number change.set change.user change.number numbers)
+
+-- the sets and users of these changes
+abbrev pub pairs_of : List CountChange → List (Name × Name)
+pairs_of changes = map (λ change. (change.set, change.user)) changes
 
 -- 0 for a set, with each user
 abbrev pub without_set : Name → (Name → Name → ℕ) → Name → Name → ℕ

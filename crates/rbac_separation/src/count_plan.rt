@@ -1,6 +1,7 @@
 //! Numbers of sets and users that are planned before a change, and then given.
-ghost use Rattle.std.specs.Prelude.{◌≡◌, ◌≤◌, length, IfOk};
-ghost use Rattle.rbac_separation.specs.Counts.{numbers_of, with_numbers};
+ghost use Rattle.std.specs.Prelude.{◌≡◌, true, IfOk, OnOk};
+ghost use Rattle.std.specs.List.{list_all};
+ghost use Rattle.rbac_separation.specs.Counts.{numbers_of, with_numbers, is_numbered, pairs_of, HasRoomFor};
 
 use crate::counts::Counts;
 use rbac_terms::Name;
@@ -31,16 +32,29 @@ impl Model for CountPlan {
 }
 
 impl Counts {
-    /// Makes room for these numbers. The numbers stay as they are, also where memory ends. Where there are none nothing is done.
+    // Numbers the names of these changes.
+    fn number_changes(&mut self, changes: &[CountChange]) -> Result<(), AllocError>
+        ensures numbers { numbers_of self.new ≡ numbers_of self.old }
+        ensures numbered { OnOk result (list_all (is_numbered self.new) (pairs_of changes.now) ≡ true) }
+    {
+        for change in changes {
+            self.number_names(&change.set, &change.user)?;
+        }
+        Ok(())
+    }
+
+    /// Numbers the names and makes room for these numbers. The numbers of sets and users stay as they are, also where memory ends.
+    /// Where there are none nothing is done.
     ///
     /// # Errors
     /// `AllocError` where there is no memory for so many more. No number has changed.
     pub fn plan(&mut self, changes: Vec<CountChange>) -> Result<CountPlan, AllocError>
         ensures numbers { numbers_of self.new ≡ numbers_of self.old }
         ensures changes { IfOk result (λ plan. plan ≡ changes.items) }
-        ensures room { IfOk result (λ plan. length plan ≤ self.new.room) }
+        ensures room { IfOk result (λ plan. HasRoomFor (pairs_of plan) self.new) }
     {
         if !changes.is_empty() {
+            self.number_changes(&changes)?;
             self.reserve(changes.len())?;
         }
         Ok(CountPlan { changes })
@@ -48,12 +62,11 @@ impl Counts {
 
     /// Gives each set and user of a plan its number. Takes no memory.
     pub fn commit(&mut self, plan: CountPlan)
-        requires { length plan ≤ self.old.room }
+        requires { HasRoomFor (pairs_of plan) self.old }
         ensures { numbers_of self.new ≡ with_numbers plan (numbers_of self.old) }
     {
         for change in plan.changes {
-            let CountChange { set, user, number } = change;
-            self.put_ready((set, user), number);
+            self.put_ready(&change.set, &change.user, change.number);
         }
     }
 }

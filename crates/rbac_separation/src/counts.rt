@@ -1,9 +1,10 @@
 //! Numbers kept of sets and users.
-ghost use Rattle.std.specs.Prelude.{◌≡◌, ◌<◌, ◌≤◌, ◌+◌, ◌==◌, not, IfOk, OnOk, OnErr};
+ghost use Rattle.std.specs.Prelude.{◌≡◌, ◌<◌, ◌≤◌, ◌+◌, ◌==◌, not, IsTrue, IfOk, OnOk, OnErr};
 ghost use Rattle.std.specs.Option.{option_copied};
 ghost use Rattle.std.specs.FinMap.Entries.{find};
 ghost use Rattle.rbac_terms.specs.Name.{name_cmp};
-ghost use Rattle.rbac_separation.specs.Counts.{numbers_of, place_of, no_numbers, with_number, without_set, without_user, first_over};
+ghost use Rattle.rbac_separation.specs.Counts.{numbers_of, place_of, no_numbers, with_number, without_set, without_user, first_over, is_numbered};
+ghost use Rattle.rbac_separation.specs.Numbered.{IsMore};
 
 use crate::numbered::Numbered;
 use crate::role_set::RoleSet;
@@ -17,6 +18,7 @@ use std::marker::Model;
 /// set a user is authorized for.
 #[derive(Drop)]
 pub struct Counts {
+    // Names are numbered when a plan is made, or by the first number that is put: those that no number is kept of stand here too.
     sets: Numbered,
     users: Numbered,
     // By the numbers of a set and a user, and none of them is 0. So a look-up by names that are lent wants no names of its own.
@@ -24,13 +26,12 @@ pub struct Counts {
 }
 
 impl Model for Counts {
-    ghost use Rattle.std.specs.Prelude.{min};
     ghost use Rattle.indexmap.specs.IndexMap.{spare};
     ghost use Rattle.rbac_separation.specs.Counts.{Counts as CountsValue, IsKept};
 
     ghost Value = { CountsValue };
 
-    ghost view = { λ c. record { content = record { sets = c.sets.content; users = c.users.content; numbers = c.numbers.entries }; room = min (min c.sets.room c.users.room) (spare c.numbers) } };
+    ghost view = { λ c. record { content = record { sets = c.sets.content; users = c.users.content; numbers = c.numbers.entries }; room = spare c.numbers } };
 
     ghost invariant = { λ c. IsKept c.sets.content c.users.content c.numbers.entries };
 }
@@ -65,7 +66,7 @@ impl Counts {
         }
     }
 
-    // Where the number of a set and a user is kept, if both have numbers.
+    // Where the number of a set and a user is kept, if both names are numbered.
     #[inline(always)]
     fn place(&self, set: &Name, user: &Name) -> Option<(usize, usize)>
         ensures { result ≡ place_of (find name_cmp set.now self.now.content.sets) (find name_cmp user.now self.now.content.users) }
@@ -91,6 +92,8 @@ impl Counts {
     // Takes the number of a set and a user out.
     fn take_out(&mut self, set: &Name, user: &Name)
         ensures numbers { numbers_of self.new ≡ with_number set.now user.now 0 (numbers_of self.old) }
+        ensures sets { self.new.content.sets ≡ self.old.content.sets }
+        ensures users { self.new.content.users ≡ self.old.content.users }
         ensures room { self.old.room ≤ self.new.room }
     {
         if let Some(place) = self.place(set, user) {
@@ -100,8 +103,8 @@ impl Counts {
         }
     }
 
-    /// Gives a set and a user a number. Names are copied where one of the two has no number of its own yet. 0 takes the number
-    /// out: that needs no memory, nor does another number for the same pair.
+    /// Gives a set and a user a number. A name is copied where it is not numbered yet. 0 takes the number out: that needs no memory,
+    /// nor does another number for the same pair.
     ///
     /// # Errors
     /// `AllocError` where there is no memory for it. Nothing has changed.
@@ -122,40 +125,61 @@ impl Counts {
             return Ok(());
         }
         self.reserve(1)?;
-        let key = (set.copy()?, user.copy()?);
-        self.put_ready(key, number);
+        self.number_names(set, user)?;
+        self.put_ready(set, user, number);
         Ok(())
     }
 
-    /// Makes room for the numbers of so many more pairs. The numbers stay as they are, also where memory ends.
+    /// Numbers the names of a set and a user, and copies only one that was not numbered. The numbers of sets and users stay as they
+    /// are.
+    ///
+    /// # Errors
+    /// `AllocError` where there is no memory for it. Nothing has changed.
+    pub(crate) fn number_names(&mut self, set: &Name, user: &Name) -> Result<(), AllocError>
+        ensures numbers { numbers_of self.new ≡ numbers_of self.old }
+        ensures numbered { OnOk result (IsTrue (is_numbered self.new (set.now, user.now))) }
+        ensures sets { IsMore self.old.content.sets self.new.content.sets }
+        ensures users { IsMore self.old.content.users self.new.content.users }
+        ensures unchanged { OnErr result (self.new.content ≡ self.old.content) }
+        ensures room { self.new.room ≡ self.old.room }
+    {
+        let set = self.sets.to_add(set)?;
+        let user = self.users.to_add(user)?;
+        self.sets.add(set);
+        self.users.add(user);
+        Ok(())
+    }
+
+    /// Makes room for the numbers of so many more pairs, and none for names. The numbers stay as they are, also where memory ends.
     ///
     /// # Errors
     /// `AllocError` where there is no memory for so many more. No number has changed.
-    pub fn reserve(&mut self, more: usize) -> Result<(), AllocError>
+    pub(crate) fn reserve(&mut self, more: usize) -> Result<(), AllocError>
         ensures numbers { numbers_of self.new ≡ numbers_of self.old }
         ensures content { self.new.content ≡ self.old.content }
         ensures room { OnOk result (more ≤ self.new.room) }
     {
-        self.sets.reserve(more)?;
-        self.users.reserve(more)?;
         self.numbers.reserve(more)
     }
 
-    /// Gives a set and a user a number, where there is room. Takes no memory.
-    pub fn put_ready(&mut self, key: (Name, Name), number: u32)
-        requires { 0 < self.old.room }
-        ensures numbers { numbers_of self.new ≡ with_number key.0 key.1 number (numbers_of self.old) }
+    /// Gives a set and a user a number, where their names are numbered and there is room. Takes no memory.
+    pub(crate) fn put_ready(&mut self, set: &Name, user: &Name, number: u32)
+        requires numbered { IsTrue (is_numbered self.old (set.now, user.now)) }
+        requires room { 0 < self.old.room }
+        ensures numbers { numbers_of self.new ≡ with_number set.now user.now number (numbers_of self.old) }
+        ensures sets { self.new.content.sets ≡ self.old.content.sets }
+        ensures users { self.new.content.users ≡ self.old.content.users }
         ensures room { self.old.room ≤ self.new.room + 1 }
     {
         if number == 0 {
-            self.take_out(&key.0, &key.1);
+            self.take_out(set, user);
             return;
         }
-        let set = self.sets.add_ready(key.0);
-        let user = self.users.add_ready(key.1);
-        self.sets.invariants();
-        self.users.invariants();
-        self.numbers.insert((set, user), number).unwrap();
+        if let Some(place) = self.place(set, user) {
+            self.sets.invariants();
+            self.users.invariants();
+            self.numbers.insert(place, number).unwrap();
+        }
     }
 
     /// Takes the numbers of a set out. Takes no memory.

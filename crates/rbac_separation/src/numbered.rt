@@ -1,8 +1,9 @@
 //! Names that get numbers of their own.
-ghost use Rattle.std.specs.Prelude.{◌≡◌, ◌<◌, ◌≤◌, ◌+◌, ℕ, [], true, Some, None, IfOk, OnOk, if◌then◌else◌};
+ghost use Rattle.std.specs.Prelude.{◌≡◌, ◌<◌, ◌≤◌, ℕ, [], true, Some, None, is_some, IfOk, IfSome, IfNone, OnOk, if◌then◌else◌};
 ghost use Rattle.std.specs.FinMap.Entries.{find};
 ghost use Rattle.std.specs.Ordering.{eq_by_cmp};
 ghost use Rattle.rbac_terms.specs.Name.{Name as NameValue, name_cmp};
+ghost use Rattle.rbac_separation.specs.Numbered.{IsMore};
 
 use hashed_keys::HashedMap;
 use rbac_terms::Name;
@@ -73,20 +74,45 @@ impl Numbered {
         self.numbers.reserve(more)
     }
 
-    /// The number of a name, which it gets where it has none. Takes no memory.
-    pub(crate) fn add_ready(&mut self, name: Name) -> usize
-        requires { 0 < self.old.room }
-        ensures numbers { (other : NameValue) → find name_cmp other self.new.content ≡ (if eq_by_cmp name_cmp other name then Some result else find name_cmp other self.old.content) }
-        ensures kept { (n : ℕ) → find name_cmp name self.old.content ≡ Some n → n ≡ result }
-        ensures own { (other : NameValue) → find name_cmp other self.old.content ≡ Some result → eq_by_cmp name_cmp other name ≡ true }
-        ensures room { self.old.room ≤ self.new.room + 1 }
+    /// A copy of a name that has no number yet, with room for it.
+    ///
+    /// # Errors
+    /// `AllocError` where there is no memory for it. Each name has its number as before.
+    pub(crate) fn to_add(&mut self, name: &Name) -> Result<Option<Name>, AllocError>
+        ensures content { self.new.content ≡ self.old.content }
+        ensures numbered { IfOk result (λ added. IfNone added (is_some (find name_cmp name.now self.new.content) ≡ true)) }
+        ensures own { IfOk result (λ added. IfSome added (λ own. own ≡ name.now)) }
+        ensures room { IfOk result (λ added. IfSome added (λ own. 0 < self.new.room)) }
     {
-        if let Some(number) = self.number(&name) {
-            return number;
+        if self.number(name).is_some() {
+            return Ok(None);
+        }
+        self.reserve(1)?;
+        Ok(Some(name.copy()?))
+    }
+
+    // Gives a name a number where it has none. Takes no memory.
+    fn add_ready(&mut self, name: Name)
+        requires { 0 < self.old.room }
+        ensures more { IsMore self.old.content self.new.content }
+        ensures numbered { is_some (find name_cmp name self.new.content) ≡ true }
+    {
+        if self.number(&name).is_some() {
+            return;
         }
         let number = self.numbers.insert_reserved(());
         self.names.put(name, number);
-        number
+    }
+
+    /// Gives the name that is to be added, if there is one, a number. Takes no memory.
+    pub(crate) fn add(&mut self, added: Option<Name>)
+        requires { IfSome added (λ own. 0 < self.old.room) }
+        ensures more { IsMore self.old.content self.new.content }
+        ensures numbered { IfSome added (λ own. is_some (find name_cmp own self.new.content) ≡ true) }
+    {
+        if let Some(name) = added {
+            self.add_ready(name);
+        }
     }
 
     /// Takes a name out, and its number may be another's.

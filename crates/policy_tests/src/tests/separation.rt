@@ -1,5 +1,5 @@
 //! Each public call of `rbac_separation` with ample memory. What is expected was written by hand.
-ghost use Rattle.std.specs.Prelude.{◌≤◌, length};
+ghost use Rattle.rbac_separation.specs.Counts.{pairs_of, HasRoomFor};
 
 use super::named::{assert_names, name, name_set};
 use rbac_separation::{
@@ -294,20 +294,6 @@ fn another_number_takes_its_place_and_0_takes_it_out(rt: HostRuntime) {
     drop(counts);
 }
 
-#[test]
-fn numbers_are_put_where_there_is_room(rt: HostRuntime) {
-    let alloc = rt.alloc();
-    let mut counts = some_counts(&rt, alloc);
-    let ann = (name(&rt, alloc, "d"), name(&rt, alloc, "ann"));
-    let bob = (name(&rt, alloc, "d"), name(&rt, alloc, "bob"));
-    counts.reserve(2).expect(&rt, "memory");
-    assert_numbers(&rt, alloc, &counts, (1, 1, 2));
-    counts.put_ready(ann, 3);
-    counts.put_ready(bob, 0);
-    assert_numbers(&rt, alloc, &counts, (3, 1, 0));
-    drop(counts);
-}
-
 // Whether the first set of which the user would have too many roles, with these besides, is this one: "" where there is none.
 fn is_over_with(
     rt: &impl Abort,
@@ -407,23 +393,50 @@ impl Numbering for OneNumber {
     }
 }
 
+fn change(rt: &impl Abort, alloc: Global, set: &str, user: &str, number: u32) -> CountChange {
+    CountChange {
+        set: name(rt, alloc, set),
+        user: name(rt, alloc, user),
+        number,
+    }
+}
+
 // Plans this number of d and ann.
 fn plan_number(rt: &impl Abort, alloc: Global, counts: &mut Counts, number: u32) -> CountPlan
-    ensures { length result ≤ counts.new.room }
+    ensures { HasRoomFor (pairs_of result) counts.new }
 {
     let mut changes = Vec::new(alloc);
-    let change = CountChange {
-        set: name(rt, alloc, "d"),
-        user: name(rt, alloc, "ann"),
-        number,
-    };
-    changes.push(change).expect(rt, "memory");
+    changes
+        .push(change(rt, alloc, "d", "ann", number))
+        .expect(rt, "memory");
+    counts.plan(changes).expect(rt, "memory")
+}
+
+// Plans the numbers of d and e with ann, and of d with bob.
+fn plan_numbers(
+    rt: &impl Abort,
+    alloc: Global,
+    counts: &mut Counts,
+    wanted: (u32, u32, u32),
+) -> CountPlan
+    ensures { HasRoomFor (pairs_of result) counts.new }
+{
+    let mut changes = Vec::new(alloc);
+    changes
+        .push(change(rt, alloc, "d", "ann", wanted.0))
+        .expect(rt, "memory");
+    changes
+        .push(change(rt, alloc, "e", "ann", wanted.1))
+        .expect(rt, "memory");
+    changes
+        .push(change(rt, alloc, "d", "bob", wanted.2))
+        .expect(rt, "memory");
     counts.plan(changes).expect(rt, "memory")
 }
 
 // Plans another number of d and ann.
 fn plan_recount(rt: &impl Abort, alloc: Global, counts: &mut Counts) -> RecountPlan
-    ensures { length result ≤ counts.new.room }
+    ensures { HasRoomFor result counts.new }
 {
     let mut pairs = Vec::new(alloc);
     let pair = (name(rt, alloc, "d"), name(rt, alloc, "ann"));
@@ -446,6 +459,39 @@ fn a_plan_of_numbers_changes_nothing_until_its_commit(rt: HostRuntime) {
     let plan = plan_number(&rt, alloc, &mut counts, 0);
     counts.commit(plan);
     assert_eq!(rt; number_of_ann(&rt, alloc, &counts), 0);
+    drop(counts);
+}
+
+#[test]
+fn a_plan_of_new_names_commits_to_just_its_numbers(rt: HostRuntime) {
+    let alloc = rt.alloc();
+    let mut counts = Counts::empty(alloc);
+    let plan = plan_numbers(&rt, alloc, &mut counts, (3, 0, 2));
+    assert_numbers(&rt, alloc, &counts, (0, 0, 0));
+    counts.commit(plan);
+    assert_numbers(&rt, alloc, &counts, (3, 0, 2));
+    assert_eq!(rt; number(&rt, alloc, &counts, "e", "bob"), 0);
+    drop(counts);
+}
+
+#[test]
+fn a_plan_that_is_dropped_changes_no_number(rt: HostRuntime) {
+    let alloc = rt.alloc();
+    let mut counts = some_counts(&rt, alloc);
+    drop(plan_numbers(&rt, alloc, &mut counts, (3, 0, 4)));
+    assert_numbers(&rt, alloc, &counts, (1, 1, 2));
+    drop(counts);
+}
+
+#[test]
+fn two_plans_are_committed_one_after_the_other(rt: HostRuntime) {
+    let alloc = rt.alloc();
+    let mut counts = Counts::empty(alloc);
+    let plan = plan_numbers(&rt, alloc, &mut counts, (1, 1, 2));
+    counts.commit(plan);
+    let plan = plan_numbers(&rt, alloc, &mut counts, (3, 0, 2));
+    counts.commit(plan);
+    assert_numbers(&rt, alloc, &counts, (3, 0, 2));
     drop(counts);
 }
 
