@@ -1,5 +1,5 @@
 -- What is found at places of counts after they change.
-use Rattle.std.proofs.Common.{ℕ, ◌≡◌, Bool, true, false, not, cond, ◌&&◌, ◌==◌, List, [], ◌∷◌, filter, Option, Some, None, is_some, refl, sym, ap, ◌∙◌, true≢false}
+use Rattle.std.proofs.Common.{ℕ, ◌≡◌, Bool, true, false, not, cond, ◌&&◌, ◌==◌, List, [], ◌∷◌, filter, Option, Some, None, refl, sym, ap, ◌∙◌, true≢false}
 use Rattle.std.proofs.lemmas.Bool.{and_parts, eq-eqb}
 use Rattle.std.specs.Map.{lookup}
 use Rattle.std.specs.Option.{unwrap_or}
@@ -172,12 +172,6 @@ more_numbers sets users more_sets more_users es a b kept s u =
     (λ i free. bare_set (found_in es) i (find name_cmp u more_users) (kept.of_sets i free)) s
     ∙ more_same users more_users b (λ o. number_at (place_of (find name_cmp s sets) o) (found_in es)) (no_user (found_in es) (find name_cmp s sets))
     (λ j free. bare_user (found_in es) j (find name_cmp s sets) (kept.of_users j free)) u
-
--- a set and a user that have numbers have a place
-pub has_place : (a b : Option ℕ) → (is_some a && is_some b) ≡ true → place_of a b ≡ None → ⊥
-has_place None b e none = true≢false (sym e)
-has_place (Some i) None e none = true≢false (sym e)
-has_place (Some i) (Some j) e none = None-not (sym none)
 
 -- a set or a user without numbers has none to lose
 pub none_put : (numbers : Name → Name → ℕ) (set user : Name) → numbers set user ≡ 0 → numbers ≡ with_number set user 0 numbers

@@ -1,5 +1,5 @@
 -- Numbers that names have, and what a name more or less makes of what is kept by them.
-use Rattle.std.proofs.Common.{ℕ, List, ◌≢◌, ◌≡◌, ◌==◌, inl, inr, Bool, true, false, cond, Option, Some, None, is_some, IfSome, IfNone, refl, sym, ap, ◌∙◌, true≢false}
+use Rattle.std.proofs.Common.{ℕ, List, ◌≢◌, ◌≡◌, ◌==◌, inl, inr, Bool, true, false, cond, Option, Some, None, is_some, refl, sym, ap, ◌∙◌, true≢false}
 use Rattle.std.proofs.lemmas.Bool.{eq-eqb, cases_eq}
 use Rattle.std.proofs.lemmas.Bool.Decides.{eqb_tells}
 use Rattle.std.specs.Option.{unwrap_or}
@@ -19,6 +19,7 @@ Some-same {X} {x} {y} e = ap (λ o. unwrap_or o x) e
 pub None-not : {X : Type 0} {x : X} → None ≡ Some x → ⊥
 None-not e = true≢false (sym (ap is_some e))
 
+-- no value where there is none
 pub none_of : {X : Type 0} (o : Option X) → is_some o ≡ false → o ≡ None
 none_of None e = refl
 none_of (Some x) e = absurd (true≢false e)
@@ -32,16 +33,11 @@ one_number i k e = elim (eqb_tells i k) [
 -- a name has this number, beside names that have theirs
 pub record IsAdded (before after : Name → Option ℕ) (name : Name) (i : ℕ) : Type 0 where
   pub numbers : (x : Name) → after x ≡ cond (eq_by_cmp name_cmp x name) (Some i) (before x)
-  pub kept : (n : ℕ) → before name ≡ Some n → n ≡ i
   pub own : (x : Name) → before x ≡ Some i → eq_by_cmp name_cmp x name ≡ true
 
 -- no name has this number
 abbrev pub IsFree : (Name → Option ℕ) → ℕ → Type 0
 IsFree numbers i = (x : Name) → numbers x ≡ Some i → ⊥
-
--- no name more
-pub same_more : (es : List (Name × ℕ)) → IsMore es es
-same_more es = record { kept = λ x n is. is; fresh = λ x n none is. absurd (None-not (sym none ∙ is)) }
 
 -- a name that has a number, and keeps it
 pub still_numbered : (es fs : List (Name × ℕ)) (name : Name) → IsMore es fs → is_some (find name_cmp name es) ≡ true → is_some (find name_cmp name fs) ≡ true
@@ -50,12 +46,6 @@ still_numbered es fs name more is = go (find name_cmp name es) refl
     go : (o : Option ℕ) → find name_cmp name es ≡ o → is_some (find name_cmp name fs) ≡ true
     go (Some n) e = ap is_some (more.kept name n e)
     go None e = absurd (true≢false (sym is ∙ ap is_some e))
-
--- a name that was to be added, or had a number before
-pub numbered_now : (added : Option Name) (es fs : List (Name × ℕ)) (name : Name) → IfNone added (is_some (find name_cmp name es) ≡ true) → IfSome added (λ own. own ≡ name)
-    → IfSome added (λ own. is_some (find name_cmp own fs) ≡ true) → IsMore es fs → is_some (find name_cmp name fs) ≡ true
-numbered_now None es fs name was own now more = still_numbered es fs name more was
-numbered_now (Some x) es fs name was own now more = ap (λ y. is_some (find name_cmp y fs)) (sym own) ∙ now
 
 -- what is read by numbers stays where names get numbers at which nothing is read
 pub more_same : (es fs : List (Name × ℕ)) → IsMore es fs → (read : Option ℕ → ℕ) → read None ≡ 0 → ((n : ℕ) → IsFree (λ x. find name_cmp x es) n → read (Some n) ≡ 0)
@@ -145,7 +135,6 @@ module _ {X : Type 0} (es fs : List (Name × ℕ)) (old new : Slab X) (name : Na
   fresh_added none vacant made =
       record {
         numbers = λ x. ap (find name_cmp x) made ∙ find-put name_cmp names_total x name i es;
-        kept = λ n is. absurd (None-not (sym none ∙ is));
         own = λ x is. absurd (true≢false (sym (numbered.taken x i is) ∙ ap is_some vacant));
       }
 

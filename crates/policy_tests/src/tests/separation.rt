@@ -1,4 +1,5 @@
 //! Each public call of `rbac_separation` with ample memory. What is expected was written by hand.
+ghost use Rattle.std.specs.Prelude.{◌≤◌, length};
 ghost use Rattle.rbac_separation.specs.Counts.{pairs_of, HasRoomFor};
 
 use super::named::{assert_names, name, name_set};
