@@ -50,7 +50,16 @@ pub(crate) fn is_authorized(
     some_inherits(hierarchy, sets.assignments_of(user), role)
 }
 
-/// Whether the user is authorized for each of the roles.
+// Whether the roles of the assignments inherit each of the roles.
+fn all_inherited(hierarchy: &Hierarchy, assignments: &[(Name, Name)], roles: &[Name]) -> bool
+    ensures { let h = hierarchy.now.content in result ≡ list_all (λ role. list_any (λ pair. inherits h.roles h.declared pair.1 role) assignments.now) roles.now }
+{
+    roles
+        .iter()
+        .all(|role| some_inherits(hierarchy, assignments, role))
+}
+
+/// Whether the user is authorized for each of the roles. The user's assignments are found once.
 pub(crate) fn is_authorized_for_all(
     sets: &RoleSets,
     hierarchy: &Hierarchy,
@@ -59,9 +68,7 @@ pub(crate) fn is_authorized_for_all(
 ) -> bool
     ensures { result ≡ list_all (is_authorized (state_of_roles sets.now.content hierarchy.now.content) user.now) roles.now }
 {
-    roles
-        .iter()
-        .all(|role| is_authorized(sets, hierarchy, user, role))
+    all_inherited(hierarchy, sets.assignments_of(user), roles)
 }
 
 /// Adds those of the names that pass a test.

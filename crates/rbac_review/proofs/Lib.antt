@@ -1,1 +1,2 @@
+pub mod HashedLemmas
 pub mod ReviewLemmas

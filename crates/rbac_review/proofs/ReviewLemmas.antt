@@ -12,9 +12,10 @@ use Rattle.sorted_keys.proofs.Lists.{any-same, filter-same}
 use Rattle.rbac_terms.specs.Name.{Name, Permission, Grant, name_cmp, pair_cmp}
 use Rattle.rbac_terms.specs.State.{State}
 use Rattle.rbac_terms.specs.Inheritance.{inherits, juniors, seniors}
+use Rattle.rbac_terms.specs.Relations.{begins_with, roles_of}
 use Rattle.rbac_terms.specs.Authorization.{inherits_in, is_authorized, has_permission}
 use Rattle.rbac_terms.specs.Reviews.{authorized_roles, role_permissions, permissions_of, user_permissions, operations_on}
-use Rattle.sorted_keys.proofs.Ties.{same_bits, any_member, member_any}
+use Rattle.sorted_keys.proofs.Ties.{same_bits, any_member, member_any, one_key, ties-pair}
 use Rattle.rbac_terms.proofs.NameLemmas.{names_total, names_exact, pairs_exact, grants_total, grants_exact}
 use Rattle.rbac_rules.proofs.InheritanceLemmas.{inherits_iff, joined, chain_end}
 use Rattle.rbac_rules.proofs.AuthorizationLemmas.{is_authorized_iff}
@@ -34,6 +35,41 @@ module _ {X : Type 0} where
       go : (b : Bool) → list_any q (filter p xs) ≡ list_any (λ y. p y && q y) xs → list_any q (cond b (x ∷ filter p xs) (filter p xs)) ≡ ((b && q x) || list_any (λ y. p y && q y) xs)
       go true rest = ap (λ t. q x || t) rest
       go false rest = rest
+
+  pub any-and : (p : X → Bool) (b : Bool) (xs : List X) → list_any (λ x. p x && b) xs ≡ (list_any p xs && b)
+  any-and p b [] = refl
+  any-and p b (x ∷ xs) = ap (λ t. (p x && b) || t) (any-and p b xs) ∙ shared (p x) (list_any p xs) b
+    where
+      shared : (l r b : Bool) → ((l && b) || (r && b)) ≡ ((l || r) && b)
+      shared true true true = refl
+      shared true true false = refl
+      shared true false true = refl
+      shared true false false = refl
+      shared false r b = refl
+
+-- a user's own pairs tell for which roles it is authorized
+pub authorized_by_own : (s : State) (user : Name) (pairs : List (Name × Name)) → pairs ≡ filter (begins_with user) s.assigned
+    → (role : Name) → list_any (λ pair. inherits_in s pair.1 role) pairs ≡ is_authorized s user role
+authorized_by_own s user pairs own role = let above = λ (pair : Name × Name). inherits_in s pair.1 role in ap (list_any above) own ∙ any-filter (begins_with user) above s.assigned
+
+-- a role inherits itself, and what is no role does not
+pub inherits_itself : (roles : List Name) (declared : List (Name × Name)) (role : Name) → inherits roles declared role role ≡ has name_cmp role roles
+inherits_itself roles declared role = same_bits _ _ (λ e. (between_roles roles declared role role e).0) (λ is. (inherits_iff roles declared role role).1 ([], (is, refl)))
+
+-- a name is among the roles of a user's pairs where it is a role that is assigned to the user
+pub among_assigned : (user q : Name) (roles : List Name) (assigned : List (Name × Name))
+    → list_any (λ pair. eq_by_cmp name_cmp q pair.1 && has name_cmp pair.1 roles) (filter (begins_with user) assigned) ≡ has name_cmp q (roles_of user roles assigned)
+among_assigned user q roles assigned =
+    any-filter (begins_with user) (λ pair. eq_by_cmp name_cmp q pair.1 && has name_cmp pair.1 roles) assigned
+    ∙ any-same (λ pair. begins_with user pair && (eq_by_cmp name_cmp q pair.1 && has name_cmp pair.1 roles)) (λ pair. eq_by_cmp pair_cmp (user, q) pair && has name_cmp q roles)
+      (λ pair. one_pair pair (eq_by_cmp name_cmp user pair.0) (eq_by_cmp name_cmp q pair.1) refl ∙ ap (λ t. t && has name_cmp q roles) (sym (ties-pair name_cmp name_cmp (user, q) pair))) assigned
+    ∙ any-and (λ pair. eq_by_cmp pair_cmp (user, q) pair) (has name_cmp q roles) assigned
+    ∙ sym (has-filter names_exact (λ r. has pair_cmp (user, r) assigned) roles q)
+  where
+    one_pair : (pair : Name × Name) (a b : Bool) → eq_by_cmp name_cmp q pair.1 ≡ b → (a && (b && has name_cmp pair.1 roles)) ≡ ((a && b) && has name_cmp q roles)
+    one_pair pair false b e = refl
+    one_pair pair true false e = refl
+    one_pair pair true true e = ap (λ r. has name_cmp r roles) (sym (one_key names_exact q pair.1 e))
 
 -- who is authorized for it, for that one it is a role
 pub authorized_for_a_role : (s : State) (user role : Name) → is_authorized s user role ≡ (has name_cmp role s.roles && is_authorized s user role)

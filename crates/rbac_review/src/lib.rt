@@ -2,6 +2,7 @@
 //! exists, so it is sorted and without repeats; a review of what does not exist lists nothing.
 #![tactic(auto)]
 
+mod hashed;
 mod operations;
 mod parts;
 mod permissions;

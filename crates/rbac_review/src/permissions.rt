@@ -7,6 +7,7 @@ ghost use Rattle.rbac_terms.specs.Authorization.{inherits_in};
 ghost use Rattle.rbac_terms.specs.Reviews.{active_roles, role_permissions, user_permissions, session_permissions};
 ghost use Rattle.rbac_review.specs.Among.{is_granted_to_one};
 
+use crate::hashed::HashedNames;
 use crate::parts::Parts;
 use rbac_hierarchy::RoleOrder;
 use rbac_rolesets::RoleSets;
@@ -32,7 +33,7 @@ pub(crate) fn is_granted_to_one(
     is_to_one(sets.grants_of(operation, object), roles)
 }
 
-// The permissions that are granted to one of the roles.
+// The permissions that are granted to one of the roles. Each grant's role is sought among them, by its hash.
 fn granted_to_one(
     alloc: Global,
     vocabulary: &Vocabulary,
@@ -41,7 +42,8 @@ fn granted_to_one(
 ) -> Result<PermissionSet, AllocError>
     ensures { IfOk result (λ permissions. permissions ≡ filter (is_granted_to_one roles.now sets.now.content.granted) vocabulary.now.permissions) }
 {
-    sets.permissions_granted(alloc, vocabulary, roles)
+    let roles = HashedNames::of(alloc, roles)?;
+    sets.permissions_granted(alloc, vocabulary, &roles)
 }
 
 impl Parts<'_> {

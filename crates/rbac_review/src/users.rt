@@ -1,12 +1,15 @@
 //! The users of a role, and the roles of a user.
-ghost use Rattle.std.specs.Prelude.{◌≡◌, IfOk, filter};
+ghost use Rattle.std.specs.Prelude.{◌≡◌, ◌||◌, ◌&&◌, IfOk, filter};
+ghost use Rattle.std.specs.Ordering.{eq_by_cmp};
+ghost use Rattle.sorted_keys.specs.Keys.{has};
+ghost use Rattle.rbac_terms.specs.Name.{Name as NameValue, name_cmp};
 ghost use Rattle.rbac_terms.specs.Relations.{users_of, roles_of};
 ghost use Rattle.rbac_terms.specs.Reviews.{authorized_users, authorized_roles};
 ghost use Rattle.rbac_review.specs.Among.{is_assigned_one};
 
 use crate::parts::Parts;
 use rbac_hierarchy::{Hierarchy, RoleOrder};
-use rbac_rolesets::{RoleSets, RolesOf};
+use rbac_rolesets::RoleSets;
 use rbac_terms::{Name, NameSet};
 use std::alloc::{AllocError, Global};
 
@@ -21,7 +24,29 @@ fn users_assigned_one(
     sets.users_assigned(alloc, roles)
 }
 
-// The roles of the hierarchy that are assigned to the user.
+// Whether it is a role of the hierarchy: a role inherits itself, and what is no role inherits nothing.
+fn is_role(hierarchy: &Hierarchy, role: &Name) -> bool
+    ensures { result ≡ has name_cmp role.now hierarchy.now.content.roles }
+{
+    hierarchy.inherits(role, role)
+}
+
+// The names, and this one where it is a role of the hierarchy.
+fn with_role(
+    hierarchy: &Hierarchy,
+    names: NameSet,
+    role: &Name,
+) -> Result<NameSet, AllocError>
+    ensures { IfOk result (λ more. (r : NameValue) → has name_cmp r more ≡ (has name_cmp r names || (eq_by_cmp name_cmp r role.now && has name_cmp role.now hierarchy.now.content.roles))) }
+{
+    let mut more = names;
+    if is_role(hierarchy, role) {
+        more.add_copy(role)?;
+    }
+    Ok(more)
+}
+
+// The roles of the hierarchy that are assigned to the user. No other role is looked at.
 fn roles_assigned(
     alloc: Global,
     hierarchy: &Hierarchy,
@@ -30,7 +55,14 @@ fn roles_assigned(
 ) -> Result<NameSet, AllocError>
     ensures { IfOk result (λ roles. roles ≡ roles_of user.now hierarchy.now.content.roles sets.now.content.assigned) }
 {
-    hierarchy.roles_where(alloc, &RolesOf { sets, user })
+    hierarchy.invariants();
+    let mut roles = NameSet::new(alloc);
+    let assignments = sets.assignments_of(user);
+    for pair in assignments {
+        roles = with_role(hierarchy, roles, &pair.1)?;
+    }
+    let _in_order = roles.names();
+    Ok(roles)
 }
 
 impl Parts<'_> {

@@ -1,0 +1,41 @@
+//! Names that are found by their hash.
+ghost use Rattle.std.specs.Prelude.{◌≡◌, IfOk};
+ghost use Rattle.sorted_keys.specs.Keys.{has};
+ghost use Rattle.rbac_terms.specs.Name.{Name as NameValue, name_cmp};
+
+use indexmap::IndexSet;
+use rbac_terms::{Name, NameSet};
+use sorted_keys::KeyTest;
+use std::alloc::{AllocError, Global};
+
+/// The names of a set, found by their hash: for many questions of one set.
+#[derive(Drop)]
+pub(crate) struct HashedNames {
+    names: IndexSet<Name>,
+}
+
+impl HashedNames {
+    /// The names of the set.
+    ///
+    /// # Errors
+    /// `AllocError` where there is no memory for it.
+    pub(crate) fn of(alloc: Global, set: &NameSet) -> Result<HashedNames, AllocError>
+        ensures { IfOk result (λ hashed. (name : NameValue) → has name_cmp name hashed.names.keys ≡ has name_cmp name set.now) }
+    {
+        let mut names = IndexSet::with_capacity(alloc, set.len())?;
+        let listed = set.names();
+        for name in listed {
+            names.insert(name.copy()?)?;
+        }
+        Ok(HashedNames { names })
+    }
+}
+
+/// The names of the set pass.
+impl KeyTest<Name> for HashedNames {
+    ghost passes = { λ hashed name. has name_cmp name hashed.names.keys };
+
+    fn test(&self, name: &Name) -> bool {
+        self.names.contains(name)
+    }
+}
