@@ -62,7 +62,7 @@ pub among_assigned : (user q : Name) (roles : List Name) (assigned : List (Name 
 among_assigned user q roles assigned =
     any-filter (begins_with user) (λ pair. eq_by_cmp name_cmp q pair.1 && has name_cmp pair.1 roles) assigned
     ∙ any-same (λ pair. begins_with user pair && (eq_by_cmp name_cmp q pair.1 && has name_cmp pair.1 roles)) (λ pair. eq_by_cmp pair_cmp (user, q) pair && has name_cmp q roles)
-      (λ pair. one_pair pair (eq_by_cmp name_cmp user pair.0) (eq_by_cmp name_cmp q pair.1) refl ∙ ap (λ t. t && has name_cmp q roles) (sym (ties-pair name_cmp name_cmp (user, q) pair))) assigned
+    (λ pair. one_pair pair (eq_by_cmp name_cmp user pair.0) (eq_by_cmp name_cmp q pair.1) refl ∙ ap (λ t. t && has name_cmp q roles) (sym (ties-pair name_cmp name_cmp (user, q) pair))) assigned
     ∙ any-and (λ pair. eq_by_cmp pair_cmp (user, q) pair) (has name_cmp q roles) assigned
     ∙ sym (has-filter names_exact (λ r. has pair_cmp (user, r) assigned) roles q)
   where

@@ -32,11 +32,7 @@ fn is_role(hierarchy: &Hierarchy, role: &Name) -> bool
 }
 
 // The names, and this one where it is a role of the hierarchy.
-fn with_role(
-    hierarchy: &Hierarchy,
-    names: NameSet,
-    role: &Name,
-) -> Result<NameSet, AllocError>
+fn with_role(hierarchy: &Hierarchy, names: NameSet, role: &Name) -> Result<NameSet, AllocError>
     ensures { IfOk result (λ more. (r : NameValue) → has name_cmp r more ≡ (has name_cmp r names || (eq_by_cmp name_cmp r role.now && has name_cmp role.now hierarchy.now.content.roles))) }
 {
     let mut more = names;
