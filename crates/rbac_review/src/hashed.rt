@@ -8,6 +8,13 @@ use rbac_terms::{Name, NameSet};
 use sorted_keys::KeyTest;
 use std::alloc::{AllocError, Global};
 
+// Whether the name is one of these.
+fn is_among(names: &IndexSet<Name>, name: &Name) -> bool
+    ensures { result ≡ has name_cmp name.now names.now.keys }
+{
+    names.contains(name)
+}
+
 /// The names of a set, found by their hash: for many questions of one set.
 #[derive(Drop)]
 pub(crate) struct HashedNames {
@@ -36,6 +43,6 @@ impl KeyTest<Name> for HashedNames {
     ghost passes = { λ hashed name. has name_cmp name hashed.names.keys };
 
     fn test(&self, name: &Name) -> bool {
-        self.names.contains(name)
+        is_among(&self.names, name)
     }
 }

@@ -1,6 +1,0 @@
-use Rattle.std.proofs.Common.{◌∙◌}
-use Rattle.rbac_hierarchy.proofs.NumberLemmas.{has_equal}
-use Rattle.rbac_review.proofs.hashed.HashedNames.test.Goals as goal
-
-pub returns : goal.returns
-returns c = c.contains.ensures ∙ has_equal c.args.name.now c.self.now.names.keys
