@@ -47,6 +47,25 @@ module _ {X : Type 0} where
       shared true false false = refl
       shared false r b = refl
 
+-- a name more where that is a role, and none where not
+pub more_where : (e h b : Bool) → b ≡ true → (e || h) ≡ (h || (e && b))
+more_where e h b is = either e h ∙ ap (λ t. h || (e && t)) (sym is)
+  where
+    either : (e h : Bool) → (e || h) ≡ (h || (e && true))
+    either true true = refl
+    either true false = refl
+    either false true = refl
+    either false false = refl
+
+pub none_where : (e h b : Bool) → b ≡ false → h ≡ (h || (e && b))
+none_where e h b is = alone e h ∙ ap (λ t. h || (e && t)) (sym is)
+  where
+    alone : (e h : Bool) → h ≡ (h || (e && false))
+    alone true true = refl
+    alone true false = refl
+    alone false true = refl
+    alone false false = refl
+
 -- a user's own pairs tell for which roles it is authorized
 pub authorized_by_own : (s : State) (user : Name) (pairs : List (Name × Name)) → pairs ≡ filter (begins_with user) s.assigned
     → (role : Name) → list_any (λ pair. inherits_in s pair.1 role) pairs ≡ is_authorized s user role
