@@ -7,6 +7,4 @@ mod fault;
 mod founding_file;
 mod play;
 mod serving;
-#[cfg(test)]
-mod tests;
 mod words;

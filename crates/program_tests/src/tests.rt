@@ -1,9 +1,6 @@
 //! What words, files and streams get: status, output and errors.
 
-use crate::command::{command, no_words};
-use crate::fault::Fault;
-use crate::founding_file::read_file;
-use rbac_founding::FoundingRefusal;
+use rbac_program::command::command;
 use std::io::{Error, ErrorKind, Read, Write};
 use std::process::Abort;
 use std::rt::Files;
@@ -255,14 +252,6 @@ impl Read for Blanks {
     }
 }
 
-#[test]
-fn reads_one_byte_more_than_a_founding_file_may_have(rt: HostRuntime) {
-    let too_long = read_file(rt.alloc(), "blanks", Blanks { left: 1_048_577 });
-    assert!(rt; matches!(too_long, Err(Fault::Founding(FoundingRefusal::TooLong))));
-    let unread = read_file(rt.alloc(), "blanks", Blanks { left: 1_048_576 });
-    assert!(rt; matches!(unread, Err(Fault::File("blanks"))));
-}
-
 /// Playing this founding and this schedule ends with status 1, no output and this line.
 fn expect_fault<T: Files + AllocGlobal + Threads + Wait + Clock + Abort + Copy + Send + Sync>(
     rt: &T,
@@ -297,6 +286,13 @@ fn tells_a_fault_in_one_line(rt: HostRuntime) {
         "rbac_monitor: file: no/schedule.jsonl\n",
     );
     expect_fault(&rt, "-", "/", "rbac_monitor: run: Read\n");
+}
+
+// A file without an end: it is read to one byte past the limit, and no more.
+#[test]
+fn reads_no_founding_file_past_its_limit(rt: HostRuntime) {
+    let too_long = "rbac_monitor: founding: TooLong\n";
+    expect_fault(&rt, "/dev/zero", "no/schedule.jsonl", too_long);
 }
 
 /// A file of these bytes is no founding, which this line tells before the schedule is looked for.
@@ -419,14 +415,6 @@ fn refuses_words_that_it_does_not_know(rt: HostRuntime) {
         assert!(rt; output.is_empty());
         assert!(rt; !errors.is_empty());
     }
-}
-
-#[test]
-fn refuses_words_that_are_no_text(rt: HostRuntime) {
-    let mut errors = Vec::new(rt.alloc());
-    let status = no_words(&Error::from(ErrorKind::InvalidData), &mut errors);
-    assert_eq!(rt; status, 2);
-    assert!(rt; errors.as_slice() == b"error: a word of the command line is not text\n".as_slice());
 }
 
 #[test]
