@@ -1,2 +1,2 @@
-mod Listed
+mod UsersWalk
 pub mod GrantLemmas

@@ -5,13 +5,13 @@ ghost use Rattle.std.specs.Ordering.{eq_by_cmp};
 ghost use Rattle.sorted_keys.specs.Keys.{has, with_key, without};
 ghost use Rattle.hashed_keys.specs.Pairs.{found, seconds};
 ghost use Rattle.rbac_terms.specs.Name.{name_cmp, pair_cmp, grant_cmp};
-ghost use Rattle.rbac_terms.specs.Relations.{begins_with, roles_of, without_user, without_role};
+ghost use Rattle.rbac_terms.specs.Relations.{begins_with, without_user, without_role};
 ghost use Rattle.rbac_rolesets.specs.Changes.{changed, made};
 ghost use Rattle.rbac_rolesets.specs.Sets.{Sets, no_sets, AreInOrder};
 
 mod listed;
+mod users_with;
 
-use crate::assigned::RolesOf;
 use crate::change::{Change, Step};
 use crate::granting::grant_step;
 use crate::removal::{AnotherRole, OtherRoles, OtherUsers};
@@ -172,17 +172,6 @@ impl RoleSets {
         ensures { IfOk result (λ users. users ≡ filter (T.passes test.now) self.now.content.users) }
     {
         Ok(NameSet::of(self.users.copy_where(alloc, test)?))
-    }
-
-    /// The roles that are assigned to the user.
-    ///
-    /// # Errors
-    /// `AllocError` where there is no memory for it.
-    pub fn roles_of(&self, alloc: Global, user: &Name) -> Result<NameSet, AllocError>
-        ensures { let s = self.now.content in IfOk result (λ roles. roles ≡ roles_of user.now s.roles s.assigned) }
-    {
-        let assigned = RolesOf { sets: self, user };
-        Ok(NameSet::of(self.roles.copy_where(alloc, &assigned)?))
     }
 
     /// Adds a user. Where it is there, nothing changes.

@@ -117,7 +117,7 @@ fn assert_users(rt: &impl Abort, alloc: Global, sets: &RoleSets, role: &str, tex
 }
 
 fn assert_roles(rt: &impl Abort, alloc: Global, sets: &RoleSets, user: &str, texts: &[&str]) {
-    assert_found(rt, sets.roles_of(alloc, &name(rt, alloc, user)), texts);
+    assert_seconds(rt, sets.assignments_of(&name(rt, alloc, user)), texts);
 }
 
 fn assert_users_after(

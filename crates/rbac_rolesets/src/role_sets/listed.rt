@@ -1,4 +1,4 @@
-//! The users of roles, by one walk over UA, and what is granted to them, by a look at each permission.
+//! The users of roles, by one walk over UA each, and what is granted to them, by a look at each permission.
 ghost use Rattle.std.specs.Prelude.{◌≡◌, ◌&&◌, IfOk, filter};
 ghost use Rattle.std.specs.List.{list_any};
 ghost use Rattle.std.specs.Ordering.{eq_by_cmp};
@@ -6,10 +6,10 @@ ghost use Rattle.hashed_keys.specs.Pairs.{seconds};
 ghost use Rattle.rbac_terms.specs.Name.{name_cmp, pair_cmp};
 ghost use Rattle.rbac_terms.specs.Relations.{users_of};
 
-use crate::assigned::TheRole;
 use crate::role_sets::RoleSets;
+use crate::role_sets::users_with::users_with;
 use rbac_terms::{Name, NameSet, PermissionSet, Vocabulary};
-use sorted_keys::KeyTest;
+use sorted_keys::{KeyTest, SortedSet};
 use std::alloc::{AllocError, Global};
 
 // The permissions that are granted to a role that passes a test.
@@ -53,7 +53,11 @@ impl RoleSets {
     pub fn users_of(&self, alloc: Global, role: &Name) -> Result<NameSet, AllocError>
         ensures { let s = self.now.content in IfOk result (λ users. users ≡ users_of role.now s.users s.assigned) }
     {
-        self.users_assigned(alloc, &TheRole { role })
+        let users = users_with(alloc, self.users.keys(), self.assigned.keys(), role)?;
+        let Ok(users) = SortedSet::from_vec(users) else {
+            unreachable!()
+        };
+        Ok(NameSet::of(users))
     }
 
     /// The permissions of the vocabulary that are granted to a role that passes the test.
