@@ -288,9 +288,9 @@ fn tells_a_fault_in_one_line(rt: HostRuntime) {
     expect_fault(&rt, "-", "/", "rbac_monitor: run: Read\n");
 }
 
-// A file without an end: it is read to one byte past the limit, and no more.
+// A file without an end is too long, and is not read for ever.
 #[test]
-fn reads_no_founding_file_past_its_limit(rt: HostRuntime) {
+fn a_founding_file_without_an_end_is_too_long(rt: HostRuntime) {
     let too_long = "rbac_monitor: founding: TooLong\n";
     expect_fault(&rt, "/dev/zero", "no/schedule.jsonl", too_long);
 }
@@ -339,7 +339,9 @@ fn tells_each_refusal_of_a_founding(rt: HostRuntime) -> Result<(), Fail> {
         expect_refused_founding(&rt, file.as_bytes(), line)?;
     }
     let mut long = Vec::new(rt.alloc());
-    long.resize(1_048_577, b' ')?;
+    long.resize(1_048_576, b' ')?;
+    expect_refused_founding(&rt, &long, "rbac_monitor: founding: BadVersion\n")?;
+    long.push(b' ')?;
     expect_refused_founding(&rt, &long, "rbac_monitor: founding: TooLong\n")
 }
 
