@@ -177,14 +177,26 @@ pub(crate) fn tell<'w, R: Read + Drop, W: Write>(
 ) -> Result<(), Failure<'w>> {
     let Founding { group, vocabulary } = founding;
     let mut world = World::found(alloc, group, vocabulary)?;
+    let told = tell_on(alloc, &mut world, reader, writer);
+    drop(world);
+    told
+}
+
+// The same on a world.
+fn tell_on<'w, R: Read + Drop, W: Write>(
+    alloc: Global,
+    world: &mut World,
+    reader: R,
+    writer: &mut W,
+) -> Result<(), Failure<'w>> {
     run_lines::<Tracing, R, &mut W>(
         alloc,
         &mut watch(reader),
         &mut watch(&mut *writer),
-        &mut world,
+        &mut *world,
         MOST_READS,
     )?;
-    write_whole(writer, &end_text(alloc, &world)?)
+    write_whole(writer, &end_text(alloc, world)?)
 }
 
 /// Plays the lines of a schedule, and writes their space-time diagram. A line that is no event has no row.
@@ -198,11 +210,23 @@ pub(crate) fn picture<'w, R: Read + Drop, W: Write>(
     let world = World::found(alloc, group, vocabulary)?;
     let diagram = Diagram::new(alloc, &world);
     let mut drawn = Drawn { world, diagram };
+    let told = picture_of(alloc, &mut drawn, reader, writer);
+    drop(drawn);
+    told
+}
+
+// The same on a world with a diagram.
+fn picture_of<'w, R: Read + Drop, W: Write>(
+    alloc: Global,
+    drawn: &mut Drawn,
+    reader: R,
+    writer: &mut W,
+) -> Result<(), Failure<'w>> {
     run_lines::<Drawing, R, io::Sink>(
         alloc,
         &mut watch(reader),
         &mut watch(io::sink()),
-        &mut drawn,
+        &mut *drawn,
         MOST_READS,
     )?;
     write_whole(writer, &drawn.diagram.picture(alloc)?)

@@ -88,50 +88,58 @@ fn reading<'w>(alloc: Global, name: &'w str, about: &'w str) -> Result<Command<'
         .arg(path(alloc, "LINES", LINES))
 }
 
+const CLIENT: &str = "LINES are client lines, as serve takes them, and no schedule";
+
+// The subcommand that prints the client lines of a policy.
+fn dumping<'w>(alloc: Global) -> Result<Command<'w>, AllocError> {
+    let about = "Prints the client lines that make the policy again";
+    reading(alloc, "dump", about)?.arg(flag(alloc, "serve", CLIENT))
+}
+
+// The subcommand that prints a page or a graph.
+fn showing<'w>(alloc: Global) -> Result<Command<'w>, AllocError> {
+    let dot = "The roles and their declared pairs as a graph for Graphviz";
+    reading(alloc, "show", "Prints the policy as a page for people")?
+        .arg(flag(alloc, "serve", CLIENT))?
+        .arg(flag(alloc, "dot", dot))
+}
+
+// The subcommand that prints a schedule line by line, or draws it.
+fn tracing<'w>(alloc: Global) -> Result<Command<'w>, AllocError> {
+    let about = "Prints what each line of a schedule does to its member";
+    let svg = "Lamport's space-time diagram of the schedule";
+    reading(alloc, "trace", about)?.arg(flag(alloc, "svg", svg))
+}
+
 // The subcommand that asks about a check.
-fn asking_why<'w>(alloc: Global, client: &'w str) -> Result<Command<'w>, AllocError> {
-    reading(
-        alloc,
-        "why",
-        "Tells why a check of access is granted, or that it is not",
-    )?
-    .arg(path(alloc, "SESSION", "The session that is checked"))?
-    .arg(path(alloc, "OPERATION", "The operation"))?
-    .arg(path(alloc, "OBJECT", "The object"))?
-    .arg(flag(alloc, "serve", client))
+fn asking_why<'w>(alloc: Global) -> Result<Command<'w>, AllocError> {
+    let about = "Tells why a check of access is granted, or that it is not";
+    reading(alloc, "why", about)?
+        .arg(path(alloc, "SESSION", "The session that is checked"))?
+        .arg(path(alloc, "OPERATION", "The operation"))?
+        .arg(path(alloc, "OBJECT", "The object"))?
+        .arg(flag(alloc, "serve", CLIENT))
+}
+
+// One subcommand more.
+fn add<'w>(
+    line: Command<'w>,
+    next: Result<Command<'w>, AllocError>,
+) -> Result<Command<'w>, AllocError> {
+    line.subcommand(next?)
 }
 
 fn command_line<'w>(alloc: Global) -> Result<Command<'w>, AllocError> {
-    let client = "LINES are client lines, as serve takes them, and no schedule";
-    let dump = reading(
-        alloc,
-        "dump",
-        "Prints the client lines that make the policy again",
-    )?
-    .arg(flag(alloc, "serve", client))?;
-    let show = reading(alloc, "show", "Prints the policy as a page for people")?
-        .arg(flag(alloc, "serve", client))?
-        .arg(flag(
-            alloc,
-            "dot",
-            "The roles and their declared pairs as a graph for Graphviz",
-        ))?;
-    let trace = reading(
-        alloc,
-        "trace",
-        "Prints what each line of a schedule does to its member",
-    )?
-    .arg(flag(alloc, "svg", "Lamport's space-time diagram of the schedule"))?;
-    Command::new(alloc, "rbac_ask")
+    let line = Command::new(alloc, "rbac_ask")
         .bin_name("rbac_ask")?
         .version(VERSION)
         .about(ABOUT)
         .after_help(AFTER_HELP)
-        .subcommand_required(true)
-        .subcommand(dump)?
-        .subcommand(show)?
-        .subcommand(trace)?
-        .subcommand(asking_why(alloc, client)?)
+        .subcommand_required(true);
+    let line = add(line, dumping(alloc))?;
+    let line = add(line, showing(alloc))?;
+    let line = add(line, tracing(alloc))?;
+    add(line, asking_why(alloc))
 }
 
 fn lines_of<'w>(matches: &ArgMatches<'w>) -> Lines<'w> {

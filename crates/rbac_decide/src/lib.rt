@@ -2,6 +2,7 @@
 #![tactic(auto)]
 
 mod authorization;
+mod both;
 mod breaking;
 mod counting;
 mod ending;

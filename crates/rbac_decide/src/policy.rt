@@ -21,6 +21,7 @@ mod separation;
 mod violation;
 
 use crate::authorization::some_inherits_some;
+use crate::both::both;
 use crate::counting::{commit_counts, plan_counts};
 use crate::policy::hindrance::Hindrance;
 use crate::tables::Tables;
@@ -161,10 +162,12 @@ impl Policy {
     pub fn copy(&self) -> Result<Policy, AllocError>
         ensures { IfOk result (λ copy. copy ≡ self.now) }
     {
+        let tables = both(self.tables.copy(), self.counts.copy());
+        let ((tables, counts), vocabulary) = both(tables, self.vocabulary.copy())?;
         Ok(Policy {
-            tables: self.tables.copy()?,
-            counts: self.counts.copy()?,
-            vocabulary: self.vocabulary.copy()?,
+            tables,
+            counts,
+            vocabulary,
         })
     }
 }

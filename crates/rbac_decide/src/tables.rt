@@ -4,6 +4,7 @@ ghost use Rattle.rbac_terms.specs.Change.{change};
 ghost use Rattle.rbac_terms.specs.Vocabulary.{Vocabulary as VocabularyValue};
 ghost use Rattle.rbac_terms.specs.State.{founding_state};
 
+use crate::both::both;
 use crate::tables::planning::TablesPlan;
 use rbac_hierarchy::{Hierarchy, RoleOrder};
 use rbac_rolesets::RoleSets;
@@ -50,12 +51,16 @@ impl Tables {
     pub fn copy(&self) -> Result<Tables, AllocError>
         ensures { IfOk result (λ copy. HaveSameSets copy self.now) }
     {
+        let roles = both(self.sets.copy(), self.hierarchy.copy());
+        let role_sets = both(self.static_sets.copy(), self.dynamic_sets.copy());
+        let copies = both(both(roles, role_sets), self.sessions.copy())?;
+        let (((sets, hierarchy), (static_sets, dynamic_sets)), sessions) = copies;
         Ok(Tables {
-            sets: self.sets.copy()?,
-            hierarchy: self.hierarchy.copy()?,
-            static_sets: self.static_sets.copy()?,
-            dynamic_sets: self.dynamic_sets.copy()?,
-            sessions: self.sessions.copy()?,
+            sets,
+            hierarchy,
+            static_sets,
+            dynamic_sets,
+            sessions,
         })
     }
 

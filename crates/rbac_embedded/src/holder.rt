@@ -83,7 +83,10 @@ impl Holder {
                     self.monitor = Some(monitor);
                     Status::Done
                 }
-                Err(_) => Status::NoMemory,
+                Err(refused) => {
+                    drop(refused);
+                    Status::NoMemory
+                }
             },
             Err(refusal) => Status::BadFounding(refusal),
         }
@@ -164,7 +167,10 @@ impl Holder {
         ensures closed { self.new ≡ None }
     {
         match self.monitor.take() {
-            Some(_monitor) => Status::Done,
+            Some(monitor) => {
+                drop(monitor);
+                Status::Done
+            }
             None => Status::EmptyPlace,
         }
     }

@@ -84,7 +84,9 @@ impl Monitor {
         ensures unchanged { OnErr result (self.new ≡ self.old) }
     {
         let command = read_command(alloc, text)?;
-        match self.answer_command(alloc, &command) {
+        let answered = self.answer_command(alloc, &command);
+        drop(command);
+        match answered {
             Ok(()) => Ok(()),
             Err(_) => Err(LineRefusal::NoMemory),
         }

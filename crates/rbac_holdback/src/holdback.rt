@@ -119,9 +119,13 @@ fn put_ready(queues: &mut Vec<VecDeque<Held>>, held: Held)
     ensures room { rooms_of queues.new.items ≡ slice_set (rooms_of queues.old.items) (held.stamp.member - 1) (room_at held.stamp.member (rooms_of queues.old.items) - 1) }
 {
     let place = held.stamp.member as usize - 1;
-    let Ok(()) = queues[place].push_back(held) else {
-        unreachable!()
-    };
+    match queues[place].push_back(held) {
+        Ok(()) => {}
+        Err(back) => {
+            drop(back);
+            unreachable!()
+        }
+    }
 }
 
 // The same of several commands, one after the other.

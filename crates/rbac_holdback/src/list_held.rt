@@ -54,9 +54,13 @@ fn insert_each(list: &mut VecDeque<Held>, held: Vec<Held>)
     ensures { list.new.items ≡ insert_all submitted_at held.items list.old.items }
 {
     for item in held {
-        let Ok(()) = insert(list, item) else {
-            unreachable!()
-        };
+        match insert(list, item) {
+            Ok(()) => {}
+            Err(back) => {
+                drop(back);
+                unreachable!()
+            }
+        }
     }
 }
 

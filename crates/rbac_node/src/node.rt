@@ -75,6 +75,7 @@ impl<G: GroupName> Node<G> {
         requires number { IsNumber group number }
         ensures founded { IfOk result (λ node. node ≡ founded_node group number vocabulary) }
     {
+        let reads = found_marks(alloc, rows, group.members())?;
         let Ok(member) = Member::found(alloc, group, number, vocabulary) else {
             return Err(AllocError);
         };
@@ -82,7 +83,7 @@ impl<G: GroupName> Node<G> {
             member,
             sent: rows.sent(number).mark(),
             history: rows.history(number).mark(),
-            reads: found_marks(alloc, rows, group.members())?,
+            reads,
             next_caller: 0,
             is_stopped: false,
             of: PhantomData,

@@ -32,7 +32,9 @@ fn play_lines<'w, R: Read + Drop, W: Write>(
     requires { failed_of writer.old ≡ false }
     ensures { OnOk result (IfSome (R.remaining reader) (λ input. Appends (W.contents (inner_of writer.old)) (W.contents (inner_of writer.new)) (output input world))) }
 {
-    run(alloc, &mut watch(reader), writer, &mut world)?;
+    let ended = run(alloc, &mut watch(reader), writer, &mut world);
+    drop(world);
+    let _summary = ended?;
     Ok(())
 }
 
@@ -53,6 +55,9 @@ pub(crate) fn play<'w, T: Files + AllocGlobal, R: Read + Drop, W: Write>(
     }
     match fs::open(rt, asked.schedule) {
         Ok(file) => play_lines(rt.alloc(), world, file, writer),
-        Err(_) => Err(Fault::File(asked.schedule)),
+        Err(_) => {
+            drop(world);
+            Err(Fault::File(asked.schedule))
+        }
     }
 }

@@ -14,7 +14,7 @@ use log::sink::Writer;
 use log::warn;
 use rbac_founding::Founding;
 use rbac_lines::Watched;
-use rbac_service::{ChannelCourier, Courier, Gate, GroupName, NoGate, Pass, Rows, Service};
+use rbac_service::{ChannelCourier, Courier, Gate, GroupName, NoGate, Node, Pass, Rows, Service};
 use rbac_words::{Group, Vocabulary};
 use std::alloc::{AllocError, Global};
 use std::io::{Read, Write};
@@ -58,6 +58,57 @@ fn enroll<'w, G: GroupName, K: Gate + Drop, C: Courier + Drop, T: Wait>(
     Ok(passes)
 }
 
+// Answers the reader's lines by a service, and gives back the passes that asked. A warning tells where a member's thread gave up.
+fn serve_by<
+    'w,
+    G: GroupName + Send + Sync,
+    K: Gate + Drop + Send + Sync,
+    C: Courier + Drop + Send + Sync,
+    T: Threads + Wait + Send + Sync,
+    R: Read + Drop,
+    W: Write,
+    E: Write,
+>(
+    rt: &T,
+    alloc: Global,
+    service: &Service<G, K, C>,
+    members: u32,
+    reader: R,
+    writer: &mut Watched<W>,
+    errors: &mut E,
+) -> Result<Vec<Pass<G>>, Fault<'w>>
+    requires { failed_of writer.old ≡ false }
+{
+    let passes = enroll(rt, alloc, service, members)?;
+    let Answered {
+        ended,
+        passes,
+        all_stopped,
+    } = answer(rt, alloc, service, passes, reader, writer);
+    if !all_stopped {
+        warn!(Writer::new(errors); "a member's thread gave up, and stopped the others");
+    }
+    match ended {
+        Ok(()) => Ok(passes),
+        Err(fault) => {
+            drop(passes);
+            Err(fault)
+        }
+    }
+}
+
+// Audits these nodes, and asks each to confirm its member's pass.
+fn confirm_all<'w, G: GroupName>(
+    alloc: Global,
+    mut nodes: Vec<Node<G>>,
+    mut passes: Vec<Pass<G>>,
+) -> Result<(), Fault<'w>> {
+    let confirmed = confirm(alloc, &mut nodes, &mut passes);
+    drop(nodes);
+    drop(passes);
+    confirmed
+}
+
 // Serves by the members of the founding that G names, and audits them at the end.
 fn serve_group<
     'w,
@@ -81,17 +132,13 @@ fn serve_group<
 {
     let Founding { group, vocabulary } = founding;
     let service: Service<G, NoGate, ChannelCourier<T>> = found(rt, alloc, rows, group, vocabulary)?;
-    let passes = enroll(rt, alloc, &service, group.members())?;
-    let Answered {
-        ended,
-        mut passes,
-        all_stopped,
-    } = answer(rt, alloc, &service, passes, reader, writer);
-    if !all_stopped {
-        warn!(Writer::new(errors); "a member's thread gave up, and stopped the others");
+    match serve_by(rt, alloc, &service, group.members(), reader, writer, errors) {
+        Ok(passes) => confirm_all(alloc, service.take_nodes(), passes),
+        Err(fault) => {
+            drop(service);
+            Err(fault)
+        }
     }
-    ended?;
-    confirm(alloc, &mut service.take_nodes(), &mut passes)
 }
 
 /// Founds the group of a founding file, where `-` is the sample, and answers the reader's client lines in order, each by the pass

@@ -97,23 +97,39 @@ fn path<'w>(alloc: Global, id: &'w str, help: &'w str) -> Arg<'w> {
         .help(help)
 }
 
-fn command_line<'w>(alloc: Global) -> Result<Command<'w>, AllocError> {
-    let play = Command::new(alloc, "play")
+// The subcommand that plays a schedule.
+fn playing<'w>(alloc: Global) -> Result<Command<'w>, AllocError> {
+    Command::new(alloc, "play")
         .about("Plays the lines of SCHEDULE on the world of FOUNDING")
         .arg(path(alloc, "FOUNDING", FOUNDING))?
-        .arg(path(alloc, "SCHEDULE", SCHEDULE))?;
-    let serve = Command::new(alloc, "serve")
+        .arg(path(alloc, "SCHEDULE", SCHEDULE))
+}
+
+// The subcommand that serves callers.
+fn serving<'w>(alloc: Global) -> Result<Command<'w>, AllocError> {
+    Command::new(alloc, "serve")
         .about(
             "Serves callers by the members of FOUNDING: standard input has one command of a member a line",
         )
-        .arg(path(alloc, "FOUNDING", FOUNDING))?;
-    Command::new(alloc, "rbac_monitor")
+        .arg(path(alloc, "FOUNDING", FOUNDING))
+}
+
+// One subcommand more.
+fn add<'w>(
+    line: Command<'w>,
+    next: Result<Command<'w>, AllocError>,
+) -> Result<Command<'w>, AllocError> {
+    line.subcommand(next?)
+}
+
+fn command_line<'w>(alloc: Global) -> Result<Command<'w>, AllocError> {
+    let line = Command::new(alloc, "rbac_monitor")
         .bin_name("rbac_monitor")?
         .version(VERSION)
         .about(ABOUT)
-        .after_help(AFTER_HELP)
-        .subcommand(play)?
-        .subcommand(serve)
+        .after_help(AFTER_HELP);
+    let line = add(line, playing(alloc))?;
+    add(line, serving(alloc))
 }
 
 fn asked_of<'w>(matches: &ArgMatches<'w>) -> Asked<'w> {

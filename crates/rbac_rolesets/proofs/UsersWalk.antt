@@ -10,6 +10,7 @@ use Rattle.std.proofs.lemmas.List.Kept.{IsStrictlySortedBy-filter}
 use Rattle.sorted_keys.specs.Keys.{has, repeats}
 use Rattle.sorted_keys.proofs.Order.{IsBelowAll, IsBelowAll-below, greater, less}
 use Rattle.sorted_keys.proofs.Lists.{filter-same}
+use Rattle.sorted_keys.proofs.KeyPlace.{has-below}
 use Rattle.rbac_terms.specs.Name.{Name, name_cmp, pair_cmp}
 use Rattle.rbac_terms.specs.Relations.{users_of}
 use Rattle.rbac_terms.proofs.NameLemmas.{names_total, names_exact, pairs_total}
@@ -18,18 +19,10 @@ use Rattle.rbac_terms.proofs.NameLemmas.{names_total, names_exact, pairs_total}
 abbrev pub users_after : Name → List Name → List Name
 users_after user users = filter (λ other. is_lt (name_cmp user other)) users
 
--- a user that is below sorted ones is not among them, and all of them are after it
-not_there : (user : Name) (users : List Name) → IsBelowAll name_cmp user users → has name_cmp user users ≡ false
-not_there user [] below = refl
-not_there user (u ∷ us) below = rw below.0 (not_there user us below.1)
-
+-- all sorted users are after one that is below them
 all_after : (user : Name) (users : List Name) → IsBelowAll name_cmp user users → users_after user users ≡ users
 all_after user [] below = refl
 all_after user (u ∷ us) below = rw below.0 (ap (λ l. u ∷ l) (all_after user us below.1))
-
-no_pair : (p : Name × Name) (ps : List (Name × Name)) → IsBelowAll pair_cmp p ps → has pair_cmp p ps ≡ false
-no_pair p [] below = refl
-no_pair p (q ∷ qs) below = rw below.0 (no_pair p qs below.1)
 
 no_tie : (a b : Ordering) → is_eq b ≡ false → is_eq (ordering_then a b) ≡ false
 no_tie Less b differs = refl
@@ -65,7 +58,7 @@ module _ (user : Name) (users : List Name) (i : ℕ) (u : Name) (lt : i < length
   pub at_later : name_cmp user u ≡ Less → (has name_cmp user users ≡ false) × (users_after user users ≡ drop i users)
   at_later l =
       let below : IsBelowAll name_cmp user (u ∷ drop (i + 1) users) = (l, IsBelowAll-below names_total user u (drop (i + 1) users) l in_order_on.0) in
-      (has_it ∙ not_there user (u ∷ drop (i + 1) users) below, after_it ∙ all_after user (u ∷ drop (i + 1) users) below ∙ sym there)
+      (has_it ∙ has-below names_total user (u ∷ drop (i + 1) users) below, after_it ∙ all_after user (u ∷ drop (i + 1) users) below ∙ sym there)
 
   -- or at the one itself
   pub at_itself : name_cmp user u ≡ Equal → (has name_cmp user users ≡ true) × (users_after user users ≡ drop (i + 1) users)
@@ -87,7 +80,7 @@ module _ (role : Name) where
   before : (u : Name) (p : Name × Name) (ps : List (Name × Name)) → IsBelowAll pair_cmp p ps → name_cmp u p.0 ≡ Less → has pair_cmp (u, role) (p ∷ ps) ≡ false
   before u p ps below l =
       let under : pair_cmp (u, role) p ≡ Less = ap (λ r. ordering_then r (name_cmp role p.1)) l in
-      no_pair (u, role) (p ∷ ps) (under, IsBelowAll-below pairs_total (u, role) p ps under below)
+      has-below pairs_total (u, role) (p ∷ ps) (under, IsBelowAll-below pairs_total (u, role) p ps under below)
 
   -- of a user after it the pair says nothing
   after : (u : Name) (p : Name × Name) (ps : List (Name × Name)) → name_cmp p.0 u ≡ Less → has pair_cmp (u, role) (p ∷ ps) ≡ has pair_cmp (u, role) ps
@@ -112,7 +105,7 @@ module _ (role : Name) where
       later = users_of role (users_after p.0 us) ps
 
       alone : IsBelowAll name_cmp p.0 us → all ≡ cond (has name_cmp p.0 us) (p.0 ∷ []) [] ++ later → all ≡ later
-      alone under rest = rest ∙ ap (λ b. cond b (p.0 ∷ []) [] ++ later) (not_there p.0 us under)
+      alone under rest = rest ∙ ap (λ b. cond b (p.0 ∷ []) [] ++ later) (has-below names_total p.0 us under)
 
       go : (r : Ordering) → name_cmp p.0 u ≡ r → all ≡ cond (has name_cmp p.0 us) (p.0 ∷ []) [] ++ later
           → users_of role (u ∷ us) (p ∷ ps) ≡ cond (is_eq r || has name_cmp p.0 us) (p.0 ∷ []) [] ++ users_of role (cond (is_lt r) (u ∷ users_after p.0 us) (users_after p.0 us)) ps
@@ -121,7 +114,7 @@ module _ (role : Name) where
           let mine = has pair_cmp (u, role) ps in
           ap (λ b. cond b (u ∷ all) all) (after u p ps e)
           ∙ ap (λ l. cond mine (u ∷ l) l) (alone under rest)
-          ∙ sym (ap (λ b. cond b (p.0 ∷ []) [] ++ cond mine (u ∷ later) later) (not_there p.0 us under))
+          ∙ sym (ap (λ b. cond b (p.0 ∷ []) [] ++ cond mine (u ∷ later) later) (has-below names_total p.0 us under))
       go Equal e rest =
           let same = names_exact p.0 u e in
           ap (λ b. cond b (u ∷ all) all) (own u p ps e own_role)
@@ -189,4 +182,4 @@ pub distinct : (users : List Name) → IsStrictlySortedBy name_cmp users → rep
 distinct [] sorted = refl
 distinct (u ∷ us) sorted =
     let rest = rest_of_users u us sorted in
-    ap (λ b. b || repeats name_cmp us) (not_there u us rest.0) ∙ distinct us rest.1
+    ap (λ b. b || repeats name_cmp us) (has-below names_total u us rest.0) ∙ distinct us rest.1

@@ -84,10 +84,12 @@ fn found_slot<G: GroupName>(
     requires members { length rows.now.sent ≡ group.members }
     requires number { IsNumber group number }
 {
-    let node = Node::found(alloc, rows, group, number, vocabulary.copy()?)?;
+    let vocabulary = vocabulary.copy()?;
+    let waiting = Waiting::found(alloc)?;
+    let node = Node::found(alloc, rows, group, number, vocabulary)?;
     Ok(Slot {
         node: Mutex::new(node),
-        waiting: Waiting::found(alloc)?,
+        waiting,
         pumps: AtomicU64::new(0),
     })
 }

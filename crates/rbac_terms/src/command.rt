@@ -1,6 +1,8 @@
 //! The commands of the policy.
 ghost use Rattle.std.specs.Prelude.{◌≡◌, IfOk};
 
+mod cloning;
+
 use crate::name::Name;
 use crate::name_set::NameSet;
 use crate::review::Review;
@@ -10,7 +12,7 @@ use std::alloc::AllocError;
 /// A command of RBAC (ANSI INCITS 359-2004, 6.1 to 6.4), one variant for each that may change a policy or checks access, and one
 /// for all reviews. Those about sets of separation serve both kinds: CreateSsdSet is `CreateSet` of the static kind,
 /// CreateDsdSet of the dynamic one.
-#[derive(Clone, PartialEq, Eq, Drop)]
+#[derive(PartialEq, Eq, Drop)]
 pub enum Command {
     AddUser {
         user: Name,

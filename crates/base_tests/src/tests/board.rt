@@ -6,7 +6,6 @@ use rbac_board::{Mark, Row, SetRefusal};
 use std::alloc::{AllocError, Global};
 use std::marker::Model;
 use std::process::Abort;
-use std::test::Fail;
 
 // A value that contracts see otherwise than it is kept, as those of the crates above.
 #[derive(Drop)]
@@ -96,54 +95,100 @@ fn expect_learned(
     }
 }
 
+// A second mark sets the first cell of a row of two in vain, and a place beyond it.
+fn expect_taken_and_full(rt: &impl Abort, alloc: Global, row: &Row<Letter>, late: &mut Mark<Letter>)
+    requires of { IsOf row.now late.old }
+    requires two { length row.now ≡ 2 }
+    requires empty { late.old.values ≡ [] }
+{
+    let letter = letter_of(alloc, 8).expect(rt, "memory");
+    assert!(rt; taken(row.set(late, 0, letter)) == Some(8));
+    if late.len() == 0 {
+        let letter = letter_of(alloc, 9).expect(rt, "memory");
+        assert!(rt; beyond(row.set(late, 2, letter)) == Some(9));
+    }
+    assert!(rt; late.len() == 0);
+}
+
 #[test]
-fn sets_each_cell_once(rt: HostRuntime) -> Result<(), Fail> {
+fn sets_each_cell_once(rt: HostRuntime) {
     let alloc = rt.alloc();
-    let row = Row::found(alloc, 2)?;
-    let mut mark = row.mark();
+    let row = Row::found(alloc, 2).expect(&rt, "memory");
+    let mark = set_first(&rt, alloc, &row, 7);
     let mut late = row.mark();
-    assert!(rt; row.set(&mut mark, 0, letter_of(alloc, 7)?).is_ok());
-    assert!(rt; taken(row.set(&mut late, 0, letter_of(alloc, 8)?)) == Some(8));
-    assert!(rt; beyond(row.set(&mut late, 2, letter_of(alloc, 9)?)) == Some(9));
-    assert!(rt; mark.len() == 1 && late.len() == 0);
+    expect_taken_and_full(&rt, alloc, &row, &mut late);
     expect_cell(&rt, &row, 0, Some(7));
     expect_cell(&rt, &row, 1, None);
     expect_cell(&rt, &row, 2, None);
-    Ok(())
+    drop(mark);
+    drop(late);
+    drop(row);
+}
+
+// What a mark that knows one value knows, and that it agrees with another one of the row.
+fn expect_known(
+    rt: &impl Abort,
+    row: &Row<Letter>,
+    again: &mut Mark<Letter>,
+    mark: &mut Mark<Letter>,
+)
+    requires again { IsOf row.now again.old }
+    requires mark { IsOf row.now mark.old }
+{
+    if again.len() == 1 {
+        assert!(rt; row.known(again, 0).code == 7);
+        again.agree(mark);
+    }
+    assert!(rt; again.len() == 1 && mark.len() == 1);
 }
 
 #[test]
-fn reads_what_was_set(rt: HostRuntime) -> Result<(), Fail> {
+fn reads_what_was_set(rt: HostRuntime) {
     let alloc = rt.alloc();
-    let row = Row::found(alloc, 2)?;
+    let row = Row::found(alloc, 2).expect(&rt, "memory");
     let mut mark = set_first(&rt, alloc, &row, 7);
-    let mut again = read_only(&rt, &row, 7).again(alloc)?;
-    assert!(rt; again.len() == 1);
-    assert!(rt; row.known(&mut again, 0).code == 7);
-    again.agree(&mut mark);
-    assert!(rt; mark.len() == again.len());
-    Ok(())
+    let mut fresh = read_only(&rt, &row, 7);
+    let mut again = fresh.again(alloc).expect(&rt, "memory");
+    expect_known(&rt, &row, &mut again, &mut mark);
+    drop(again);
+    drop(fresh);
+    drop(mark);
+    drop(row);
 }
 
 #[test]
-fn reads_to_the_end_of_a_row(rt: HostRuntime) -> Result<(), Fail> {
+fn reads_to_the_end_of_a_row(rt: HostRuntime) {
     let alloc = rt.alloc();
-    let row = Row::found(alloc, 1)?;
+    let row = Row::found(alloc, 1).expect(&rt, "memory");
     drop(set_first(&rt, alloc, &row, 3));
-    assert!(rt; read_only(&rt, &row, 3).len() == 1);
-    Ok(())
+    let mark = read_only(&rt, &row, 3);
+    assert!(rt; mark.len() == 1);
+    drop(mark);
+    drop(row);
+}
+
+// Sets the second cell.
+fn set_second(rt: &impl Abort, alloc: Global, row: &Row<Letter>, mark: &mut Mark<Letter>, code: u8)
+    requires of { IsOf row.now mark.old }
+    requires one { length mark.old.values ≡ 1 }
+    ensures { IsOf row.now mark.new }
+{
+    let letter = letter_of(alloc, code).expect(rt, "memory");
+    assert!(rt; row.set(mark, 1, letter).is_ok());
 }
 
 #[test]
-fn learns_what_another_mark_knows(rt: HostRuntime) -> Result<(), Fail> {
+fn learns_what_another_mark_knows(rt: HostRuntime) {
     let alloc = rt.alloc();
-    let row = Row::found(alloc, 3)?;
+    let row = Row::found(alloc, 3).expect(&rt, "memory");
     let mut late = row.mark();
     let mut mark = set_first(&rt, alloc, &row, 7);
-    assert!(rt; row.set(&mut mark, 1, letter_of(alloc, 8)?).is_ok());
+    set_second(&rt, alloc, &row, &mut mark, 8);
     expect_read(&rt, &row, &mut late, Some(7));
     expect_learned(&rt, &row, &mut late, &mut mark);
-    Ok(())
+    drop(mark);
+    drop(late);
+    drop(row);
 }
 
 // A boxed letter, made again where a growth is refused.
@@ -155,28 +200,37 @@ fn boxed(rt: &impl Abort, alloc: Global, code: u8) -> Box<Letter> {
 }
 
 // The letter that came back with the refusal for want of memory.
-fn starved(set: Result<(), SetRefusal<Letter>>) -> Option<Box<Letter>> {
-    match set {
-        Err(SetRefusal::NoMemory(value)) => Some(value),
-        _ => None,
+fn starved(refusal: SetRefusal<Letter>) -> Option<Box<Letter>> {
+    match refusal {
+        SetRefusal::NoMemory(value) => Some(value),
+        SetRefusal::RowFull(_) | SetRefusal::Taken(_) => None,
     }
 }
 
-// Sets the first cell: a refused growth gives the letter back, and leaves the cell and the mark as they were.
+// Sets the first cell with the letter that a refused growth gave back, which has left the cell and the mark as they were.
+fn set_once_more(rt: &impl Abort, row: &Row<Letter>, mark: &mut Mark<Letter>, back: Box<Letter>)
+    requires of { IsOf row.now mark.old }
+    requires empty { mark.old.values ≡ [] }
+    ensures { IsOf row.now mark.new }
+{
+    assert!(rt; row.get(0).is_none());
+    assert!(rt; mark.len() == 0);
+    assert!(rt; row.set(mark, 0, back).is_ok());
+}
+
+// Sets the first cell, again where a growth is refused.
 fn set_again(rt: &impl Abort, row: &Row<Letter>, mark: &mut Mark<Letter>, letter: Box<Letter>)
     requires of { IsOf row.now mark.old }
     requires empty { mark.old.values ≡ [] }
     ensures { IsOf row.now mark.new }
 {
-    let set = row.set(mark, 0, letter);
-    if set.is_ok() {
-        return;
+    match row.set(mark, 0, letter) {
+        Ok(()) => {}
+        Err(refusal) => {
+            let back = starved(refusal).expect(rt, "the letter");
+            set_once_more(rt, row, mark, back);
+        }
     }
-    let back = starved(set).expect(rt, "the letter");
-    assert!(rt; row.get(0).is_none());
-    assert!(rt; mark.len() == 0);
-    let set = row.set(mark, 0, back);
-    assert!(rt; set.is_ok());
 }
 
 // What is read next, again where a growth is refused.
@@ -209,13 +263,14 @@ fn a_row_that_is_asked_again(rt: HostRuntime) {
     };
     let mut mark = row.mark();
     set_again(&rt, &row, &mut mark, boxed(&rt, alloc, 7));
+    assert!(rt; mark.len() == 1);
+    drop(mark);
     let mut fresh = row.mark();
     read_again(&rt, &row, &mut fresh, Some(7));
     read_again(&rt, &row, &mut fresh, None);
     let again = second(&rt, alloc, &mut fresh);
-    assert!(rt; mark.len() == 1 && again.len() == 1);
+    assert!(rt; again.len() == 1);
     drop(again);
     drop(fresh);
-    drop(mark);
     drop(row);
 }

@@ -208,26 +208,73 @@ fn pair_count(rt: &impl Abort, alloc: Global, pairs: &HashedPairs<Name, u64>) ->
     count
 }
 
+// Whether the pair stands there.
+fn has_pair(
+    rt: &impl Abort,
+    alloc: Global,
+    pairs: &HashedPairs<Name, u64>,
+    first: &str,
+    second: u64,
+) -> bool {
+    let first = name(rt, alloc, first);
+    pairs.contains(&first, &second)
+}
+
+// Read with 3 and 5, and pay with 4.
+fn three_pairs(rt: &impl Abort, alloc: Global) -> HashedPairs<Name, u64> {
+    let mut pairs = HashedPairs::new(alloc);
+    add(rt, alloc, &mut pairs, "read", 5);
+    add(rt, alloc, &mut pairs, "pay", 4);
+    add(rt, alloc, &mut pairs, "read", 3);
+    add(rt, alloc, &mut pairs, "read", 5);
+    pairs
+}
+
 #[test]
 fn pairs_are_found_by_their_first_half(rt: HostRuntime) {
     let alloc = rt.alloc();
-    let mut pairs = HashedPairs::new(alloc);
-    add(&rt, alloc, &mut pairs, "read", 5);
-    add(&rt, alloc, &mut pairs, "pay", 4);
-    add(&rt, alloc, &mut pairs, "read", 3);
-    add(&rt, alloc, &mut pairs, "read", 5);
+    let pairs = three_pairs(&rt, alloc);
     assert!(rt; has_seconds(&rt, alloc, &pairs, "read", &[3, 5]));
     assert!(rt; has_seconds(&rt, alloc, &pairs, "approve", &[]));
-    assert!(rt; pairs.contains(&name(&rt, alloc, "pay"), &4));
+    assert!(rt; has_pair(&rt, alloc, &pairs, "pay", 4));
+    assert!(rt; pair_count(&rt, alloc, &pairs) == 3);
+    drop(pairs);
+}
+
+#[test]
+fn pairs_are_taken_out(rt: HostRuntime) {
+    let alloc = rt.alloc();
+    let mut pairs = three_pairs(&rt, alloc);
     let copy = pairs.copy().expect(&rt, "memory");
     assert!(rt; copy.same(&pairs));
-    pairs.remove(&name(&rt, alloc, "pay"), &4);
-    assert!(rt; !pairs.contains(&name(&rt, alloc, "pay"), &4));
-    pairs.retain(&BelowLimit(4));
+    take_out(&rt, alloc, &mut pairs, "pay", 4);
+    assert!(rt; !has_pair(&rt, alloc, &pairs, "pay", 4));
+    take_out(&rt, alloc, &mut pairs, "read", 5);
     assert!(rt; has_seconds(&rt, alloc, &pairs, "read", &[3]));
     assert!(rt; !copy.same(&pairs));
     assert!(rt; pair_count(&rt, alloc, &copy) == 3);
     drop(copy);
+    drop(pairs);
+}
+
+fn take_out(
+    rt: &impl Abort,
+    alloc: Global,
+    pairs: &mut HashedPairs<Name, u64>,
+    first: &str,
+    second: u64,
+) {
+    let first = name(rt, alloc, first);
+    pairs.remove(&first, &second);
+}
+
+#[test]
+fn pairs_that_pass_are_kept(rt: HostRuntime) {
+    let alloc = rt.alloc();
+    let mut pairs = three_pairs(&rt, alloc);
+    pairs.retain(&BelowLimit(4));
+    assert!(rt; has_seconds(&rt, alloc, &pairs, "read", &[3]));
+    assert!(rt; has_seconds(&rt, alloc, &pairs, "pay", &[]));
     drop(pairs);
 }
 

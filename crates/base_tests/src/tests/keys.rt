@@ -121,8 +121,8 @@ fn a_set_with_room_takes_keys(rt: HostRuntime) {
     let mut set = SortedSet::new(rt.alloc());
     assert!(rt; set.is_empty());
     set.reserve(2).expect(&rt, "memory");
-    set.put(2u64);
-    set.put(1);
+    set.put(1u64);
+    set.put(2);
     expect_keys(&rt, &set, &[1, 2]);
     drop(set);
 }

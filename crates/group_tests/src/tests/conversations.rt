@@ -108,6 +108,76 @@ fn answers_each_line(rt: HostRuntime) {
     assert_eq!(rt; written.as_slice(), OUTPUT);
 }
 
+// The outer object is looked at first, then the name of its command, then the fields of that from left to right, and then each for keys
+// too many: most lines would fail the next check too.
+const REFUSED: &[u8] = br#"{
+[1]
+{"command":{"name":"Fly"},"now":1}
+{"at":1.0}
+{"at":1,"now":1}
+{"at":1,"command":"Fly","now":1}
+{"at":1,"command":{"name":"Fly"},"do":"submit"}
+{"at":1,"command":{"user":"a b","now":1}}
+{"at":1,"command":{"name":7,"now":1}}
+{"at":1,"command":{"name":"Fly","now":1}}
+{"at":1,"command":{"name":"AssignUser","role":7}}
+{"at":1,"command":{"name":"AssignUser","user":7,"role":"a b"}}
+{"at":1,"command":{"name":"AssignUser","user":"a b","now":1}}
+{"at":1,"command":{"name":"AssignUser","user":"ann","now":1}}
+{"at":1,"command":{"name":"AssignUser","user":"ann","role":[],"now":1}}
+{"at":1,"command":{"name":"AssignUser","user":"ann","role":"","now":1}}
+{"at":9,"command":{"name":"AssignUser","user":"ann","role":"clerk","now":1}}
+{"at":1,"command":{"name":"CreateSession","user":"ann","session":"a b","roles":7}}
+{"at":1,"command":{"name":"CreateSession","user":"ann","session":"s","now":1}}
+{"at":1,"command":{"name":"CreateSession","user":"ann","session":"s","roles":["a b",7],"now":1}}
+{"at":1,"command":{"name":"CreateSession","user":"ann","session":"s","roles":["a b"],"now":1}}
+{"at":9,"command":{"name":"CreateSession","user":"ann","session":"s","roles":[],"now":1}}
+{"at":1,"command":{"name":"Fly"}}
+{"at":1,"command":{"name":"AddUser"}}
+{"at":1,"command":{"name":"AddUser","user":"a b"}}
+{"at":1,"command":{"name":"AddUser","user":"ann","at":1}}
+"#;
+
+const WHY: &[u8] = br#"{"line":1,"refused":"NotJson"}
+{"line":2,"refused":"NotObject"}
+{"line":3,"refused":"MissingField"}
+{"line":4,"refused":"WrongKind"}
+{"line":5,"refused":"MissingField"}
+{"line":6,"refused":"WrongKind"}
+{"line":7,"refused":"ExtraField"}
+{"line":8,"refused":"MissingField"}
+{"line":9,"refused":"WrongKind"}
+{"line":10,"refused":"UnknownWord"}
+{"line":11,"refused":"MissingField"}
+{"line":12,"refused":"WrongKind"}
+{"line":13,"refused":"BadName"}
+{"line":14,"refused":"MissingField"}
+{"line":15,"refused":"WrongKind"}
+{"line":16,"refused":"BadName"}
+{"line":17,"refused":"ExtraField"}
+{"line":18,"refused":"BadName"}
+{"line":19,"refused":"MissingField"}
+{"line":20,"refused":"WrongKind"}
+{"line":21,"refused":"BadName"}
+{"line":22,"refused":"ExtraField"}
+{"line":23,"refused":"UnknownWord"}
+{"line":24,"refused":"MissingField"}
+{"line":25,"refused":"BadName"}
+{"line":26,"refused":"ExtraField"}
+"#;
+
+#[test]
+fn refuses_lines_by_the_first_failing_check(rt: HostRuntime) {
+    let mut written = Vec::new(rt.alloc());
+    let summary = Summary {
+        lines: 26,
+        refused: 26,
+    };
+    expect_conversation(&rt, rt.alloc(), REFUSED, &mut written, 0, Ok(summary), &[]);
+    assert_eq!(rt; written.as_slice(), WHY);
+    drop(written);
+}
+
 const TWO: &[u8] = br#"{"at":1,"command":{"name":"AddUser","user":"ann"}}
 {"at":7,"command":{"name":"AddUser","user":"bob"}}
 nothing

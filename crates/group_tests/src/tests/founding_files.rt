@@ -127,64 +127,6 @@ fn expect_refused(
     assert_eq!(rt; refused, Some(refusal), "{first}\n{second}");
 }
 
-#[test]
-fn the_first_refusal_of_keys_and_numbers(rt: HostRuntime) {
-    let wrong = FoundingRefusal::WrongKind;
-    let outside = FoundingRefusal::OutOfRange;
-    for (lines, refusal) in [
-        ("version = 3\nother = 1", FoundingRefusal::BadVersion),
-        ("version = 1.0\nother = 1", FoundingRefusal::BadVersion),
-        ("version = 1\nother = 1", FoundingRefusal::UnknownKey),
-        ("version = 1\nclock = \"1\"", FoundingRefusal::MissingKey),
-        ("version = 1\nmembers = \"1\"\nclock = -1", wrong),
-        ("version = 1\nmembers = 9\nclock = 1.0", wrong),
-        ("version = 1\nmembers = 0", outside),
-        ("version = 1\nmembers = 9", outside),
-        ("version = 1\nmembers = -1", outside),
-        (
-            "version = 1\nmembers = 1\nclock = 9007199254740992",
-            outside,
-        ),
-        ("version = 1\nmembers = 1\nsent_limit = 65537", outside),
-    ] {
-        let lists = "operations = []\nobjects = []\npermissions = []";
-        expect_refused(&rt, rt.alloc(), lines, lists, refusal);
-    }
-}
-
-#[test]
-fn the_first_refusal_of_lists(rt: HostRuntime) {
-    for (lists, refusal) in [
-        (
-            "clock = -1\noperations = [\"\", 1]\nobjects = []\npermissions = []",
-            FoundingRefusal::WrongKind,
-        ),
-        (
-            "clock = -1\noperations = []\nobjects = []\npermissions = [[\"a\", \"b\", \"c\"]]",
-            FoundingRefusal::WrongKind,
-        ),
-        (
-            "clock = -1\noperations = [\"\"]\nobjects = []\npermissions = []",
-            FoundingRefusal::OutOfRange,
-        ),
-        (
-            "operations = [\"a\", \"a\"]\nobjects = [\"no name\"]\npermissions = []",
-            FoundingRefusal::BadName,
-        ),
-        (
-            "operations = [\"a\", \"a\"]\nobjects = []\npermissions = [[\"a\", \"b\"]]",
-            FoundingRefusal::Repeated,
-        ),
-        (
-            "operations = [\"a\"]\nobjects = []\npermissions = [[\"a\", \"b\"]]",
-            FoundingRefusal::UnknownName,
-        ),
-    ] {
-        let numbers = "version = 1\nmembers = 1";
-        expect_refused(&rt, rt.alloc(), numbers, lists, refusal);
-    }
-}
-
 // The kind of hierarchy that a file founds.
 fn hierarchy_of(alloc: Global, file: &[u8]) -> Option<HierarchyKind> {
     match read_founding(alloc, file) {
@@ -210,70 +152,6 @@ fn a_file_names_its_hierarchy_in_version_two(rt: HostRuntime) -> Result<(), Allo
     Ok(())
 }
 
-// A file of these lines, and of operations that stand twice, is refused so.
-fn expect_repeating_refused(rt: &impl Abort, alloc: Global, lines: &str, refusal: FoundingRefusal) {
-    let lists = "operations = [\"a\", \"a\"]\nobjects = []\npermissions = []";
-    expect_refused(rt, alloc, lines, lists, refusal);
-}
-
-// Each file is refused by the next check too, if there is one that sees the hierarchy.
-#[test]
-fn the_first_refusal_of_a_hierarchy(rt: HostRuntime) {
-    for (lines, refusal) in [
-        (
-            "version = 3\nhierarchy = \"limited\"\nmembers = 1\nother = 1",
-            FoundingRefusal::BadVersion,
-        ),
-        (
-            "version = 0\nhierarchy = \"limited\"\nmembers = 1",
-            FoundingRefusal::BadVersion,
-        ),
-        (
-            "version = 1\nhierarchy = \"limited\"",
-            FoundingRefusal::UnknownKey,
-        ),
-        (
-            "version = 1\nhierarchy = 1\nmembers = 1",
-            FoundingRefusal::UnknownKey,
-        ),
-        (
-            "version = 2\nother = \"limited\"\nmembers = 1",
-            FoundingRefusal::UnknownKey,
-        ),
-        ("version = 2\nmembers = \"1\"", FoundingRefusal::MissingKey),
-        (
-            "version = 2\nhierarchy = \"other\"\nclock = 1.0",
-            FoundingRefusal::MissingKey,
-        ),
-        (
-            "version = 2\nhierarchy = 1\nmembers = 9",
-            FoundingRefusal::WrongKind,
-        ),
-        (
-            "version = 2\nhierarchy = [\"limited\"]\nmembers = 1",
-            FoundingRefusal::WrongKind,
-        ),
-        (
-            "version = 2\nhierarchy = \"other\"\nmembers = 1",
-            FoundingRefusal::OutOfRange,
-        ),
-        (
-            "version = 2\nhierarchy = \"Limited\"\nmembers = 1",
-            FoundingRefusal::OutOfRange,
-        ),
-        (
-            "version = 2\nhierarchy = \"limited\"\nmembers = 0",
-            FoundingRefusal::OutOfRange,
-        ),
-        (
-            "version = 2\nhierarchy = \"limited\"\nmembers = 1",
-            FoundingRefusal::Repeated,
-        ),
-    ] {
-        expect_repeating_refused(&rt, rt.alloc(), lines, refusal);
-    }
-}
-
 #[test]
 fn a_file_that_is_too_long_and_no_toml(rt: HostRuntime) {
     let mut file = Vec::new(rt.alloc());
@@ -286,31 +164,85 @@ fn a_file_that_is_too_long_and_no_toml(rt: HostRuntime) {
     drop(file);
 }
 
-#[test]
-fn each_key_that_is_missing(rt: HostRuntime) {
-    let missing = FoundingRefusal::MissingKey;
-    for lists in [
-        "operations = []\nobjects = []\npermissions = 1",
-        "members = \"1\"\nobjects = []\npermissions = []",
-        "members = \"1\"\noperations = []\npermissions = []",
-        "members = \"1\"\noperations = []\nobjects = []",
-    ] {
-        expect_refused(&rt, rt.alloc(), "version = 1", lists, missing);
+// Each row is the word of a refusal and a file, with semicolons between its lines. Most files would be refused by the next check too.
+const REFUSED: &str =
+    r#"BadVersion: version = 3; other = 1; operations = []; objects = []; permissions = []
+BadVersion: version = 1.0; other = 1; operations = []; objects = []; permissions = []
+UnknownKey: version = 1; other = 1; operations = []; objects = []; permissions = []
+MissingKey: version = 1; clock = "1"; operations = []; objects = []; permissions = []
+WrongKind: version = 1; members = "1"; clock = -1; operations = []; objects = []; permissions = []
+WrongKind: version = 1; members = 9; clock = 1.0; operations = []; objects = []; permissions = []
+OutOfRange: version = 1; members = 0; operations = []; objects = []; permissions = []
+OutOfRange: version = 1; members = 9; operations = []; objects = []; permissions = []
+OutOfRange: version = 1; members = -1; operations = []; objects = []; permissions = []
+OutOfRange: version = 1; members = 1; clock = 9007199254740992; operations = []; objects = []; permissions = []
+OutOfRange: version = 1; members = 1; sent_limit = 65537; operations = []; objects = []; permissions = []
+WrongKind: version = 1; members = 1; clock = -1; operations = ["", 1]; objects = []; permissions = []
+WrongKind: version = 1; members = 1; clock = -1; operations = []; objects = []; permissions = [["a", "b", "c"]]
+OutOfRange: version = 1; members = 1; clock = -1; operations = [""]; objects = []; permissions = []
+BadName: version = 1; members = 1; operations = ["a", "a"]; objects = ["no name"]; permissions = []
+Repeated: version = 1; members = 1; operations = ["a", "a"]; objects = []; permissions = [["a", "b"]]
+UnknownName: version = 1; members = 1; operations = ["a"]; objects = []; permissions = [["a", "b"]]
+BadVersion: version = 3; hierarchy = "limited"; members = 1; other = 1; operations = ["a", "a"]; objects = []; permissions = []
+BadVersion: version = 0; hierarchy = "limited"; members = 1; operations = ["a", "a"]; objects = []; permissions = []
+UnknownKey: version = 1; hierarchy = "limited"; operations = ["a", "a"]; objects = []; permissions = []
+UnknownKey: version = 1; hierarchy = 1; members = 1; operations = ["a", "a"]; objects = []; permissions = []
+UnknownKey: version = 2; other = "limited"; members = 1; operations = ["a", "a"]; objects = []; permissions = []
+MissingKey: version = 2; members = "1"; operations = ["a", "a"]; objects = []; permissions = []
+MissingKey: version = 2; hierarchy = "other"; clock = 1.0; operations = ["a", "a"]; objects = []; permissions = []
+WrongKind: version = 2; hierarchy = 1; members = 9; operations = ["a", "a"]; objects = []; permissions = []
+WrongKind: version = 2; hierarchy = ["limited"]; members = 1; operations = ["a", "a"]; objects = []; permissions = []
+OutOfRange: version = 2; hierarchy = "other"; members = 1; operations = ["a", "a"]; objects = []; permissions = []
+OutOfRange: version = 2; hierarchy = "Limited"; members = 1; operations = ["a", "a"]; objects = []; permissions = []
+OutOfRange: version = 2; hierarchy = "limited"; members = 0; operations = ["a", "a"]; objects = []; permissions = []
+Repeated: version = 2; hierarchy = "limited"; members = 1; operations = ["a", "a"]; objects = []; permissions = []
+MissingKey: version = 1; operations = []; objects = []; permissions = 1
+MissingKey: version = 1; members = "1"; objects = []; permissions = []
+MissingKey: version = 1; members = "1"; operations = []; permissions = []
+MissingKey: version = 1; members = "1"; operations = []; objects = []
+WrongKind: version = 1; members = 9; operations = ""; objects = []; permissions = []
+WrongKind: version = 1; members = 9; operations = []; objects = {}; permissions = []
+WrongKind: version = 1; members = 9; operations = []; objects = []; permissions = ["read", "ledger"]
+WrongKind: version = 1; members = 9; operations = []; objects = []; permissions = [["read"]]
+WrongKind: version = 1; members = 9; operations = []; objects = []; permissions = [["read", 1]]
+OutOfRange: version = 1; members = 0; operations = [""]; objects = []; permissions = []
+OutOfRange: version = 1; members = 9; operations = [""]; objects = []; permissions = []
+OutOfRange: version = 1; members = 1; clock = -1; operations = [""]; objects = []; permissions = []
+OutOfRange: version = 1; members = 1; clock = 9007199254740992; operations = [""]; objects = []; permissions = []
+OutOfRange: version = 1; members = 1; sent_limit = 0; operations = [""]; objects = []; permissions = []
+OutOfRange: version = 1; members = 1; sent_limit = 65537; operations = [""]; objects = []; permissions = []
+BadName: version = 1; members = 1; operations = ["a b", "a b"]; objects = []; permissions = []
+BadName: version = 1; members = 1; operations = ["a", "a"]; objects = [""]; permissions = []
+BadName: version = 1; members = 1; operations = ["a", "a"]; objects = []; permissions = [["a", "a b"]]
+Repeated: version = 1; members = 1; operations = ["a", "a"]; objects = []; permissions = [["a", "b"]]
+Repeated: version = 1; members = 1; operations = []; objects = ["a", "a"]; permissions = [["a", "b"]]
+Repeated: version = 1; members = 1; operations = []; objects = []; permissions = [["a", "b"], ["a", "b"]]
+UnknownName: version = 1; members = 1; operations = ["approve", "pay", "read"]; objects = ["invoice", "ledger"]; permissions = [["approve", "invoice"], ["pay", "invoice"], ["read", "ledger"], ["read", "moon"]]
+UnknownName: version = 1; members = 1; operations = ["approve", "pay", "read"]; objects = ["invoice", "ledger"]; permissions = [["approve", "invoice"], ["fly", "ledger"]]"#;
+
+// The file of a row.
+fn file_of(rt: &impl Abort, alloc: Global, lines: &str) -> String {
+    let mut file = String::new(alloc);
+    for line in lines.split("; ") {
+        file.push_str(line).expect(rt, "memory");
+        file.push('\n').expect(rt, "memory");
     }
+    file
+}
+
+// The file of a row is refused by the row's word.
+fn expect_row(rt: &impl Abort, alloc: Global, row: &str) {
+    let (word, lines) = row.split_once(": ").expect(rt, "a row");
+    let file = file_of(rt, alloc, lines);
+    let refusal = refusal_of(alloc, file.as_bytes()).expect(rt, "a refusal");
+    assert_eq!(rt; refusal.word(), word, "{row}");
+    drop(file);
 }
 
 #[test]
-fn each_list_of_another_kind(rt: HostRuntime) {
-    let wrong = FoundingRefusal::WrongKind;
-    for lists in [
-        "operations = \"\"\nobjects = []\npermissions = []",
-        "operations = []\nobjects = {}\npermissions = []",
-        "operations = []\nobjects = []\npermissions = [\"read\", \"ledger\"]",
-        "operations = []\nobjects = []\npermissions = [[\"read\"]]",
-        "operations = []\nobjects = []\npermissions = [[\"read\", 1]]",
-    ] {
-        let numbers = "version = 1\nmembers = 9";
-        expect_refused(&rt, rt.alloc(), numbers, lists, wrong);
+fn the_first_refusal_of_each_file(rt: HostRuntime) {
+    for row in REFUSED.lines() {
+        expect_row(&rt, rt.alloc(), row);
     }
 }
 
@@ -359,67 +291,6 @@ fn objects_have_a_limit(rt: HostRuntime) {
 fn permissions_have_a_limit(rt: HostRuntime) {
     let outside = FoundingRefusal::OutOfRange;
     expect_long_lists(&rt, rt.alloc(), (0, 0, 16_385), outside);
-}
-
-#[test]
-fn each_number_outside_its_range(rt: HostRuntime) {
-    let outside = FoundingRefusal::OutOfRange;
-    for numbers in [
-        "version = 1\nmembers = 0",
-        "version = 1\nmembers = 9",
-        "version = 1\nmembers = 1\nclock = -1",
-        "version = 1\nmembers = 1\nclock = 9007199254740992",
-        "version = 1\nmembers = 1\nsent_limit = 0",
-        "version = 1\nmembers = 1\nsent_limit = 65537",
-    ] {
-        let lists = "operations = [\"\"]\nobjects = []\npermissions = []";
-        expect_refused(&rt, rt.alloc(), numbers, lists, outside);
-    }
-}
-
-#[test]
-fn a_bad_name_in_each_list(rt: HostRuntime) {
-    let bad = FoundingRefusal::BadName;
-    for lists in [
-        "operations = [\"a b\", \"a b\"]\nobjects = []\npermissions = []",
-        "operations = [\"a\", \"a\"]\nobjects = [\"\"]\npermissions = []",
-        "operations = [\"a\", \"a\"]\nobjects = []\npermissions = [[\"a\", \"a b\"]]",
-    ] {
-        let numbers = "version = 1\nmembers = 1";
-        expect_refused(&rt, rt.alloc(), numbers, lists, bad);
-    }
-}
-
-#[test]
-fn a_repetition_in_each_list(rt: HostRuntime) {
-    let repeated = FoundingRefusal::Repeated;
-    for lists in [
-        "operations = [\"a\", \"a\"]\nobjects = []\npermissions = [[\"a\", \"b\"]]",
-        "operations = []\nobjects = [\"a\", \"a\"]\npermissions = [[\"a\", \"b\"]]",
-        "operations = []\nobjects = []\npermissions = [[\"a\", \"b\"], [\"a\", \"b\"]]",
-    ] {
-        let numbers = "version = 1\nmembers = 1";
-        expect_refused(&rt, rt.alloc(), numbers, lists, repeated);
-    }
-}
-
-// The lists of names in the sample.
-const NAMES: &str = r#"
-version = 1
-members = 1
-operations = ["approve", "pay", "read"]
-objects = ["invoice", "ledger"]
-"#;
-
-#[test]
-fn the_sample_with_a_permission_of_an_unknown_object(rt: HostRuntime) {
-    let unknown = FoundingRefusal::UnknownName;
-    let permissions =
-        r#"permissions = [["approve", "invoice"], ["pay", "invoice"], ["read", "ledger"], ["read", "moon"]]"#;
-    expect_refused(&rt, rt.alloc(), NAMES, permissions, unknown);
-    // An operation that is not listed is refused so too.
-    let permissions = r#"permissions = [["approve", "invoice"], ["fly", "ledger"]]"#;
-    expect_refused(&rt, rt.alloc(), NAMES, permissions, unknown);
 }
 
 fn names(rt: &impl Abort, alloc: Global, texts: &[&str]) -> Vec<Name> {

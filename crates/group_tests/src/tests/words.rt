@@ -27,7 +27,7 @@ fn groups_are_within_limits(rt: HostRuntime) {
         (0, 0, 1, GroupRefusal::BadMembers),
         (9, 0, 1, GroupRefusal::BadMembers),
         (9, last + 1, 0, GroupRefusal::BadMembers),
-        (8, last + 1, 1, GroupRefusal::BadClock),
+        (8, last + 1, 0, GroupRefusal::BadClock),
         (1, last + 1, 65_537, GroupRefusal::BadClock),
         (1, last, 0, GroupRefusal::BadSentLimit),
         (8, 0, 65_537, GroupRefusal::BadSentLimit),

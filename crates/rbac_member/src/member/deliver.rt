@@ -25,15 +25,20 @@ fn take_over(held: &mut Holdback, history: &mut Vec<Record>, answer: Answer)
     else {
         unreachable!()
     };
-    let Ok(()) = history.push(Record {
+    let record = Record {
         stamp,
         caller,
         serial,
         command,
         answer,
-    }) else {
-        unreachable!()
     };
+    match history.push(record) {
+        Ok(()) => {}
+        Err(back) => {
+            drop(back);
+            unreachable!()
+        }
+    }
 }
 
 impl Member {

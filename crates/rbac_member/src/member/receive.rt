@@ -66,9 +66,13 @@ fn acknowledge(outbox: &mut Outbox, stamp: Option<Stamp>)
     ensures limit { outbox.new.limit ≡ outbox.old.limit }
 {
     if let Some(stamp) = stamp {
-        let Ok(_) = outbox.push(Message::Ack { stamp }) else {
-            unreachable!()
-        };
+        match outbox.push(Message::Ack { stamp }) {
+            Ok(_) => {}
+            Err(back) => {
+                drop(back);
+                unreachable!()
+            }
+        }
     }
 }
 

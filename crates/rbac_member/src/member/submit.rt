@@ -43,10 +43,13 @@ fn send(
     if outbox.make_room().is_err() || hold(alloc, serials, held, &message).is_err() {
         return Err(dropped(message));
     }
-    let Ok(_) = outbox.push(message) else {
-        unreachable!()
-    };
-    Ok(())
+    match outbox.push(message) {
+        Ok(_) => Ok(()),
+        Err(back) => {
+            drop(back);
+            unreachable!()
+        }
+    }
 }
 
 impl Member {

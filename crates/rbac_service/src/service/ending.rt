@@ -14,9 +14,13 @@ fn taken<G: GroupName>(mut slots: Vec<Slot<G>>, mut room: Vec<Node<G>>) -> Vec<N
     ensures { vec_len result ≡ vec_len slots }
 {
     while let Some(slot) = slots.pop() {
-        let Ok(()) = room.push(slot.node.into_inner()) else {
-            unreachable!()
-        };
+        match room.push(slot.node.into_inner()) {
+            Ok(()) => {}
+            Err(back) => {
+                drop(back);
+                unreachable!()
+            }
+        }
     }
     room.reverse();
     room

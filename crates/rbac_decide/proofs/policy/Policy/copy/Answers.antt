@@ -1,18 +1,23 @@
-use Rattle.std.proofs.Common.{◌∙◌, subst, sym, ap}
+use Rattle.std.proofs.Common.{◌≡◌, Ok, IfOk, subst, sym, ap, ◌∙◌}
 use Rattle.rbac_terms.specs.Sound.{IsSound}
 use Rattle.rbac_separation.specs.Counts.{numbers_of}
-use Rattle.rbac_decide.specs.Tables.{state_of}
+use Rattle.rbac_decide.specs.Tables.{state_of, HaveSameSets}
 use Rattle.rbac_decide.proofs.TablesLemmas.{same_state, roles_stay_same, counts_stay_right}
 use Rattle.rbac_decide.proofs.policy.Policy.copy.Goals as goal
 
 pub invariant_of-result : goal.invariant_of-result
 invariant_of-result c =
     let old = c.self.inside.tables in
-    let copy = c.in_ok-copy.field-0 in
+    let copy = c.in_ok-tables.tables in
+    let counts = c.in_ok-tables.counts in
     let v = c.self.inside.vocabulary in
-    let same = c.in_ok-copy.ensures in
+    let outer = c.in_ok-tables.ensures in
+    let inner = subst (λ r. IfOk r (λ both. (c.copy.result ≡ Ok both.0) × (c.copy-2.result ≡ Ok both.1))) outer.0 c.both-tables.ensures in
+    let same : HaveSameSets copy old = subst (λ r. IfOk r (λ tables. HaveSameSets tables old)) inner.0 c.copy.ensures in
+    let counted : counts.content ≡ c.self.inside.counts.content = subst (λ r. IfOk r (λ copied. copied.content ≡ c.self.inside.counts.content)) inner.1 c.copy-2.ensures in
+    let words : c.in_ok-tables.vocabulary ≡ v = subst (λ r. IfOk r (λ copied. copied ≡ v)) outer.1 c.copy-3.ensures in
     record {
-      sound = subst IsSound (sym (ap (state_of copy) c.in_ok-copy-3.ensures ∙ same_state copy old same v)) c.self.invariant.sound;
+      sound = subst IsSound (sym (ap (state_of copy) words ∙ same_state copy old same v)) c.self.invariant.sound;
       same_roles = roles_stay_same copy old same c.self.invariant.same_roles;
-      counted = counts_stay_right copy old same c.self.inside.counts c.in_ok-copy-2.field-0 (ap (λ content. numbers_of (record { content = content; room = 0 })) c.in_ok-copy-2.ensures) c.self.invariant.counted;
+      counted = counts_stay_right copy old same c.self.inside.counts counts (ap (λ content. numbers_of (record { content = content; room = 0 })) counted) c.self.invariant.counted;
     }
