@@ -135,7 +135,11 @@ impl Taking for Applying {
         text: &mut Vec<u8>,
     ) -> Result<bool, AllocError> {
         match read_client(alloc, line) {
-            Ok((at, command)) => ask(served, alloc, number, at, &command, text),
+            Ok((at, command)) => {
+                let is_refused = ask(served, alloc, number, at, &command, text);
+                drop(command);
+                is_refused
+            }
             Err(refusal) => refuse(text, number, refusal),
         }
     }

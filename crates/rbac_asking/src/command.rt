@@ -59,6 +59,16 @@ fn why_text<'w>(alloc: Global, check: Check<'w>, policy: &Policy) -> Result<Vec<
     Ok(why(alloc, policy, &session, &operation, &object)?)
 }
 
+// Writes what is asked of a policy.
+fn write_told<'w, W: Write>(
+    alloc: Global,
+    asked: Asked<'w>,
+    policy: &Policy,
+    writer: &mut W,
+) -> Result<(), Failure<'w>> {
+    write_whole(writer, &text_of(alloc, asked, policy)?)
+}
+
 // Plays a schedule, and writes what is asked of member 1.
 fn answer_schedule<'w, R: Read + Drop, W: Write, E: Write>(
     alloc: Global,
@@ -72,7 +82,9 @@ fn answer_schedule<'w, R: Read + Drop, W: Write, E: Write>(
     let Some(member) = world.member(1) else {
         unreachable!()
     };
-    write_whole(writer, &text_of(alloc, asked, member.policy())?)
+    let written = write_told(alloc, asked, member.policy(), writer);
+    drop(world);
+    written
 }
 
 // Applies client lines, and writes what is asked of the policy.
@@ -85,7 +97,9 @@ fn answer_served<'w, R: Read + Drop, W: Write, E: Write>(
     errors: &mut E,
 ) -> Result<(), Failure<'w>> {
     let served = serve(alloc, founding, reader, errors)?;
-    write_whole(writer, &text_of(alloc, asked, served.policy())?)
+    let written = write_told(alloc, asked, served.policy(), writer);
+    drop(served);
+    written
 }
 
 // Reads the lines, and writes what is asked of them.

@@ -58,12 +58,18 @@ pub(crate) fn serve<'w, R: Read + Drop, E: Write>(
 ) -> Result<Served, Failure<'w>> {
     let Founding { group, vocabulary } = founding;
     let mut served = Served::found(group.members(), Policy::found(alloc, vocabulary));
-    run_lines::<Applying, R, &mut E>(
+    let ended = run_lines::<Applying, R, &mut E>(
         alloc,
         &mut watch(reader),
         &mut watch(errors),
         &mut served,
         MOST_READS,
-    )?;
-    Ok(served)
+    );
+    match ended {
+        Ok(_) => Ok(served),
+        Err(fault) => {
+            drop(served);
+            Err(Failure::Run(fault))
+        }
+    }
 }

@@ -39,7 +39,11 @@ impl Taking for Tracing {
         text: &mut Vec<u8>,
     ) -> Result<bool, AllocError> {
         match read_line(alloc, line) {
-            Ok(event) => trace(world, alloc, number, &event, text),
+            Ok(event) => {
+                let is_refused = trace(world, alloc, number, &event, text);
+                drop(event);
+                is_refused
+            }
             Err(refusal) => refuse(alloc, number, refusal, text),
         }
     }
@@ -124,7 +128,11 @@ impl Taking for Drawing {
         _text: &mut Vec<u8>,
     ) -> Result<bool, AllocError> {
         match read_line(alloc, line) {
-            Ok(event) => draw(&mut drawn.world, &mut drawn.diagram, alloc, number, &event),
+            Ok(event) => {
+                let is_refused = draw(&mut drawn.world, &mut drawn.diagram, alloc, number, &event);
+                drop(event);
+                is_refused
+            }
             Err(refusal) => skip(refusal),
         }
     }

@@ -148,6 +148,17 @@ fn a_short_buffer_has_the_command_applied_once(rt: HostRuntime) {
     expect_end(&rt, rt.alloc(), place);
 }
 
+#[test]
+fn no_buffer_at_all_has_the_command_applied(rt: HostRuntime) {
+    let mut place = Place::empty();
+    expect_open(&rt, rt.alloc(), &mut place, FOUNDING, 0);
+    let mut written = 9;
+    let told = policy_apply(&mut place, rt.alloc(), ADD_ANN, &mut [], &mut written);
+    assert_eq!(&rt; (told, written), (42, 6));
+    expect_again(&rt, rt.alloc(), &mut place, 6, 0, DONE, 6);
+    expect_end(&rt, rt.alloc(), place);
+}
+
 const DUMP: &[u8] = br#"{"name":"AddUser","user":"ann"}
 {"name":"AddRole","role":"clerk"}
 {"name":"AssignUser","user":"ann","role":"clerk"}
