@@ -8,6 +8,7 @@ use std::alloc::Global;
 use std::marker::Brand;
 use std::process::Abort;
 use std::sync::Wait;
+use std::sync::atomic::{AtomicU64, Ordering};
 use std::thread;
 use std::thread::Threads;
 use std::time::{Clock, Duration};
@@ -21,8 +22,10 @@ fn calls_until_the_stop<G: GroupName, C: Courier + Drop, R: Wait + Abort>(
     alloc: Global,
     service: &Service<G, NoGate, C>,
     at: u32,
+    enrolled: &AtomicU64,
 ) -> bool {
     let mut pass = new_pass(rt, service, at);
+    enrolled.fetch_add(1, Ordering::SeqCst);
     for _ in 0..30_000u32 {
         if !is_answered(rt, alloc, service, &mut pass) {
             return service.enroll(rt, at).is_err();
@@ -31,13 +34,14 @@ fn calls_until_the_stop<G: GroupName, C: Courier + Drop, R: Wait + Abort>(
     false
 }
 
-// Stops amid the calls, after a million looks at the latest.
+// Stops amid the calls of both callers, after a million looks at the latest.
 fn stop_amid<G: GroupName, C: Courier + Drop, R: Wait + Clock>(
     rt: &R,
     service: &Service<G, NoGate, C>,
+    enrolled: &AtomicU64,
 ) {
     for _ in 0..1_000_000u32 {
-        if service.published(1, RECORDS).is_some() {
+        if enrolled.load(Ordering::SeqCst) == 2 && service.published(1, RECORDS).is_some() {
             break;
         }
         thread::sleep(rt, Duration::from_micros(50));
@@ -50,15 +54,15 @@ fn all_end<
     G: GroupName + Send + Sync,
     C: Courier + Drop + Send + Sync,
     R: Threads + Wait + Clock + Abort + Send + Sync,
->(rt: &R, alloc: Global, service: &Service<G, NoGate, C>) -> bool {
+>(rt: &R, alloc: Global, service: &Service<G, NoGate, C>, enrolled: &AtomicU64) -> bool {
     thread::scope(thread::scope_env(), rt, move |scope| {
         let first = scope.spawn(move || service.pump(rt, alloc, 1));
         let second = scope.spawn(move || service.pump(rt, alloc, 2));
-        let stopper = scope.spawn(move || stop_amid(rt, service));
+        let stopper = scope.spawn(move || stop_amid(rt, service, enrolled));
         let (one, other) = thread::join(
             rt,
-            move || calls_until_the_stop(rt, alloc, service, 1),
-            move || calls_until_the_stop(rt, alloc, service, 2),
+            move || calls_until_the_stop(rt, alloc, service, 1, enrolled),
+            move || calls_until_the_stop(rt, alloc, service, 2, enrolled),
         );
         let (Ok(first), Ok(second), Ok(stopper)) = (first, second, stopper) else {
             return false;
@@ -85,7 +89,8 @@ fn run<G: GroupName + Send + Sync, R: Threads + Wait + Clock + Abort + Copy + Dr
 {
     let courier = ChannelCourier::found(*rt, alloc, 2).expect(rt, "memory");
     let service: Service<G, NoGate, ChannelCourier<R>> = founded(rt, alloc, founding, courier);
-    assert!(rt; all_end(rt, alloc, &service));
+    let enrolled = AtomicU64::new(0);
+    assert!(rt; all_end(rt, alloc, &service, &enrolled));
     let mut nodes = service.take_nodes();
     expect_delivered(rt, alloc, &mut nodes);
     drop(nodes);
