@@ -8,7 +8,6 @@ use std::alloc::Global;
 use std::marker::Brand;
 use std::process::Abort;
 use std::sync::Wait;
-use std::sync::atomic::{AtomicU64, Ordering};
 use std::thread;
 use std::thread::Threads;
 use std::time::{Clock, Duration};
@@ -22,10 +21,8 @@ fn calls_until_the_stop<G: GroupName, C: Courier + Drop, R: Wait + Abort>(
     alloc: Global,
     service: &Service<G, NoGate, C>,
     at: u32,
-    enrolled: &AtomicU64,
 ) -> bool {
     let mut pass = new_pass(rt, service, at);
-    enrolled.fetch_add(1, Ordering::SeqCst);
     for _ in 0..30_000u32 {
         if !is_answered(rt, alloc, service, &mut pass) {
             return service.enroll(rt, at).is_err();
@@ -34,14 +31,13 @@ fn calls_until_the_stop<G: GroupName, C: Courier + Drop, R: Wait + Abort>(
     false
 }
 
-// Stops amid the calls of both callers, after a million looks at the latest.
+// Stops amid the calls, after a million looks at the latest.
 fn stop_amid<G: GroupName, C: Courier + Drop, R: Wait + Clock>(
     rt: &R,
     service: &Service<G, NoGate, C>,
-    enrolled: &AtomicU64,
 ) {
     for _ in 0..1_000_000u32 {
-        if enrolled.load(Ordering::SeqCst) == 2 && service.published(1, RECORDS).is_some() {
+        if service.published(1, RECORDS).is_some() {
             break;
         }
         thread::sleep(rt, Duration::from_micros(50));
@@ -54,15 +50,15 @@ fn all_end<
     G: GroupName + Send + Sync,
     C: Courier + Drop + Send + Sync,
     R: Threads + Wait + Clock + Abort + Send + Sync,
->(rt: &R, alloc: Global, service: &Service<G, NoGate, C>, enrolled: &AtomicU64) -> bool {
+>(rt: &R, alloc: Global, service: &Service<G, NoGate, C>) -> bool {
     thread::scope(thread::scope_env(), rt, move |scope| {
         let first = scope.spawn(move || service.pump(rt, alloc, 1));
         let second = scope.spawn(move || service.pump(rt, alloc, 2));
-        let stopper = scope.spawn(move || stop_amid(rt, service, enrolled));
+        let stopper = scope.spawn(move || stop_amid(rt, service));
         let (one, other) = thread::join(
             rt,
-            move || calls_until_the_stop(rt, alloc, service, 1, enrolled),
-            move || calls_until_the_stop(rt, alloc, service, 2, enrolled),
+            move || calls_until_the_stop(rt, alloc, service, 1),
+            move || calls_until_the_stop(rt, alloc, service, 2),
         );
         let (Ok(first), Ok(second), Ok(stopper)) = (first, second, stopper) else {
             return false;
@@ -89,8 +85,7 @@ fn run<G: GroupName + Send + Sync, R: Threads + Wait + Clock + Abort + Copy + Dr
 {
     let courier = ChannelCourier::found(*rt, alloc, 2).expect(rt, "memory");
     let service: Service<G, NoGate, ChannelCourier<R>> = founded(rt, alloc, founding, courier);
-    let enrolled = AtomicU64::new(0);
-    assert!(rt; all_end(rt, alloc, &service, &enrolled));
+    assert!(rt; all_end(rt, alloc, &service));
     let mut nodes = service.take_nodes();
     expect_delivered(rt, alloc, &mut nodes);
     drop(nodes);
