@@ -34,7 +34,11 @@ impl Taking for Playing {
         text: &mut Vec<u8>,
     ) -> Result<bool, AllocError> {
         match read_line(alloc, line) {
-            Ok(event) => play(alloc, world, number, &event, text),
+            Ok(event) => {
+                let is_refused = play(alloc, world, number, &event, text);
+                drop(event);
+                is_refused
+            }
             Err(refusal) => refuse(text, number, refusal),
         }
     }

@@ -99,7 +99,10 @@ fn add(commands: &mut Vec<Command>, command: Command) -> Reading<()>
 {
     match commands.push(command) {
         Ok(()) => Ok(()),
-        Err(_) => Err(LineRefusal::NoMemory),
+        Err(command) => {
+            drop(command);
+            Err(LineRefusal::NoMemory)
+        }
     }
 }
 

@@ -12,7 +12,7 @@ use crate::group_name::GroupName;
 use crate::node::Node;
 use crate::refusal::{MeetRefusal, ServiceRefusal};
 use rbac_board::{Mark, Row};
-use rbac_words::{Command, Record, Submission};
+use rbac_words::{Command, Record, Stamp, Submission};
 use std::alloc::AllocError;
 use std::marker::{Model, PhantomData};
 pub use ticket::{Receipt, Ticket};
@@ -65,7 +65,7 @@ fn catch_up(mark: &mut Mark<Record>, other: &mut Mark<Record>) -> Result<(), All
 impl<G: GroupName> Pass<G> {
     ghost use Rattle.rbac_terms.specs.State.{founding_state};
     ghost use Rattle.rbac_words.specs.Front.{IsLegalFront};
-    ghost use Rattle.rbac_words.specs.World.{submit_refusal};
+    ghost use Rattle.rbac_words.specs.World.{stamp, submit_refusal};
     ghost use Rattle.rbac_words.specs.Keeping.Member.{node_of, submitted};
     ghost use Rattle.rbac_node.specs.Node.{with_own_member};
     ghost use Rattle.rbac_node.specs.Told.{if_told};
@@ -134,20 +134,46 @@ impl<G: GroupName> Pass<G> {
         ensures node_unchanged { OnErr result (node.new ≡ node.old) }
         ensures unchanged { OnErr result (self.new ≡ self.old) }
     {
+        let serial = self.next;
+        match self.submit_next(node, &command) {
+            Ok(stamp) => Ok(Ticket::new(
+                Submission {
+                    stamp,
+                    caller: self.caller,
+                    serial,
+                    command,
+                },
+                self.front.len(),
+            )),
+            Err(refusal) => {
+                drop(command);
+                Err(refusal)
+            }
+        }
+    }
+
+    // A copy of its next command, submitted at a node; that command's stamp.
+    fn submit_next(
+        &mut self,
+        node: &mut Node<G>,
+        command: &Command,
+    ) -> Result<Stamp, ServiceRefusal>
+        ensures stamp { IfOk result (λ s. s ≡ stamp (node.old.member.clock + 1) node.old.member.number) }
+        ensures submitted { OnOk result (node.new ≡ with_own_member node.old (submitted node.old.member self.old.caller self.old.next (command.now ∷ []))) }
+        ensures pass { OnOk result (self.new ≡ record self.old { next = self.old.next + 1; is_waiting = true }) }
+        ensures accepted { OnOk result (pass_refusal node.old self.old ≡ None) }
+        ensures first_refusal { IfErr result (λ refusal. (refusal ≢ ServiceRefusal.NoMemory → pass_refusal node.old self.old ≡ Some refusal) × (refusal ≡ ServiceRefusal.NoMemory → pass_refusal node.old self.old ≡ None)) }
+        ensures busy { IfErr result (λ refusal. refusal ≡ ServiceRefusal.Busy → self.old.is_waiting ≡ true) }
+        ensures waiting { self.old.is_waiting ≡ true → IfErr result (λ refusal. (refusal ≡ ServiceRefusal.Stopped) ⊎ (refusal ≡ ServiceRefusal.Busy)) }
+        ensures node_unchanged { OnErr result (node.new ≡ node.old) }
+        ensures unchanged { OnErr result (self.new ≡ self.old) }
+    {
         node.invariants();
         self.may_submit(node)?;
-        let stamp = node.submit_copy(self.caller, self.next, &command)?;
+        let stamp = node.submit_copy(self.caller, self.next, command)?;
         self.next += 1;
         self.is_waiting = true;
-        Ok(Ticket::new(
-            Submission {
-                stamp,
-                caller: self.caller,
-                serial: self.next - 1,
-                command,
-            },
-            self.front.len(),
-        ))
+        Ok(stamp)
     }
 
     // Whether the node is not stopped, no ticket is outstanding, and the node gave this caller's number.

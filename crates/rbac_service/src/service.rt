@@ -112,6 +112,33 @@ fn found_slots<G: GroupName>(
     Ok(slots)
 }
 
+// What a service keeps of its members.
+#[derive(Drop)]
+struct Parts<G: GroupName> {
+    slots: Vec<Slot<G>>,
+    room: Room<G>,
+    round: Round,
+}
+
+// The parts of a service of these members.
+fn found_parts<G: GroupName>(
+    alloc: Global,
+    rows: &Rows,
+    group: Group,
+    vocabulary: &Vocabulary,
+) -> Result<Parts<G>, AllocError>
+    requires names { (group ≡ G.group) × (vocabulary.now ≡ G.vocabulary) × (rows.now ≡ G.cells) }
+    requires members { length rows.now.sent ≡ group.members }
+    ensures { IfOk result (λ parts. vec_len parts.slots ≡ group.members) }
+{
+    let room = Room {
+        nodes: Vec::with_capacity(alloc, group.members() as usize)?,
+    };
+    let round = Round::found(alloc, group.members())?;
+    let slots = found_slots(alloc, rows, group, vocabulary)?;
+    Ok(Parts { slots, room, round })
+}
+
 impl<G: GroupName, K: Gate + Drop, C: Courier + Drop> Service<G, K, C> {
     /// The members of a founding, with nothing sent, received, held or delivered. The rows, the group and the vocabulary are
     /// those of the founding that G names, and the rows were made for this group.
@@ -134,19 +161,24 @@ impl<G: GroupName, K: Gate + Drop, C: Courier + Drop> Service<G, K, C> {
         ensures courier { IfOk result (λ service. service.courier ≡ courier) }
     {
         group.invariants();
-        let slots = found_slots(alloc, &rows, group, &vocabulary)?;
-        let round = Round::found(alloc, group.members())?;
-        let room = Room {
-            nodes: Vec::with_capacity(alloc, slots.len())?,
-        };
-        Ok(Service {
-            rows,
-            slots,
-            room: Mutex::new(room),
-            round,
-            gate,
-            courier,
-        })
+        let found = found_parts(alloc, &rows, group, &vocabulary);
+        drop(vocabulary);
+        match found {
+            Ok(Parts { slots, room, round }) => Ok(Service {
+                rows,
+                slots,
+                room: Mutex::new(room),
+                round,
+                gate,
+                courier,
+            }),
+            Err(refused) => {
+                drop(rows);
+                drop(gate);
+                drop(courier);
+                Err(refused)
+            }
+        }
     }
 
     // The lock of a member.

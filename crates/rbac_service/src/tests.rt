@@ -1,21 +1,18 @@
 //! A service whose members take turns in place of threads.
-ghost use Rattle.std.specs.Prelude.{◌≡◌, ◌≤◌, length};
+ghost use Rattle.std.specs.Prelude.{◌≡◌, length};
 ghost use Rattle.rbac_node.specs.Pass.{Owns};
 
 mod alone;
 mod cells;
 mod helping;
 mod hints;
-mod nodes;
 mod refused_calls;
 
 use crate::{
     AuditRefusal, AwaitRefusal, CallRefusal, Courier, EnrollRefusal, Gate, GroupName, Hint,
     MeetRefusal, NoGate, Node, Pass, PumpEnd, Rows, Service, ServiceRefusal, Ticket, Wake, audit,
 };
-use rbac_words::{
-    Answer, Command, Denial, Group, Name, NameSet, Record, Review, Stamp, Vocabulary,
-};
+use rbac_words::{Answer, Command, Denial, Group, Name, NameSet, Review, Vocabulary};
 use std::alloc::Global;
 use std::error::Error;
 use std::fmt::InlineText;
@@ -111,8 +108,7 @@ pub(crate) fn founding_of(rt: &impl Abort, alloc: Global, members: u32, sent_lim
 fn names_of(rt: &impl Abort, alloc: Global, texts: &[&str]) -> Vec<Name> {
     let mut names = Vec::new(alloc);
     for text in texts {
-        let pushed = names.push(name(rt, alloc, text));
-        assert!(rt; pushed.is_ok());
+        names.push(name(rt, alloc, text)).expect(rt, "memory");
     }
     names
 }
@@ -127,8 +123,7 @@ fn permissions_of(
     let mut permissions = Vec::new(alloc);
     for (operation, object) in operations.iter().zip(objects) {
         let pair = (name(rt, alloc, operation), name(rt, alloc, object));
-        let pushed = permissions.push(pair);
-        assert!(rt; pushed.is_ok());
+        permissions.push(pair).expect(rt, "memory");
     }
     permissions
 }
@@ -250,6 +245,8 @@ fn expect_receipt<G: GroupName, K: Gate + Drop, C: Courier + Drop, R: Wait + Abo
         (u64::from(place) + 1, 1)
     );
     assert!(rt; receipt.answer.same(&answer));
+    drop(receipt);
+    drop(answer);
 }
 
 fn expect_text<E: Error>(rt: &impl Abort, error: &E, text: &str) {
@@ -365,6 +362,7 @@ pub(crate) fn expect_audit<G: GroupName>(
 ) {
     let audited = audit(alloc, nodes).expect(rt, "a group");
     assert_eq!(rt; audited.delivered.as_slice(), wanted);
+    drop(audited);
 }
 
 fn is_no_group<G: GroupName>(alloc: Global, nodes: &mut [Node<G>]) -> bool {
@@ -483,50 +481,6 @@ pub(crate) fn expect_no_record<G: GroupName, K: Gate + Drop, C: Courier + Drop>(
     place: usize,
 ) {
     assert!(rt; service.published(at, place).is_none());
-}
-
-// A record that no member made.
-fn forged(rt: &impl Abort, alloc: Global) -> Record {
-    Record {
-        stamp: Stamp::at(1, 1),
-        caller: 0,
-        serial: 0,
-        command: add_ann(rt, alloc),
-        answer: Answer::Done,
-    }
-}
-
-// Sets the first cell of member 1's history row.
-fn spoil(rt: &impl Abort, alloc: Global, rows: &Rows)
-    requires { 1 ≤ length rows.now.sent }
-{
-    let record = Box::new(alloc, forged(rt, alloc)).expect(rt, "memory");
-    let row = rows.history(1);
-    let set = row.set(&mut row.mark(), 0, record);
-    assert!(rt; set.is_ok());
-}
-
-// A member that can't publish what it delivers gives up, and the service is stopped.
-fn run_spoiled<G: GroupName, R: Wait + Abort>(rt: &R, alloc: Global, founding: Founding)
-    requires names { (founding.group ≡ G.group) × (founding.words ≡ G.vocabulary) × (founding.rows ≡ G.cells) }
-    requires members { length founding.rows.sent ≡ founding.group.members }
-{
-    let service: Service<G, NoGate, Lost> = founded(rt, alloc, founding, Lost::new());
-    assert_eq!(rt; service.pump(rt, alloc, 2), PumpEnd::UnknownMember);
-    let mut pass = new_pass(rt, &service, 1);
-    let ticket = submitted(rt, alloc, &service, &mut pass, add_ann(rt, alloc));
-    expect_end(rt, alloc, &service, 1);
-    expect_stopped(rt, &service, &mut pass, ticket);
-    expect_refusal(rt, alloc, &mut pass, &service, ServiceRefusal::Stopped);
-    drop(service);
-    drop(pass);
-}
-
-#[test]
-fn a_member_whose_cell_is_taken_gives_up(rt: HostRuntime) {
-    let founding = founding_of(&rt, rt.alloc(), 1, 16);
-    spoil(&rt, rt.alloc(), &founding.rows);
-    run_spoiled::<Brand, _>(&rt, rt.alloc(), founding);
 }
 
 #[test]

@@ -5,7 +5,7 @@ mod serving;
 mod silent;
 mod stopping;
 
-use crate::tests::{Founding, founding_of};
+use crate::tests::{Founding, founding_of, new_pass};
 use crate::{
     ChannelCourier, Courier, Gate, GroupName, Hint, Moment, NoGate, Pass, PumpEnd, Service, Wake,
     audit,
@@ -34,7 +34,26 @@ fn is_answered<G: GroupName, K: Gate + Drop, C: Courier + Drop, R: Wait + Abort>
     service: &Service<G, K, C>,
     pass: &mut Pass<G>,
 ) -> bool {
-    service.call(rt, alloc, pass, add_clerk(rt, alloc)).is_ok()
+    let called = service.call(rt, alloc, pass, add_clerk(rt, alloc));
+    let is_answered = called.is_ok();
+    drop(called);
+    is_answered
+}
+
+// Whether each of so many commands of a caller is answered.
+fn are_all_answered<G: GroupName, K: Gate + Drop, C: Courier + Drop, R: Wait + Abort>(
+    rt: &R,
+    alloc: Global,
+    service: &Service<G, K, C>,
+    pass: &mut Pass<G>,
+    count: u32,
+) -> bool {
+    for _ in 0..count {
+        if !is_answered(rt, alloc, service, pass) {
+            return false;
+        }
+    }
+    true
 }
 
 // Whether each of so many commands of a new caller of member 1 is answered.
@@ -44,15 +63,10 @@ fn are_answered<G: GroupName, K: Gate + Drop, C: Courier + Drop, R: Wait + Abort
     service: &Service<G, K, C>,
     count: u32,
 ) -> bool {
-    let Ok(mut pass) = service.enroll(rt, 1) else {
-        return false;
-    };
-    for _ in 0..count {
-        if !is_answered(rt, alloc, service, &mut pass) {
-            return false;
-        }
-    }
-    true
+    let mut pass = new_pass(rt, service, 1);
+    let are_answered = are_all_answered(rt, alloc, service, &mut pass, count);
+    drop(pass);
+    are_answered
 }
 
 // Whether all commands of two callers of member 1 are answered, so many each, beside the threads of two members, and both threads
@@ -87,8 +101,11 @@ fn expect_audit<G: GroupName, K: Gate + Drop, C: Courier + Drop>(
     service: Service<G, K, C>,
     wanted: usize,
 ) {
-    let audited = audit(alloc, &mut service.take_nodes()).expect(rt, "a group");
+    let mut nodes = service.take_nodes();
+    let audited = audit(alloc, &mut nodes).expect(rt, "a group");
     assert_eq!(rt; audited.delivered.first().copied(), Some(wanted));
+    drop(audited);
+    drop(nodes);
 }
 
 // The service of the founding that G names, with these commands done.

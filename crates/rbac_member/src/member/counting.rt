@@ -32,14 +32,26 @@ pub(crate) fn next_serial(serials: &SortedMap<(u32, u32), u64>, member: u32, cal
 fn is_handed_back(answer: Result<(), Held>) -> bool
     ensures { result ≡ is_err answer }
 {
-    answer.is_err()
+    match answer {
+        Ok(()) => false,
+        Err(held) => {
+            drop(held);
+            true
+        }
+    }
 }
 
 // The same of several commands.
 fn are_handed_back(answer: Result<(), Vec<Held>>) -> bool
     ensures { result ≡ is_err answer }
 {
-    answer.is_err()
+    match answer {
+        Ok(()) => false,
+        Err(held) => {
+            drop(held);
+            true
+        }
+    }
 }
 
 // Copies of commands as they are held.

@@ -3,7 +3,6 @@
 use rbac_lines::{Desk, DeskRefusal};
 use rbac_service::{
     AwaitRefusal, CallRefusal, Courier, Gate, GroupName, Pass, Receipt, Service, ServiceRefusal,
-    Ticket,
 };
 use rbac_words::{Answer, Command};
 use std::alloc::Global;
@@ -28,20 +27,14 @@ fn submit_refusal(refusal: ServiceRefusal) -> DeskRefusal {
     }
 }
 
-// Drops a ticket. Its command has many cases, which are told apart in this one place.
-fn dropped_ticket(_ticket: Ticket) {}
-
-// Drops a command.
-fn dropped_command(_command: Command) {}
-
 fn await_refusal(refusal: AwaitRefusal) -> DeskRefusal {
     match refusal {
         AwaitRefusal::Stopped(ticket) => {
-            dropped_ticket(ticket);
+            drop(ticket);
             DeskRefusal::Stopped
         }
         AwaitRefusal::NoMemory(ticket) => {
-            dropped_ticket(ticket);
+            drop(ticket);
             DeskRefusal::NoMemory
         }
     }
@@ -62,7 +55,7 @@ impl<'a, G: GroupName, K: Gate + Drop, C: Courier + Drop, T: Wait> Desk
 
     fn call(&mut self, alloc: Global, at: u32, command: Command) -> Result<Answer, DeskRefusal> {
         let Some(pass) = self.passes.get_mut((at as usize).wrapping_sub(1)) else {
-            dropped_command(command);
+            drop(command);
             return Err(DeskRefusal::UnknownMember);
         };
         reply_of(self.service.call(self.rt, alloc, pass, command))

@@ -9,12 +9,19 @@ ghost use Rattle.rbac_service.specs.Ticket.{ticket_back, called, IsCallRefused};
 use crate::courier::Courier;
 use crate::gate::{Gate, Moment};
 use crate::refusal::{AwaitRefusal, CallRefusal, EnrollRefusal};
-use crate::service::Service;
 use crate::service::turn::answered_since;
+use crate::service::{Service, Slot};
 use rbac_node::{GroupName, MeetRefusal, Node, Pass, Receipt, ServiceRefusal, Ticket};
 use rbac_words::{Command, Record};
 use std::alloc::{AllocError, Global};
 use std::sync::Wait;
+
+// Why a ticket has no answer.
+#[derive(Clone, Copy, Drop)]
+enum Unanswered {
+    Stopped,
+    NoMemory,
+}
 
 impl<G: GroupName, K: Gate + Drop, C: Courier + Drop> Service<G, K, C> {
     /// A pass of a new caller of a member, with an empty front. It may wait for the member's lock.
@@ -70,6 +77,7 @@ impl<G: GroupName, K: Gate + Drop, C: Courier + Drop> Service<G, K, C> {
         ensures unchanged { OnErr result (pass.new ≡ pass.old) }
     {
         let Some(slot) = self.slot(pass.member()) else {
+            drop(command);
             return Err(self.refusal_of_stranger(rt, pass));
         };
         let mut node = slot.node.lock(rt);
@@ -125,19 +133,43 @@ impl<G: GroupName, K: Gate + Drop, C: Courier + Drop> Service<G, K, C> {
             return Err(AwaitRefusal::Stopped(ticket));
         };
         let mut ticket = ticket;
+        match self.answer_at(rt, slot, pass, &mut ticket) {
+            Ok(receipt) => {
+                drop(ticket);
+                Ok(receipt)
+            }
+            Err(Unanswered::Stopped) => Err(AwaitRefusal::Stopped(ticket)),
+            Err(Unanswered::NoMemory) => Err(AwaitRefusal::NoMemory(ticket)),
+        }
+    }
+
+    // Waits at a member's lock until it has published the answer to the pass's ticket, or was stopped.
+    fn answer_at<R: Wait>(
+        &self,
+        rt: &R,
+        slot: &Slot<G>,
+        pass: &mut Pass<G>,
+        ticket: &mut Ticket,
+    ) -> Result<Receipt, Unanswered>
+        requires { Owns pass.old ticket.old }
+        ensures answered { IfOk result (λ receipt. IsAnswered pass.old ticket.old receipt.place receipt.answer pass.new) }
+        ensures stamp { IfOk result (λ receipt. receipt.stamp ≡ ticket.old.call.stamp) }
+        ensures ticket { ticket.new ≡ ticket.old }
+        ensures unchanged { OnErr result (pass.new ≡ pass.old) }
+    {
         let mut node = slot.node.lock(rt);
         for _turn in rt.forever() {
-            match pass.answered(&mut node, &mut ticket) {
+            match pass.answered(&mut node, ticket) {
                 Ok(Some(receipt)) => {
                     drop(node);
                     self.gate.at(Moment::Answered(receipt.stamp));
                     return Ok(receipt);
                 }
                 Ok(None) => {}
-                Err(AllocError) => return Err(AwaitRefusal::NoMemory(ticket)),
+                Err(AllocError) => return Err(Unanswered::NoMemory),
             }
             if node.is_stopped() {
-                return Err(AwaitRefusal::Stopped(ticket));
+                return Err(Unanswered::Stopped);
             }
             node = slot.waiting.wait(rt, ticket.stamp(), node);
         }

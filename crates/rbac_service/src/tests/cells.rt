@@ -2,10 +2,10 @@
 ghost use Rattle.std.specs.Prelude.{◌≡◌, length};
 
 use super::{
-    Founding, Lost, add_ann, expect_end, expect_no_record, expect_record, expect_stopped, founded,
-    founding_of, new_pass, roles_of_ann, submitted,
+    Founding, Lost, add_ann, expect_end, expect_no_record, expect_record, expect_refusal,
+    expect_stopped, founded, founding_of, new_pass, roles_of_ann, submitted,
 };
-use crate::{GroupName, NoGate, Pass, Rows, Service, Wake};
+use crate::{GroupName, NoGate, Pass, PumpEnd, Rows, Service, ServiceRefusal, Wake};
 use rbac_words::{Answer, Command, Message, NameSet, Record, Stamp};
 use std::alloc::Global;
 use std::marker::Brand;
@@ -113,8 +113,11 @@ fn spoil_history(rt: &impl Abort, alloc: Global, rows: &Rows) {
     assert!(rt; 1 <= rows.members());
     let record = Box::new(alloc, forged(rt, alloc)).expect(rt, "memory");
     let row = rows.history(1);
-    let set = row.set(&mut row.mark(), 0, record);
+    let mut mark = row.mark();
+    let set = row.set(&mut mark, 0, record);
     assert!(rt; set.is_ok());
+    drop(set);
+    drop(mark);
 }
 
 // Sets the first cell of member 1's sent row.
@@ -123,8 +126,11 @@ fn spoil_sent(rt: &impl Abort, alloc: Global, rows: &Rows) {
     let stamp = Stamp::at(7, 1);
     let message = Box::new(alloc, Message::Ack { stamp }).expect(rt, "memory");
     let row = rows.sent(1);
-    let set = row.set(&mut row.mark(), 0, message);
+    let mut mark = row.mark();
+    let set = row.set(&mut mark, 0, message);
     assert!(rt; set.is_ok());
+    drop(set);
+    drop(mark);
 }
 
 // Sets the cell in a thread of its own.
@@ -142,8 +148,8 @@ fn spoil_beside<G: GroupName + Send + Sync, R: Threads + Wait + Abort + Send + S
     })
 }
 
-// What another thread set is got here. The member that delivers then finds its cell taken and gives up, and its caller is told
-// nothing of the record that is no answer.
+// What another thread set is got here. The member that delivers then finds its cell taken and gives up, the service is stopped, and
+// its caller is told nothing of the record that is no answer.
 fn run_taken<G: GroupName + Send + Sync, R: Threads + Wait + Abort + Send + Sync>(
     rt: &R,
     alloc: Global,
@@ -153,6 +159,7 @@ fn run_taken<G: GroupName + Send + Sync, R: Threads + Wait + Abort + Send + Sync
     requires members { length founding.rows.sent ≡ founding.group.members }
 {
     let service: Service<G, NoGate, Lost> = founded(rt, alloc, founding, Lost::new());
+    assert_eq!(rt; service.pump(rt, alloc, 2), PumpEnd::UnknownMember);
     let mut pass = new_pass(rt, &service, 1);
     expect_no_record(rt, &service, 1, 0);
     assert!(rt; spoil_beside(rt, alloc, &service));
@@ -161,6 +168,7 @@ fn run_taken<G: GroupName + Send + Sync, R: Threads + Wait + Abort + Send + Sync
     let ticket = submitted(rt, alloc, &service, &mut pass, add_ann(rt, alloc));
     expect_end(rt, alloc, &service, 1);
     expect_stopped(rt, &service, &mut pass, ticket);
+    expect_refusal(rt, alloc, &mut pass, &service, ServiceRefusal::Stopped);
     expect_record(rt, &service, (1, 0), (7, 1), &Answer::Granted);
     assert_eq!(rt; pass.front_len(), 0);
     drop(service);

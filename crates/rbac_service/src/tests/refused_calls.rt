@@ -6,7 +6,7 @@ ghost use Rattle.rbac_node.specs.Pass.{Owns};
 use super::hints::told;
 use super::{
     Founding, Lost, add_ann, expect_confirmed, expect_fronts, expect_meeting, expect_published,
-    expect_receipt, expect_stop, founding_of, new_pass, turn_all,
+    expect_stop, founding_of, new_pass, turn_all,
 };
 use crate::{
     AuditRefusal, AwaitRefusal, GroupName, MeetRefusal, NoGate, Node, Pass, Service,

@@ -6,53 +6,15 @@ use crate::tests::{
     Founding, add_ann, check, expect_audit, expect_confirmed, founded, name, new_pass,
     sample_founding,
 };
-use crate::{ChannelCourier, Courier, GroupName, Hint, NoGate, Pass, PumpEnd, Service, Wake};
+use crate::{Courier, GroupName, NoGate, Pass, PumpEnd, Service};
 use rbac_words::{Answer, Command, NameSet};
 use std::alloc::Global;
 use std::marker::Brand;
 use std::process::Abort;
 use std::sync::Wait;
-use std::sync::atomic::{AtomicU64, Ordering};
 use std::thread;
 use std::thread::Threads;
 use std::time::Clock;
-
-// Loses every second hint, gives every third one twice where it is not lost, and sweeps in each tenth turn.
-#[derive(Drop)]
-struct Unreliable<R: Wait + Clock + Drop> {
-    courier: ChannelCourier<R>,
-    hints: AtomicU64,
-    turns: AtomicU64,
-}
-
-impl<R: Wait + Clock + Drop> Courier for Unreliable<R> {
-    fn tell(&self, to: u32, hint: Hint) {
-        let count = self.hints.fetch_add(1, Ordering::SeqCst);
-        if count % 2 == 1 {
-            return;
-        }
-        self.courier.tell(to, hint);
-        if count % 3 == 2 {
-            self.courier.tell(to, hint);
-        }
-    }
-
-    fn next(&self, at: u32) -> Wake {
-        let count = self.turns.fetch_add(1, Ordering::SeqCst);
-        if count % 10 == 9 {
-            return Wake::Sweep;
-        }
-        self.courier.next(at)
-    }
-}
-
-fn lossy_courier<R: Wait + Clock + Abort + Copy + Drop>(rt: &R, alloc: Global) -> Unreliable<R> {
-    Unreliable {
-        courier: ChannelCourier::found(*rt, alloc, 2).expect(rt, "memory"),
-        hints: AtomicU64::new(0),
-        turns: AtomicU64::new(0),
-    }
-}
 
 fn add_clerk(rt: &impl Abort, alloc: Global) -> Command {
     let role = name(rt, alloc, "clerk");
@@ -160,13 +122,6 @@ fn run<
     expect_confirmed(rt, &mut nodes, &mut pass);
     drop(nodes);
     drop(pass);
-}
-
-#[test]
-fn six_commands_are_answered_by_lossy_hints(rt: HostRuntime) {
-    let founding = sample_founding(&rt, rt.alloc(), 2);
-    let courier = lossy_courier(&rt, rt.alloc());
-    run::<Brand, _, _>(&rt, rt.alloc(), founding, courier);
 }
 
 // The courier of a seed.

@@ -27,6 +27,7 @@ fn wait_beside<
         };
         let ticket = submitted(rt, alloc, service, pass, add_ann(rt, alloc));
         let Ok(stopper) = scope.spawn(move || service.stop(rt)) else {
+            drop(ticket);
             return false;
         };
         expect_stopped(rt, service, pass, ticket);

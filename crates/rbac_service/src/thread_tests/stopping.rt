@@ -1,13 +1,14 @@
 //! A stop amid calls of callers of both members, who take turns of each other's members.
 ghost use Rattle.std.specs.Prelude.{◌≡◌, length};
 
-use super::is_answered;
+use super::are_all_answered;
 use crate::tests::{Founding, founded, founding_of, new_pass};
 use crate::{ChannelCourier, Courier, GroupName, NoGate, Node, PumpEnd, Service, audit};
 use std::alloc::Global;
 use std::marker::Brand;
 use std::process::Abort;
 use std::sync::Wait;
+use std::sync::atomic::{AtomicU64, Ordering};
 use std::thread;
 use std::thread::Threads;
 use std::time::{Clock, Duration};
@@ -15,29 +16,41 @@ use std::time::{Clock, Duration};
 // The service is stopped once member 1 has published more records than these.
 const RECORDS: usize = 200;
 
-// Whether the calls of a new caller are answered until one is not, after which the member gives no pass any more.
+// Whether a member gives no pass any more.
+fn gives_no_pass<G: GroupName, C: Courier + Drop, R: Wait>(
+    rt: &R,
+    service: &Service<G, NoGate, C>,
+    at: u32,
+) -> bool {
+    let given = service.enroll(rt, at);
+    let is_refused = given.is_err();
+    drop(given);
+    is_refused
+}
+
+// Counts a new caller, and tells whether its calls are answered until one is not, after which the member gives no pass any more.
 fn calls_until_the_stop<G: GroupName, C: Courier + Drop, R: Wait + Abort>(
     rt: &R,
     alloc: Global,
     service: &Service<G, NoGate, C>,
+    enrolled: &AtomicU64,
     at: u32,
 ) -> bool {
     let mut pass = new_pass(rt, service, at);
-    for _ in 0..30_000u32 {
-        if !is_answered(rt, alloc, service, &mut pass) {
-            return service.enroll(rt, at).is_err();
-        }
-    }
-    false
+    enrolled.fetch_add(1, Ordering::SeqCst);
+    let are_answered = are_all_answered(rt, alloc, service, &mut pass, 30_000);
+    drop(pass);
+    !are_answered && gives_no_pass(rt, service, at)
 }
 
-// Stops amid the calls, after a million looks at the latest.
+// Stops amid the calls of both callers, after a million looks at the latest.
 fn stop_amid<G: GroupName, C: Courier + Drop, R: Wait + Clock>(
     rt: &R,
     service: &Service<G, NoGate, C>,
+    enrolled: &AtomicU64,
 ) {
     for _ in 0..1_000_000u32 {
-        if service.published(1, RECORDS).is_some() {
+        if enrolled.load(Ordering::SeqCst) == 2 && service.published(1, RECORDS).is_some() {
             break;
         }
         thread::sleep(rt, Duration::from_micros(50));
@@ -50,15 +63,15 @@ fn all_end<
     G: GroupName + Send + Sync,
     C: Courier + Drop + Send + Sync,
     R: Threads + Wait + Clock + Abort + Send + Sync,
->(rt: &R, alloc: Global, service: &Service<G, NoGate, C>) -> bool {
+>(rt: &R, alloc: Global, service: &Service<G, NoGate, C>, enrolled: &AtomicU64) -> bool {
     thread::scope(thread::scope_env(), rt, move |scope| {
         let first = scope.spawn(move || service.pump(rt, alloc, 1));
         let second = scope.spawn(move || service.pump(rt, alloc, 2));
-        let stopper = scope.spawn(move || stop_amid(rt, service));
+        let stopper = scope.spawn(move || stop_amid(rt, service, enrolled));
         let (one, other) = thread::join(
             rt,
-            move || calls_until_the_stop(rt, alloc, service, 1),
-            move || calls_until_the_stop(rt, alloc, service, 2),
+            move || calls_until_the_stop(rt, alloc, service, enrolled, 1),
+            move || calls_until_the_stop(rt, alloc, service, enrolled, 2),
         );
         let (Ok(first), Ok(second), Ok(stopper)) = (first, second, stopper) else {
             return false;
@@ -73,6 +86,7 @@ fn all_end<
 fn expect_delivered<G: GroupName>(rt: &impl Abort, alloc: Global, nodes: &mut [Node<G>]) {
     let audited = audit(alloc, nodes).expect(rt, "a group");
     assert!(rt; audited.delivered.first().copied().unwrap_or(0) > RECORDS);
+    drop(audited);
 }
 
 fn run<G: GroupName + Send + Sync, R: Threads + Wait + Clock + Abort + Copy + Drop + Send + Sync>(
@@ -85,7 +99,8 @@ fn run<G: GroupName + Send + Sync, R: Threads + Wait + Clock + Abort + Copy + Dr
 {
     let courier = ChannelCourier::found(*rt, alloc, 2).expect(rt, "memory");
     let service: Service<G, NoGate, ChannelCourier<R>> = founded(rt, alloc, founding, courier);
-    assert!(rt; all_end(rt, alloc, &service));
+    let enrolled = AtomicU64::new(0);
+    assert!(rt; all_end(rt, alloc, &service, &enrolled));
     let mut nodes = service.take_nodes();
     expect_delivered(rt, alloc, &mut nodes);
     drop(nodes);

@@ -1,6 +1,6 @@
 use Rattle.std.proofs.Common.{◌<◌, arith}
 use Rattle.rbac_node.proofs.SerialLemmas.{serial_below}
-use Rattle.rbac_node.proofs.pass.Pass.submit.Goals as goal
+use Rattle.rbac_node.proofs.pass.Pass.submit_next.Goals as goal
 
 pub overflow_add-self : goal.overflow_add-self
 overflow_add-self g c =
