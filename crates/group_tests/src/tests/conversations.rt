@@ -28,7 +28,8 @@ impl Listing {
 impl Desk for Listing {
     ghost asks = { λ old at _ _ new. new.asked.items ≡ old.asked.items ++ at ∷ [] };
 
-    fn call(&mut self, _alloc: Global, at: u32, _command: Command) -> Result<Answer, DeskRefusal> {
+    fn call(&mut self, _alloc: Global, at: u32, command: Command) -> Result<Answer, DeskRefusal> {
+        drop(command);
         if self.asked.len() >= self.asked.capacity() {
             return Err(DeskRefusal::NoMemory);
         }

@@ -40,6 +40,7 @@ fn expect_sample(rt: &impl Abort, alloc: Global, founding: Founding, clock: u64,
         permits(alloc, &vocabulary, b"read", b"invoice"),
         Some(false)
     );
+    drop(vocabulary);
 }
 
 #[test]

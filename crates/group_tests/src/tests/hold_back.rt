@@ -31,7 +31,10 @@ fn put<Q: HeldQueue>(rt: &impl Abort, queue: &mut Q, clock: u64, member: u32, co
     };
     let kept = match queue.put(held) {
         Ok(()) => true,
-        Err(_) => false,
+        Err(back) => {
+            drop(back);
+            false
+        }
     };
     assert!(rt; kept);
 }
@@ -67,7 +70,10 @@ fn put_two<Q: HeldQueue>(
     held.push(other).expect(rt, "memory");
     let kept = match queue.put_all(held) {
         Ok(()) => true,
-        Err(_) => false,
+        Err(back) => {
+            drop(back);
+            false
+        }
     };
     assert!(rt; kept);
 }

@@ -189,6 +189,7 @@ fn sends_up_to_the_limit(rt: HostRuntime) {
     expect_full(&rt, &mut outbox);
     assert_eq!(rt; outbox.len(), 2);
     assert_eq!(rt; outbox.all().len(), 2);
+    drop(outbox);
 }
 
 #[test]
@@ -196,6 +197,7 @@ fn a_limit_of_none_sends_nothing(rt: HostRuntime) {
     let mut outbox = Outbox::found(rt.alloc(), 0);
     assert!(rt; outbox.is_full());
     expect_full(&rt, &mut outbox);
+    drop(outbox);
 }
 
 #[test]
@@ -211,4 +213,5 @@ fn messages_are_counted_from_one(rt: HostRuntime) {
     expect_message(&rt, &outbox, 2, Some(stamp(2, 1)));
     expect_message(&rt, &outbox, 3, None);
     expect_message(&rt, &outbox, u32::MAX, None);
+    drop(outbox);
 }

@@ -27,8 +27,7 @@ fn call(rt: &impl Abort, alloc: Global, stamp: Stamp, serial: u32) -> Message {
 fn users(rt: &impl Abort, alloc: Global, count: usize) -> Vec<Command> {
     let mut commands = Vec::new(alloc);
     for _ in 0..count {
-        let pushed = commands.push(add_user(rt, alloc));
-        assert!(rt; pushed.is_ok());
+        commands.push(add_user(rt, alloc)).expect(rt, "memory");
     }
     commands
 }

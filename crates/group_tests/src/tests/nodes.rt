@@ -170,6 +170,22 @@ fn exchange_again<G: GroupName>(
     expect_deliveries(rt, alloc, one, 1);
 }
 
+// Whether nodes are refused as a group, which are dropped here.
+fn is_no_group<G: GroupName>(alloc: Global, mut nodes: [Node<G>; 2]) -> bool {
+    let is = matches!(audit(alloc, &mut nodes), Err(AuditRefusal::NotAGroup));
+    drop(nodes);
+    is
+}
+
+// Two nodes in order of number are a group, which has delivered two commands, and in the other order they are none.
+fn audits<G: GroupName>(rt: &impl Abort, alloc: Global, mut nodes: [Node<G>; 2]) {
+    let audited = audit(alloc, &mut nodes).expect(rt, "a group");
+    assert_eq!(rt; audited.delivered.as_slice(), [2, 2].as_slice());
+    drop(audited);
+    nodes.reverse();
+    assert!(rt; is_no_group(alloc, nodes));
+}
+
 // What two nodes say to each other.
 fn talk<G: GroupName, R: Abort>(rt: &R, alloc: Global, founding: &Founding)
     requires names { (founding.now.group ≡ G.group) × (founding.now.vocabulary ≡ G.vocabulary) × (founding.now.rows ≡ G.cells) }
@@ -183,8 +199,7 @@ fn talk<G: GroupName, R: Abort>(rt: &R, alloc: Global, founding: &Founding)
     exchange_again(rt, alloc, &founding.rows, &mut one, &mut two);
     expect_published(rt, &one, (2, 1));
     expect_published(rt, &two, (2, 2));
-    drop(one);
-    drop(two);
+    audits(rt, alloc, [one, two]);
 }
 
 #[test]
@@ -214,13 +229,6 @@ fn a_full_row_takes_no_more(rt: HostRuntime) {
     let founding = founding_of(&rt, rt.alloc(), alone, 1);
     fill::<Brand, _>(&rt, rt.alloc(), &founding);
     drop(founding);
-}
-
-// Whether nodes are refused as a group, which are dropped here.
-fn is_no_group<G: GroupName>(alloc: Global, mut nodes: [Node<G>; 2]) -> bool {
-    let is = matches!(audit(alloc, &mut nodes), Err(AuditRefusal::NotAGroup));
-    drop(nodes);
-    is
 }
 
 // Member 2 reads what another node of member 1 has published. This one has sent it too, and has published nothing.

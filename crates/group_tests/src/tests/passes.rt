@@ -231,8 +231,11 @@ fn is_no_group<G: GroupName>(alloc: Global, nodes: &mut [Node<G>]) -> bool {
 fn audits<G: GroupName>(rt: &impl Abort, alloc: Global, node: Node<G>) {
     let mut none: [Node<G>; 0] = [];
     assert!(rt; is_no_group(alloc, &mut none));
-    let audited = audit(alloc, &mut [node]).expect(rt, "a group");
+    let mut nodes = [node];
+    let audited = audit(alloc, &mut nodes).expect(rt, "a group");
     assert_eq!(rt; audited.delivered.as_slice(), [2].as_slice());
+    drop(audited);
+    drop(nodes);
 }
 
 // What the two callers do, at member 1 of the founding that G names, which has rows for a second member.

@@ -128,8 +128,7 @@ fn three(rt: &impl Abort, alloc: Global) -> Vec<Command> {
         Err(_) => Vec::with_capacity(alloc, 3).expect(rt, "memory"),
     };
     for user in ["ann", "bob", "ann"] {
-        let pushed = commands.push(add_user(rt, alloc, user));
-        assert!(rt; pushed.is_ok());
+        commands.push(add_user(rt, alloc, user)).expect(rt, "room");
     }
     commands
 }

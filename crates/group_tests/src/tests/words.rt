@@ -167,8 +167,7 @@ fn a_message_is_copied(rt: HostRuntime) {
 fn a_message_of_several_commands_is_copied(rt: HostRuntime) {
     let mut commands = Vec::new(rt.alloc());
     for _ in 0..3 {
-        let pushed = commands.push(grant(&rt, rt.alloc()));
-        assert!(rt; pushed.is_ok());
+        commands.push(grant(&rt, rt.alloc())).expect(&rt, "memory");
     }
     let message = Message::Batch {
         stamp: stamp(7, 2),

@@ -45,7 +45,14 @@ fn expect(
     wanted: Result<Outcome, Refusal>,
 ) {
     let answer = world.step(alloc, &event);
+    drop(event);
     assert_eq!(rt; answer, wanted);
+}
+
+// Member 1 delivers, and the place is compared.
+fn expect_delivery(rt: &impl Abort, alloc: Global, world: &mut World, place: Option<usize>) {
+    let event = Event::Deliver { at: 1 };
+    expect(rt, alloc, world, event, delivered(place));
 }
 
 // Members 1 and 2 submit at once.
@@ -64,14 +71,14 @@ fn delivers_in_stamp_order_at_each_member(rt: HostRuntime) {
     assert!(rt; !world.read_to_end());
     expect(&rt, alloc, &mut world, receive(1, 2, 1), received(3, 1));
     for place in [Some(0), Some(1), None] {
-        let event = Event::Deliver { at: 1 };
-        expect(&rt, alloc, &mut world, event, delivered(place));
+        expect_delivery(&rt, alloc, &mut world, place);
     }
     let denied = Answer::Denied(Denial::RoleExists);
     expect_record(&rt, &world, 1, 0, stamp(1, 1), Answer::Done);
     expect_record(&rt, &world, 1, 1, stamp(1, 2), denied);
     world.right_histories();
     world.histories_are_one();
+    drop(world);
 }
 
 // Plays events, and compares what they answer.
@@ -84,6 +91,7 @@ fn expect_play(
 ) {
     let outcomes = play(world, alloc, events).expect(rt, "memory");
     assert!(rt; outcomes.as_slice() == wanted);
+    drop(outcomes);
 }
 
 // Two submits at once at two members, and each message received by the other one: member 2 need not acknowledge what comes before its
@@ -113,11 +121,14 @@ fn plays_events_until_all_is_read(rt: HostRuntime) {
     ];
     let events = at_two_members(&rt, alloc);
     expect_play(&rt, alloc, &mut world, &events, &wanted);
+    drop(events);
     assert!(rt; world.read_to_end());
     let events = [Event::Deliver { at: 2 }, Event::Deliver { at: 2 }];
     let wanted = [delivered(Some(0)), delivered(Some(1))];
     expect_play(&rt, alloc, &mut world, &events, &wanted);
+    drop(events);
     world.all_that_was_read_is_delivered();
+    drop(world);
 }
 
 #[test]
@@ -126,34 +137,39 @@ fn waits_for_the_third_member(rt: HostRuntime) {
     let mut world = founded(&rt, alloc, 3, 5);
     submit_at_both(&rt, alloc, &mut world);
     // The first one hears the others one after the other.
-    for (event, wanted) in [
-        (receive(1, 2, 1), received(3, 1)),
-        (Event::Deliver { at: 1 }, delivered(None)),
-        (receive(3, 1, 1), received(3, 3)),
-        (receive(1, 3, 1), Ok(Outcome::Received(None))),
-        (Event::Deliver { at: 1 }, delivered(Some(0))),
-    ] {
-        expect(&rt, alloc, &mut world, event, wanted);
-    }
+    expect(&rt, alloc, &mut world, receive(1, 2, 1), received(3, 1));
+    expect_delivery(&rt, alloc, &mut world, None);
+    expect(&rt, alloc, &mut world, receive(3, 1, 1), received(3, 3));
+    let needless = Ok(Outcome::Received(None));
+    expect(&rt, alloc, &mut world, receive(1, 3, 1), needless);
+    expect_delivery(&rt, alloc, &mut world, Some(0));
     expect_record(&rt, &world, 1, 0, stamp(1, 1), Answer::Done);
+    drop(world);
 }
 
 #[test]
 fn names_the_first_refusal(rt: HostRuntime) {
     let alloc = rt.alloc();
     let mut world = founded(&rt, alloc, 2, 1);
-    for (event, wanted) in [
-        (receive(9, 9, 0), Refusal::UnknownMember),
-        (receive(1, 0, 0), Refusal::UnknownMember),
-        (receive(1, 1, 0), Refusal::FromSelf),
-        (receive(1, 2, 0), Refusal::NotSent),
-        (receive(1, 2, 1), Refusal::NotSent),
-        (Event::Deliver { at: 3 }, Refusal::UnknownMember),
-        (submit(&rt, alloc, 3, 1), Refusal::UnknownMember),
-        (submit(&rt, alloc, 1, 1), Refusal::BadSerial { next: 0 }),
+    for (at, from, number, wanted) in [
+        (9, 9, 0, Refusal::UnknownMember),
+        (1, 0, 0, Refusal::UnknownMember),
+        (1, 1, 0, Refusal::FromSelf),
+        (1, 2, 0, Refusal::NotSent),
+        (1, 2, 1, Refusal::NotSent),
     ] {
+        let event = receive(at, from, number);
         expect(&rt, alloc, &mut world, event, Err(wanted));
     }
+    let unknown = Err(Refusal::UnknownMember);
+    let event = Event::Deliver { at: 3 };
+    expect(&rt, alloc, &mut world, event, unknown);
+    let event = submit(&rt, alloc, 3, 1);
+    expect(&rt, alloc, &mut world, event, unknown);
+    let serial = Err(Refusal::BadSerial { next: 0 });
+    let event = submit(&rt, alloc, 1, 1);
+    expect(&rt, alloc, &mut world, event, serial);
+    drop(world);
 }
 
 #[test]
@@ -162,4 +178,5 @@ fn shows_no_stranger(rt: HostRuntime) {
     assert!(rt; world.member(0).is_none() && world.member(9).is_none());
     let last = world.member(8).expect(&rt, "the last member");
     assert_eq!(rt; last.number(), 8);
+    drop(world);
 }

@@ -31,6 +31,7 @@ fn play(rt: &impl Abort, alloc: Global, policy: &mut Policy, commands: &[Command
     for command in commands {
         let answer = policy.apply(alloc, command).expect(rt, "memory");
         assert!(rt; answer.same(&Answer::Done));
+        drop(answer);
     }
 }
 

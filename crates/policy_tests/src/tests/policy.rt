@@ -34,7 +34,10 @@ fn expect_answer(
     wanted: Answer,
 ) {
     let answer = policy.apply(alloc, &command).expect(rt, "memory");
+    drop(command);
     assert!(rt; answer.same(&wanted));
+    drop(answer);
+    drop(wanted);
 }
 
 pub(super) fn expect_done(rt: &impl Abort, alloc: Global, policy: &mut Policy, command: Command) {

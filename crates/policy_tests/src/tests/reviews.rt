@@ -20,6 +20,7 @@ fn assert_permissions(
         assert_eq!(rt; permission.0.as_bytes(), operation.as_bytes());
         assert_eq!(rt; permission.1.as_bytes(), object.as_bytes());
     }
+    drop(permissions);
 }
 
 // What an office consists of, for its parts to be lent.
@@ -203,6 +204,7 @@ fn assigned_users_and_roles_are_listed(rt: HostRuntime) {
     ] {
         expect_answer(&rt, &office, asked, text, wanted);
     }
+    drop(office);
 }
 
 #[test]
@@ -216,6 +218,7 @@ fn authorized_users_and_roles_are_listed(rt: HostRuntime) {
     ] {
         expect_answer(&rt, &office, asked, text, wanted);
     }
+    drop(office);
 }
 
 const ALL: [(&str, &str); 3] = [
@@ -243,6 +246,7 @@ fn permissions_are_listed_with_inherited_ones(rt: HostRuntime) {
     expect_role_permissions(&rt, &office, "payer", &[("pay", "invoice")]);
     expect_user_permissions(&rt, &office, "ann", &ALL);
     expect_user_permissions(&rt, &office, "bob", &[("read", "ledger")]);
+    drop(office);
 }
 
 // Compares the roles that are active in a session, and its permissions.
@@ -268,6 +272,7 @@ fn sessions_are_reviewed(rt: HostRuntime) {
     let office = small_office(&rt, rt.alloc());
     expect_session(&rt, &office, "s1", &["payer"], &[("pay", "invoice")]);
     expect_session(&rt, &office, "zz", &[], &[]);
+    drop(office);
 }
 
 // Compares the operations on an object that a role has.
@@ -293,6 +298,7 @@ fn operations_on_an_object_are_listed(rt: HostRuntime) {
     expect_role_operations(&rt, &office, ("payer", "ledger"), &[]);
     expect_user_operations(&rt, &office, ("ann", "ledger"), &["read"]);
     expect_user_operations(&rt, &office, ("bob", "invoice"), &[]);
+    drop(office);
 }
 
 // Compares the roles of a set, and how many of them are too many.
@@ -333,4 +339,5 @@ fn sets_of_separation_are_reviewed(rt: HostRuntime) {
     ] {
         expect_set(&rt, &office, set, roles, n);
     }
+    drop(office);
 }

@@ -74,6 +74,7 @@ fn an_empty_table_has_no_sets(rt: HostRuntime) {
     assert_eq!(rt; sets.len(), 0);
     assert_contains(&rt, alloc, &sets, "d", false);
     assert_none_over(&rt, alloc, &sets, &["a", "b"]);
+    drop(sets);
 }
 
 #[test]
@@ -85,6 +86,7 @@ fn a_set_has_its_roles_and_its_number(rt: HostRuntime) {
     assert_roles(&rt, alloc, &sets, "d", &["a", "b", "c"]);
     assert_roles(&rt, alloc, &sets, "e", &["a", "c"]);
     assert_cardinality(&rt, alloc, &sets, "d", 2);
+    drop(sets);
 }
 
 #[test]
@@ -95,6 +97,7 @@ fn a_set_is_lent(rt: HostRuntime) {
     assert_eq!(rt; set.cardinality, 2);
     assert_names(&rt, &set.roles, &["a", "c"]);
     assert!(rt; sets.get(&name(&rt, alloc, "a")).is_none());
+    drop(sets);
 }
 
 #[test]
@@ -105,6 +108,7 @@ fn a_set_that_is_not_there_has_neither(rt: HostRuntime) {
     assert!(rt; !sets.contains(&other));
     assert!(rt; sets.roles(&other).is_none());
     assert!(rt; sets.cardinality(&other).is_none());
+    drop(sets);
 }
 
 #[test]
@@ -117,6 +121,7 @@ fn the_names_come_in_order(rt: HostRuntime) {
         &sets.names(alloc).expect(&rt, "memory"),
         &["c", "d", "e"],
     );
+    drop(sets);
 }
 
 #[test]
@@ -127,6 +132,7 @@ fn as_many_roles_as_the_number_are_over(rt: HostRuntime) {
     assert_over(&rt, alloc, &sets, &["a", "b", "c"], "d");
     assert_none_over(&rt, alloc, &sets, &["a"]);
     assert_none_over(&rt, alloc, &sets, &["a", "y", "z"]);
+    drop(sets);
 }
 
 #[test]
@@ -137,6 +143,7 @@ fn the_first_set_by_name_is_told(rt: HostRuntime) {
     sets.delete(&name(&rt, alloc, "d"));
     assert_over(&rt, alloc, &sets, &["a", "c"], "e");
     assert_none_over(&rt, alloc, &sets, &["a", "b"]);
+    drop(sets);
 }
 
 #[test]
@@ -148,6 +155,7 @@ fn a_greater_number_lets_more_roles_come_together(rt: HostRuntime) {
     assert_cardinality(&rt, alloc, &sets, "d", 3);
     assert_none_over(&rt, alloc, &sets, &["a", "b"]);
     assert_over(&rt, alloc, &sets, &["a", "b", "c"], "d");
+    drop(sets);
 }
 
 #[test]
@@ -158,6 +166,7 @@ fn a_role_of_any_set_is_held(rt: HostRuntime) {
     for (role, is) in [("a", true), ("g", true), ("z", false)] {
         assert_holds(&rt, alloc, &sets, role, is);
     }
+    drop(sets);
 }
 
 #[test]
@@ -168,6 +177,7 @@ fn a_role_is_taken_out(rt: HostRuntime) {
     assert_roles(&rt, alloc, &sets, "d", &["a", "b"]);
     assert_roles(&rt, alloc, &sets, "e", &["a", "c"]);
     assert_over(&rt, alloc, &sets, &["a", "c"], "e");
+    drop(sets);
 }
 
 #[test]
@@ -180,6 +190,7 @@ fn a_set_of_the_same_name_is_replaced(rt: HostRuntime) {
     assert_eq!(rt; sets.len(), 2);
     assert_cardinality(&rt, alloc, &sets, "d", 5);
     assert_roles(&rt, alloc, &sets, "d", &["y", "z"]);
+    drop(sets);
 }
 
 #[test]
@@ -193,6 +204,8 @@ fn a_change_of_a_set_that_is_not_there_changes_nothing(rt: HostRuntime) {
     copy.set_cardinality(&other, 3);
     copy.delete(&other);
     assert!(rt; copy.same(&sets));
+    drop(copy);
+    drop(sets);
 }
 
 #[test]
@@ -202,6 +215,8 @@ fn a_copy_is_the_same_until_a_number_changes(rt: HostRuntime) {
     assert!(rt; copy.same(&sets));
     copy.set_cardinality(&name(&rt, rt.alloc(), "e"), 3);
     assert!(rt; !copy.same(&sets));
+    drop(copy);
+    drop(sets);
 }
 
 #[test]
@@ -211,6 +226,8 @@ fn a_copy_is_the_same_until_roles_change(rt: HostRuntime) {
     let mut copy = sets.copy().expect(&rt, "memory");
     add(&rt, alloc, &mut copy, "e", "b");
     assert!(rt; !copy.same(&sets));
+    drop(copy);
+    drop(sets);
 }
 
 #[test]
@@ -224,6 +241,8 @@ fn one_set_is_copied_and_compared(rt: HostRuntime) {
     assert!(rt; copy.same(&set));
     copy.cardinality = 3;
     assert!(rt; !copy.same(&set));
+    drop(copy);
+    drop(set);
 }
 
 fn put(rt: &impl Abort, alloc: Global, counts: &mut Counts, set: &str, user: &str, number: u32) {

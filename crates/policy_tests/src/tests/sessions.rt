@@ -97,6 +97,7 @@ fn a_session_has_its_owner_and_its_roles(rt: HostRuntime) {
     assert_roles(&rt, alloc, &sessions, "s1", &["clerk"]);
     assert_roles(&rt, alloc, &sessions, "s2", &["clerk", "payer"]);
     assert_eq!(rt; sessions.len(), 2);
+    drop(sessions);
 }
 
 #[test]
@@ -111,6 +112,7 @@ fn a_session_is_got_by_its_name(rt: HostRuntime) {
     let session = sessions.get(&second).expect(&rt, "a session");
     assert_eq!(rt; session.active.len(), 2);
     assert!(rt; sessions.get(&third).is_none());
+    drop(sessions);
 }
 
 #[test]
@@ -122,6 +124,7 @@ fn a_deleted_session_is_gone(rt: HostRuntime) {
     sessions.delete(&name(&rt, alloc, "s1"));
     assert_contains(&rt, alloc, &sessions, "s1", false);
     assert_contains(&rt, alloc, &sessions, "s2", true);
+    drop(sessions);
 }
 
 #[test]
@@ -136,6 +139,7 @@ fn a_role_is_activated(rt: HostRuntime) {
     assert_eq!(rt; sessions.len(), 2);
     assert_roles(&rt, alloc, &sessions, "s1", &["auditor", "clerk"]);
     assert_roles(&rt, alloc, &sessions, "s2", &["clerk", "payer"]);
+    drop(sessions);
 }
 
 #[test]
@@ -148,6 +152,7 @@ fn a_role_is_dropped(rt: HostRuntime) {
     assert_eq!(rt; sessions.len(), 2);
     assert_roles(&rt, alloc, &sessions, "s1", &["clerk"]);
     assert_roles(&rt, alloc, &sessions, "s2", &["payer"]);
+    drop(sessions);
 }
 
 #[test]
@@ -158,6 +163,7 @@ fn some_session_passes_a_test(rt: HostRuntime) {
         let owner = name(&rt, alloc, owner);
         assert_eq!(rt; sessions.any(&OwnedBy { owner }), is);
     }
+    drop(sessions);
 }
 
 #[test]
@@ -169,6 +175,7 @@ fn the_sessions_that_pass_a_test_are_deleted(rt: HostRuntime) {
     });
     assert_contains(&rt, alloc, &sessions, "s1", false);
     assert_contains(&rt, alloc, &sessions, "s2", true);
+    drop(sessions);
 }
 
 #[test]
@@ -180,6 +187,8 @@ fn a_copy_is_the_same_until_it_is_changed(rt: HostRuntime) {
     assert!(rt; copy.same(&sessions));
     copy.drop_role(&second, &clerk);
     assert!(rt; !copy.same(&sessions));
+    drop(copy);
+    drop(sessions);
 }
 
 #[test]
@@ -193,6 +202,8 @@ fn one_session_is_copied_and_compared(rt: HostRuntime) {
     assert!(rt; copy.same(&session));
     copy.active.remove(&name(&rt, alloc, "clerk"));
     assert!(rt; !copy.same(&session));
+    drop(copy);
+    drop(session);
 }
 
 #[test]
