@@ -1,19 +1,12 @@
 -- The line that tells why the program ended with status 1.
 use Rattle.std.specs.Prelude.{ℕ, List, ◌++◌, codes}
-use Rattle.line_engine.specs.declared.report.RunFault.{RunFault}
-use Rattle.line_engine.specs.declared.report.RunFault.TheVariants.{Read, Write, TooManyReads, NoMemory}
+use Rattle.line_engine.specs.Runs.{run_fault_word}
+use Rattle.line_engine.specs.declared.report.RunFault.TheVariants.{NoMemory}
 use Rattle.rbac_founding.specs.FoundingFile.{founding_refusal_word}
 use Rattle.rbac_dump_lines.specs.declared.dump_text.DumpRefusal.{DumpRefusal}
 use Rattle.rbac_dump_lines.specs.declared.dump_text.DumpRefusal.TheVariants.{LineTooLong as DumpLineTooLong, NoMemory as DumpNoMemory}
 use Rattle.rbac_asking.specs.declared.failure.Failure.{Failure}
 use Rattle.rbac_asking.specs.declared.failure.Failure.TheVariants.{File, Founding, Run, LineTooLong, BadName}
-
--- the word of a run's fault
-abbrev pub run_fault_word : RunFault → List ℕ
-run_fault_word Read = codes "Read"
-run_fault_word Write = codes "Write"
-run_fault_word TooManyReads = codes "TooManyReads"
-run_fault_word NoMemory = codes "NoMemory"
 
 -- the failure that a dump's refusal is
 abbrev pub dump_failure : DumpRefusal → Failure

@@ -1,6 +1,5 @@
 //! What ends the program with status 1.
 ghost use Rattle.std.specs.Prelude.{◌≡◌};
-ghost use Rattle.rbac_asking.specs.Failures.{run_fault_word};
 
 use rbac_dump_lines::DumpRefusal;
 use rbac_founding::FoundingRefusal;
@@ -22,16 +21,6 @@ pub(crate) enum Failure<'w> {
     LineTooLong,
     /// A name that was asked about is none.
     BadName(&'w str),
-}
-
-impl From<FoundingRefusal> for Failure<'_> {
-    ghost use Rattle.rbac_asking.specs.declared.failure.Failure.TheVariants.{Founding};
-
-    ghost from_gives = { λ refusal failure. failure ≡ Founding refusal };
-
-    fn from(refusal: FoundingRefusal) -> Self {
-        Failure::Founding(refusal)
-    }
 }
 
 impl From<AllocError> for Failure<'_> {
@@ -68,17 +57,6 @@ impl From<DumpRefusal> for Failure<'_> {
     }
 }
 
-fn run_fault_word(fault: RunFault) -> &'static str
-    ensures { result.now ≡ run_fault_word fault }
-{
-    match fault {
-        RunFault::Read => "Read",
-        RunFault::Write => "Write",
-        RunFault::TooManyReads => "TooManyReads",
-        RunFault::NoMemory => "NoMemory",
-    }
-}
-
 impl Display for Failure<'_> {
     ghost use Rattle.std.specs.Prelude.{Some};
     ghost use Rattle.rbac_asking.specs.Failures.{failure_text};
@@ -89,7 +67,7 @@ impl Display for Failure<'_> {
         match *self {
             Failure::File(path) => write!(f, "rbac_ask: file: {path}"),
             Failure::Founding(refusal) => write!(f, "rbac_ask: founding: {}", refusal.word()),
-            Failure::Run(fault) => write!(f, "rbac_ask: run: {}", run_fault_word(fault)),
+            Failure::Run(fault) => write!(f, "rbac_ask: run: {}", fault.word()),
             Failure::LineTooLong => write!(f, "rbac_ask: dump: LineTooLong"),
             Failure::BadName(name) => write!(f, "rbac_ask: name: {name}"),
         }

@@ -10,10 +10,12 @@ pub mod names;
 mod reading;
 mod refusal;
 mod sample;
+mod stream;
 mod values;
 mod version;
 
 pub use founding::Founding;
 pub use reading::read_founding;
-pub use refusal::FoundingRefusal;
+pub use refusal::{FoundingRefusal, StreamRefusal};
 pub use sample::sample_founding;
+pub use stream::read_founding_from;

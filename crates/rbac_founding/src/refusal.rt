@@ -1,8 +1,10 @@
 //! Why a founding file is refused.
-ghost use Rattle.std.specs.Prelude.{◌≡◌};
+ghost use Rattle.std.specs.Prelude.{◌≡◌, ◌≢◌};
 ghost use Rattle.rbac_founding.specs.FoundingFile.{founding_refusal_word};
 
 use std::alloc::AllocError;
+use std::io;
+use std::io::ErrorKind;
 use thiserror::Error;
 
 /// Why a file is no founding: the first reason that applies, in this order. Memory may run out at any of the checks.
@@ -72,5 +74,43 @@ impl From<AllocError> for FoundingRefusal {
 
     fn from(_refused: AllocError) -> FoundingRefusal {
         FoundingRefusal::NoMemory
+    }
+}
+
+/// Why no founding was read of a stream.
+#[derive(Clone, Copy, Debug, PartialEq, Eq, Drop, Error)]
+pub enum StreamRefusal {
+    /// The stream failed.
+    #[error("the file cannot be read")]
+    Unread,
+    /// What it brought is no founding, or memory ran out.
+    #[error(transparent)]
+    Founding(FoundingRefusal),
+}
+
+impl From<FoundingRefusal> for StreamRefusal {
+    ghost use Rattle.rbac_founding.specs.declared.refusal.StreamRefusal.TheVariants.{Founding};
+
+    ghost from_gives = { λ refusal made. made ≡ Founding refusal };
+
+    fn from(refusal: FoundingRefusal) -> StreamRefusal {
+        StreamRefusal::Founding(refusal)
+    }
+}
+
+/// Want of memory is told as such; all else is a stream that failed.
+impl From<io::Error> for StreamRefusal {
+    ghost use Rattle.std.specs.IoError.{error_kind};
+    ghost use Rattle.std.specs.declared.io.ErrorKind.TheVariants.{OutOfMemory};
+    ghost use Rattle.rbac_founding.specs.declared.refusal.FoundingRefusal.TheVariants.{NoMemory};
+    ghost use Rattle.rbac_founding.specs.declared.refusal.StreamRefusal.TheVariants.{Unread, Founding};
+
+    ghost from_gives = { λ error made. (error_kind error ≡ OutOfMemory → made ≡ Founding NoMemory) × (error_kind error ≢ OutOfMemory → made ≡ Unread) };
+
+    fn from(error: io::Error) -> StreamRefusal {
+        match error.kind() {
+            ErrorKind::OutOfMemory => StreamRefusal::Founding(FoundingRefusal::NoMemory),
+            _ => StreamRefusal::Unread,
+        }
     }
 }

@@ -1,19 +1,11 @@
 -- The line that tells why the program ended with status 1.
 use Rattle.std.specs.Prelude.{ℕ, List, ◌++◌, codes}
-use Rattle.line_engine.specs.declared.report.RunFault.{RunFault}
-use Rattle.line_engine.specs.declared.report.RunFault.TheVariants.{Read, Write, TooManyReads, NoMemory}
+use Rattle.line_engine.specs.Runs.{run_fault_word}
 use Rattle.rbac_founding.specs.FoundingFile.{founding_refusal_word}
 use Rattle.rbac_program.specs.declared.fault.Fault.{Fault}
 use Rattle.rbac_node.specs.declared.report.AuditRefusal.{AuditRefusal}
 use Rattle.rbac_node.specs.declared.report.AuditRefusal.TheVariants.{NotAGroup, NoMemory as AuditNoMemory}
 use Rattle.rbac_program.specs.declared.fault.Fault.TheVariants.{File, Founding, Run, NoThread, Audit, NotConfirmed}
-
--- the word of a run's fault
-abbrev pub run_fault_word : RunFault → List ℕ
-run_fault_word Read = codes "Read"
-run_fault_word Write = codes "Write"
-run_fault_word TooManyReads = codes "TooManyReads"
-run_fault_word NoMemory = codes "NoMemory"
 
 -- the word of an audit's refusal
 abbrev pub audit_word : AuditRefusal → List ℕ

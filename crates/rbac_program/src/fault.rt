@@ -1,6 +1,6 @@
 //! What ends the program with status 1.
 ghost use Rattle.std.specs.Prelude.{◌≡◌};
-ghost use Rattle.rbac_program.specs.Faults.{audit_word, run_fault_word};
+ghost use Rattle.rbac_program.specs.Faults.{audit_word};
 
 use rbac_founding::FoundingRefusal;
 use rbac_lines::RunFault;
@@ -24,16 +24,6 @@ pub(crate) enum Fault<'w> {
     Audit(AuditRefusal),
     /// A node does not confirm its member's pass.
     NotConfirmed,
-}
-
-impl From<FoundingRefusal> for Fault<'_> {
-    ghost use Rattle.rbac_program.specs.declared.fault.Fault.TheVariants.{Founding};
-
-    ghost from_gives = { λ refusal fault. fault ≡ Founding refusal };
-
-    fn from(refusal: FoundingRefusal) -> Self {
-        Fault::Founding(refusal)
-    }
 }
 
 impl From<AllocError> for Fault<'_> {
@@ -67,17 +57,6 @@ impl From<AuditRefusal> for Fault<'_> {
     }
 }
 
-fn run_fault_word(fault: RunFault) -> &'static str
-    ensures { result.now ≡ run_fault_word fault }
-{
-    match fault {
-        RunFault::Read => "Read",
-        RunFault::Write => "Write",
-        RunFault::TooManyReads => "TooManyReads",
-        RunFault::NoMemory => "NoMemory",
-    }
-}
-
 fn audit_word(refusal: AuditRefusal) -> &'static str
     ensures { result.now ≡ audit_word refusal }
 {
@@ -97,7 +76,7 @@ impl Display for Fault<'_> {
         match *self {
             Fault::File(path) => write!(f, "rbac_monitor: file: {path}"),
             Fault::Founding(refusal) => write!(f, "rbac_monitor: founding: {}", refusal.word()),
-            Fault::Run(fault) => write!(f, "rbac_monitor: run: {}", run_fault_word(fault)),
+            Fault::Run(fault) => write!(f, "rbac_monitor: run: {}", fault.word()),
             Fault::NoThread => write!(f, "rbac_monitor: run: NoThread"),
             Fault::Audit(refusal) => write!(f, "rbac_monitor: audit: {}", audit_word(refusal)),
             Fault::NotConfirmed => write!(f, "rbac_monitor: audit: NotConfirmed"),

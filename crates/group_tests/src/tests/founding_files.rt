@@ -1,8 +1,12 @@
 //! What `rbac_founding` reads founding files as, and of refused ones by files that the next check would refuse too.
 
-use rbac_founding::{Founding, FoundingRefusal, read_founding, sample_founding};
+use crate::tests::failing::FailingReader;
+use rbac_founding::{
+    Founding, FoundingRefusal, StreamRefusal, read_founding, read_founding_from, sample_founding,
+};
 use rbac_words::{HierarchyKind, Name, Vocabulary, VocabularyRefusal};
 use std::alloc::{AllocError, Global};
+use std::io::Read;
 use std::process::Abort;
 
 const SAMPLE: &str = r#"
@@ -88,7 +92,32 @@ fn a_file_has_1048576_bytes_at_most(rt: HostRuntime) -> Result<(), AllocError> {
         refusal_of(rt.alloc(), &file),
         Some(FoundingRefusal::TooLong)
     );
+    assert_eq!(rt;
+        refusal_of_stream(rt.alloc(), file.as_slice()),
+        Some(StreamRefusal::Founding(FoundingRefusal::TooLong))
+    );
     Ok(())
+}
+
+fn refusal_of_stream<R: Read + Drop>(alloc: Global, reader: R) -> Option<StreamRefusal> {
+    read_founding_from(alloc, reader).err()
+}
+
+#[test]
+fn a_file_is_read_of_a_stream(rt: HostRuntime) {
+    let alloc = rt.alloc();
+    let Ok(read) = read_founding_from(alloc, SAMPLE.as_bytes()) else {
+        panic!(rt);
+    };
+    expect_sample(&rt, alloc, read, 0, 65_536);
+    assert_eq!(rt;
+        refusal_of_stream(alloc, b"nothing".as_slice()),
+        Some(StreamRefusal::Founding(FoundingRefusal::NotToml))
+    );
+    assert_eq!(rt;
+        refusal_of_stream(alloc, FailingReader::of(SAMPLE.as_bytes(), 2)),
+        Some(StreamRefusal::Unread)
+    );
 }
 
 #[test]

@@ -28,30 +28,11 @@ pub(crate) fn next_serial(serials: &SortedMap<(u32, u32), u64>, member: u32, cal
     serials.get(&(member, caller)).copied().unwrap_or(0)
 }
 
-// Whether a command was handed back for want of memory. It is dropped here.
-fn is_handed_back(answer: Result<(), Held>) -> bool
+// Whether what was put was handed back for want of memory. It is dropped here, by one call whatever it is.
+fn is_handed_back<T: Drop>(answer: Result<(), T>) -> bool
     ensures { result ≡ is_err answer }
 {
-    match answer {
-        Ok(()) => false,
-        Err(held) => {
-            drop(held);
-            true
-        }
-    }
-}
-
-// The same of several commands.
-fn are_handed_back(answer: Result<(), Vec<Held>>) -> bool
-    ensures { result ≡ is_err answer }
-{
-    match answer {
-        Ok(()) => false,
-        Err(held) => {
-            drop(held);
-            true
-        }
-    }
+    answer.is_err()
 }
 
 // Copies of commands as they are held.
@@ -126,7 +107,7 @@ fn hold_copies(
         return hold_copy(held, stamp, caller, serial, &commands[0]);
     }
     let copies = copied(alloc, stamp, caller, serial, commands)?;
-    if are_handed_back(held.put_all(copies)) {
+    if is_handed_back(held.put_all(copies)) {
         return Err(AllocError);
     }
     Ok(())

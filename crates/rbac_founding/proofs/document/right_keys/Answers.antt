@@ -1,4 +1,4 @@
-use Rattle.std.proofs.Common.{◌≡◌, ◌∙◌, sym, ap}
+use Rattle.std.proofs.Common.{◌∙◌}
 use Rattle.toml.specs.View.{table_view}
 use Rattle.rbac_founding.proofs.FoundingLemmas.{of_version}
 use Rattle.rbac_founding.proofs.document.right_keys.Goals as goal

@@ -1,7 +1,7 @@
 use Rattle.std.proofs.Common.{◌≡◌, ◌∙◌, ap, Ok, Err, rules}
-use Rattle.rbac_program.specs.declared.fault.Fault.TheVariants.{Founding}
-use Rattle.rbac_program.proofs.FileLemmas.{known_file}
-use Rattle.rbac_program.proofs.founding_file.read_file.Goals as goal
+use Rattle.rbac_founding.specs.declared.refusal.StreamRefusal.TheVariants.{Founding}
+use Rattle.rbac_founding.proofs.StreamLemmas.{known_file}
+use Rattle.rbac_founding.proofs.stream.read_founding_from.Goals as goal
 
 pub returns-in_ok-read_founding-in-Ok-clause-founding_read : goal.returns-in_ok-read_founding-in-Ok-clause-founding_read
 returns-in_ok-read_founding-in-Ok-clause-founding_read g c =

@@ -1,5 +1,5 @@
-use Rattle.rbac_program.proofs.FileLemmas.{front_read}
-use Rattle.rbac_program.proofs.founding_file.bytes_of.Goals as goal
+use Rattle.rbac_founding.proofs.StreamLemmas.{front_read}
+use Rattle.rbac_founding.proofs.stream.bytes_of.Goals as goal
 
 pub returns : goal.returns
 returns g c =
