@@ -1,6 +1,10 @@
 //! Serving callers: the members of a group in threads of their own, and a conversation with a desk over them.
-ghost use Rattle.std.specs.Prelude.{◌≡◌, false, length};
+ghost use Rattle.std.specs.Prelude.{◌≡◌, false, length, OnOk};
 ghost use Rattle.line_engine.specs.Watched.{failed_of};
+ghost use Rattle.rbac_words.specs.Keeping.Members.{world_of};
+ghost use Rattle.rbac_words.specs.Right.{AreHistoriesRight};
+ghost use Rattle.rbac_node.specs.Node.{members_of};
+ghost use Rattle.rbac_program.specs.Serving.{AreConfirmed};
 
 mod answering;
 mod confirming;
@@ -102,7 +106,10 @@ fn confirm_all<'w, G: GroupName>(
     alloc: Global,
     mut nodes: Vec<Node<G>>,
     mut passes: Vec<Pass<G>>,
-) -> Result<(), Fault<'w>> {
+) -> Result<(), Fault<'w>>
+    ensures right { OnOk result (AreHistoriesRight (world_of G.group G.vocabulary (members_of nodes.items))) }
+    ensures confirmed { OnOk result (AreConfirmed nodes.items passes.items) }
+{
     let confirmed = confirm(alloc, &mut nodes, &mut passes);
     drop(nodes);
     drop(passes);

@@ -1,6 +1,7 @@
 //! A conversation beside the members' threads.
-ghost use Rattle.std.specs.Prelude.{◌≡◌, false};
-ghost use Rattle.line_engine.specs.Watched.{failed_of};
+ghost use Rattle.std.specs.Prelude.{◌≡◌, false, OnOk};
+ghost use Rattle.line_engine.specs.Watched.{failed_of, inner_of};
+ghost use Rattle.rbac_program.specs.Serving.{Serves};
 
 use crate::fault::Fault;
 use crate::serving::desk::PassDesk;
@@ -30,6 +31,7 @@ fn talk<'w, G: GroupName, K: Gate + Drop, C: Courier + Drop, T: Wait, R: Read + 
     writer: &mut Watched<W>,
 ) -> (Result<(), Fault<'w>>, Vec<Pass<G>>)
     requires { failed_of writer.old ≡ false }
+    ensures served { OnOk result.0 (Serves (R.remaining reader) (W.contents (inner_of writer.old)) (W.contents (inner_of writer.new)) passes.items result.1.items) }
 {
     let mut desk = PassDesk {
         rt,

@@ -1,8 +1,10 @@
 //! A desk with a pass for each member.
+ghost use Rattle.std.specs.Prelude.{◌≡◌, ◌≢◌, true, false};
+ghost use Rattle.rbac_program.specs.Serving.{PassOf, Told};
 
 use rbac_lines::{Desk, DeskRefusal};
 use rbac_service::{
-    AwaitRefusal, CallRefusal, Courier, Gate, GroupName, Pass, Receipt, Service, ServiceRefusal,
+    AwaitRefusal, CallRefusal, Courier, Gate, GroupName, Pass, Service, ServiceRefusal,
 };
 use rbac_words::{Answer, Command};
 use std::alloc::Global;
@@ -17,7 +19,9 @@ pub(crate) struct PassDesk<'a, G: GroupName, K: Gate + Drop, C: Courier + Drop, 
 }
 
 // A pass that its member does not know is no longer answered: it is shown as a stop.
-fn submit_refusal(refusal: ServiceRefusal) -> DeskRefusal {
+fn submit_refusal(refusal: ServiceRefusal) -> DeskRefusal
+    ensures { result ≢ DeskRefusal.UnknownMember }
+{
     match refusal {
         ServiceRefusal::Stopped | ServiceRefusal::Foreign => DeskRefusal::Stopped,
         ServiceRefusal::Busy => DeskRefusal::Busy,
@@ -27,7 +31,9 @@ fn submit_refusal(refusal: ServiceRefusal) -> DeskRefusal {
     }
 }
 
-fn await_refusal(refusal: AwaitRefusal) -> DeskRefusal {
+fn await_refusal(refusal: AwaitRefusal) -> DeskRefusal
+    ensures { result ≢ DeskRefusal.UnknownMember }
+{
     match refusal {
         AwaitRefusal::Stopped(ticket) => {
             drop(ticket);
@@ -40,8 +46,25 @@ fn await_refusal(refusal: AwaitRefusal) -> DeskRefusal {
     }
 }
 
-fn reply_of(called: Result<Receipt, CallRefusal>) -> Result<Answer, DeskRefusal> {
-    match called {
+// Whether the pass of this member stands at its place.
+fn has_pass<G: GroupName>(passes: &[Pass<G>], at: u32) -> bool
+    ensures pass { result ≡ true → PassOf passes.now at }
+    ensures none { result ≡ false → PassOf passes.now at → ⊥ }
+{
+    0 < at && at as usize <= passes.len() && passes[at as usize - 1].member() == at
+}
+
+// Asks for a command by a pass, and waits for the answer.
+fn ask<G: GroupName, K: Gate + Drop, C: Courier + Drop, T: Wait>(
+    rt: &T,
+    alloc: Global,
+    service: &Service<G, K, C>,
+    pass: &mut Pass<G>,
+    command: Command,
+) -> Result<Answer, DeskRefusal>
+    ensures told { Told pass.old command result pass.new }
+{
+    match service.call(rt, alloc, pass, command) {
         Ok(receipt) => Ok(receipt.answer),
         Err(CallRefusal::Submit(refusal)) => Err(submit_refusal(refusal)),
         Err(CallRefusal::Await(refusal)) => Err(await_refusal(refusal)),
@@ -50,14 +73,16 @@ fn reply_of(called: Result<Receipt, CallRefusal>) -> Result<Answer, DeskRefusal>
 
 impl<'a, G: GroupName, K: Gate + Drop, C: Courier + Drop, T: Wait> Desk
     for PassDesk<'a, G, K, C, T> {
-    // Nothing is known of a node once its lock is let go, so that anything may be.
-    ghost asks = { λ _ _ _ _ _. Unit {0} };
+    ghost use Rattle.rbac_program.specs.Serving.{AsksPasses};
+
+    ghost asks = { λ old at command reply new. AsksPasses old.passes.items at command reply new.passes.items };
 
     fn call(&mut self, alloc: Global, at: u32, command: Command) -> Result<Answer, DeskRefusal> {
-        let Some(pass) = self.passes.get_mut((at as usize).wrapping_sub(1)) else {
+        if !has_pass(&self.passes, at) {
             drop(command);
             return Err(DeskRefusal::UnknownMember);
-        };
-        reply_of(self.service.call(self.rt, alloc, pass, command))
+        }
+        let pass = &mut self.passes[at as usize - 1];
+        ask(self.rt, alloc, self.service, pass, command)
     }
 }
