@@ -1,11 +1,23 @@
 //! The founding that the words name.
 ghost use Rattle.std.specs.Prelude.{◌≡◌, IfOk, codes};
+ghost use Rattle.rbac_founding.specs.declared.refusal.FoundingRefusal.{FoundingRefusal};
 ghost use Rattle.rbac_founding.specs.Sample.{sample_group, sample_vocabulary};
 
 use crate::failure::Failure;
 use rbac_founding::{Founding, StreamRefusal, read_founding_from, sample_founding};
 use std::fs;
 use std::rt::Files;
+
+// What it is that a file of this path is not read as a founding.
+fn failure_of<'w>(path: &'w str, refusal: StreamRefusal) -> Failure<'w>
+    ensures unread { refusal ≡ StreamRefusal.Unread → result ≡ Failure.File path.entry }
+    ensures refused { (why : FoundingRefusal) → refusal ≡ StreamRefusal.Founding why → result ≡ Failure.Founding why }
+{
+    match refusal {
+        StreamRefusal::Unread => Failure::File(path),
+        StreamRefusal::Founding(why) => Failure::Founding(why),
+    }
+}
 
 // The founding of a file.
 fn read_file<T: Files + AllocGlobal>(rt: &T, path: &str) -> Result<Founding, StreamRefusal> {
@@ -26,7 +38,6 @@ pub(crate) fn founding_of<'w, T: Files + AllocGlobal>(
     }
     match read_file(rt, path) {
         Ok(founding) => Ok(founding),
-        Err(StreamRefusal::Unread) => Err(Failure::File(path)),
-        Err(StreamRefusal::Founding(refusal)) => Err(Failure::Founding(refusal)),
+        Err(refusal) => Err(failure_of(path, refusal)),
     }
 }

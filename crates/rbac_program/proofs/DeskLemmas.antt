@@ -1,5 +1,5 @@
 -- A reply that is lost, and conversations with a desk as conversations with its passes.
-use Rattle.std.proofs.Common.{ℕ, ◌≡◌, ◌+◌, ◌-◌, inr, Bool, List, [], ◌∷◌, slice_index_or, slice_set, Option, None, Some, IfSome, Ok, Err, ap, ◌∙◌, subst, arith}
+use Rattle.std.proofs.Common.{ℕ, ◌≡◌, ◌+◌, ◌-◌, inl, inr, ⊎_elim, refl, Bool, List, [], ◌∷◌, slice_index_or, slice_set, Option, None, Some, IfSome, Ok, Err, ap, ◌∙◌, subst, arith}
 use Rattle.std.proofs.lemmas.Option.{get_or_from_slice_get}
 use Rattle.rbac_terms.specs.declared.command.Command.{Command}
 use Rattle.rbac_node.specs.Pass.{PassState}
@@ -26,7 +26,7 @@ pub as_stopped : (passes : List PassState) (at : ℕ) (command : Command) (reply
     → Told p command reply q → reply ≡ Err NoMemory → AsksPasses passes at command (Err Stopped) (slice_set passes (at - 1) q)
 as_stopped passes at command reply p q its here told lost =
     let refused : Told p command (Err NoMemory) q = subst (λ r. Told p command r q) lost told in
-    told_so passes at command (Err Stopped) p q its here ((λ same. cc), refused.1)
+    told_so passes at command (Err Stopped) p q its here ((λ same. cc), ⊎_elim (λ same. inl same) (λ waits. inr (inl refl, waits.1)) refused.1)
 
 module _ {D E : Type 0} (of : D → E) (asks : Asks D) (so : Asks E)
     (each : (old : D) (at : ℕ) (command : Command) (reply : Reply) (new : D) → asks old at command reply new → so (of old) at command reply (of new)) where

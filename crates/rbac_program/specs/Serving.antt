@@ -8,7 +8,8 @@ use Rattle.rbac_words.specs.Play.{IsPrefixOf}
 use Rattle.rbac_node.specs.Node.{NodeState}
 use Rattle.rbac_node.specs.Pass.{PassState, IsAnswered}
 use Rattle.rbac_service.specs.Ticket.{called}
-use Rattle.rbac_lines.specs.declared.refusal.DeskRefusal.TheVariants.{UnknownMember}
+use Rattle.rbac_lines.specs.declared.refusal.DeskRefusal.{DeskRefusal}
+use Rattle.rbac_lines.specs.declared.refusal.DeskRefusal.TheVariants.{NoMemory, Stopped, UnknownMember}
 use Rattle.rbac_lines.specs.Text.{Reply}
 use Rattle.rbac_lines.specs.Conversation.{Conversation}
 
@@ -16,12 +17,17 @@ use Rattle.rbac_lines.specs.Conversation.{Conversation}
 abbrev pub with_ticket : PassState → PassState
 with_ticket p = record p { next = p.next + 1; is_waiting = true }
 
+-- why a caller waits no more: the member was stopped, or memory ended
+abbrev pub EndsWaiting : DeskRefusal → Type 0
+EndsWaiting refusal = (refusal ≡ Stopped) ⊎ (refusal ≡ NoMemory)
+
 -- what a pass is told: an answer stands with the command in the front that the pass has then, and is its own next call, at a
--- stamp of its member; at a refusal nothing was submitted, or the command was and has no answer yet. Its member is known
+-- stamp of its member; at a refusal nothing was submitted, or the caller waits no more for a command that was. The refusal is
+-- never that the member is unknown
 abbrev pub Told : PassState → Command → Reply → PassState → Type 0
 Told old command (Ok answer) new =
     (stamp : Stamp) × (place : ℕ) × (stamp.member ≡ old.member) × IsAnswered (with_ticket old) (called old stamp command) place answer new
-Told old command (Err refusal) new = (refusal ≢ UnknownMember) × ((new ≡ old) ⊎ (new ≡ with_ticket old))
+Told old command (Err refusal) new = (refusal ≢ UnknownMember) × ((new ≡ old) ⊎ (EndsWaiting refusal × (new ≡ with_ticket old)))
 
 -- the pass of a member: members are counted from 1
 abbrev pub PassOf : List PassState → ℕ → Type 0

@@ -1,6 +1,6 @@
 //! A desk with a pass for each member.
 ghost use Rattle.std.specs.Prelude.{◌≡◌, ◌≢◌, true, false};
-ghost use Rattle.rbac_program.specs.Serving.{PassOf, Told};
+ghost use Rattle.rbac_program.specs.Serving.{EndsWaiting, PassOf, Told};
 
 use rbac_lines::{Desk, DeskRefusal};
 use rbac_service::{
@@ -32,7 +32,8 @@ fn submit_refusal(refusal: ServiceRefusal) -> DeskRefusal
 }
 
 fn await_refusal(refusal: AwaitRefusal) -> DeskRefusal
-    ensures { result ≢ DeskRefusal.UnknownMember }
+    ensures known { result ≢ DeskRefusal.UnknownMember }
+    ensures waiting { EndsWaiting result }
 {
     match refusal {
         AwaitRefusal::Stopped(ticket) => {
