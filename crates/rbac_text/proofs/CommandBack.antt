@@ -10,7 +10,8 @@ use Rattle.rbac_terms.specs.declared.command.Command.{Command}
 use Rattle.rbac_terms.specs.declared.command.Command.TheVariants.{AddUser, DeleteUser, AddRole, DeleteRole, AssignUser, DeassignUser, GrantPermission, RevokePermission, AddInheritance, DeleteInheritance, AddAscendant, AddDescendant, CreateSet, DeleteSet, AddRoleMember, DeleteRoleMember, SetCardinality, CreateSession, DeleteSession, AddActiveRole, DropActiveRole, CheckAccess, Review as ReviewCommand}
 use Rattle.rbac_text.specs.Fields.{texts_of}
 use Rattle.rbac_text.specs.Command.{command_of, hierarchy_command, session_command, separation_command, review_command, set_review}
-use Rattle.rbac_text.specs.CommandText.{command_fields, AreFields}
+use Rattle.rbac_text.specs.Command.{command_fields}
+use Rattle.rbac_text.specs.CommandText.{AreFields}
 use Rattle.rbac_text.specs.CommandObject.{items_of, command_object}
 
 texts_back : (names : List Name) → texts_of (items_of names) ≡ Some names

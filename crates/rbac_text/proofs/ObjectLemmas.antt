@@ -20,7 +20,8 @@ use Rattle.rbac_terms.specs.declared.review.Review.{Review}
 use Rattle.rbac_terms.specs.declared.review.Review.TheVariants.{AssignedUsers, AssignedRoles, AuthorizedUsers, AuthorizedRoles, RolePermissions, UserPermissions, SessionRoles, SessionPermissions, RoleOperationsOnObject, UserOperationsOnObject, RoleSets, RoleSetRoles, RoleSetCardinality}
 use Rattle.rbac_terms.specs.declared.command.Command.{Command}
 use Rattle.rbac_terms.specs.declared.command.Command.TheVariants.{AddUser, DeleteUser, AddRole, DeleteRole, AssignUser, DeassignUser, GrantPermission, RevokePermission, AddInheritance, DeleteInheritance, AddAscendant, AddDescendant, CreateSet, DeleteSet, AddRoleMember, DeleteRoleMember, SetCardinality, CreateSession, DeleteSession, AddActiveRole, DropActiveRole, CheckAccess, Review as ReviewCommand}
-use Rattle.rbac_text.specs.CommandText.{Field, Fields, one_name, some_names, whole, value_text, field_text, object_text, command_text, by_kind, command_word, review_word, command_fields, review_fields, IsField, AreFields}
+use Rattle.rbac_text.specs.Command.{Field, Fields, one_name, some_names, whole, by_kind, command_word, review_word, command_fields, review_fields}
+use Rattle.rbac_text.specs.CommandText.{value_text, field_text, object_text, command_text, IsField, AreFields}
 use Rattle.rbac_text.specs.Pieces.{in_quotes}
 use Rattle.rbac_text.specs.CommandObject.{items_of, value_of, with_fields, command_object}
 

@@ -11,7 +11,8 @@ use Rattle.json.proofs.Printed.Utf8.{are_ascii, IsUtf8-are_ascii}
 use Rattle.rbac_terms.specs.Name.{Name, is_name, is_name_byte}
 use Rattle.rbac_terms.specs.declared.command.Command.{Command}
 use Rattle.rbac_text.specs.Pieces.{in_quotes}
-use Rattle.rbac_text.specs.CommandText.{Field, Fields, one_name, some_names, whole, value_text, field_text, command_text, command_word, command_fields, IsField, AreFields}
+use Rattle.rbac_text.specs.Command.{Field, Fields, one_name, some_names, whole, command_word, command_fields}
+use Rattle.rbac_text.specs.CommandText.{value_text, field_text, command_text, IsField, AreFields}
 use Rattle.rbac_text.specs.Lines.{is_no_feed}
 use Rattle.rbac_text.proofs.ObjectLemmas.{AreKeyed, command_named, command_keyed}
 

@@ -8,7 +8,8 @@ use Rattle.rbac_text.specs.declared.refusal.LineRefusal.TheVariants.{NotObject}
 use Rattle.rbac_text.specs.Steps.{◌>>=◌}
 use Rattle.rbac_text.specs.Command.{command_of}
 use Rattle.rbac_text.specs.ReadCommand.{command}
-use Rattle.rbac_text.specs.CommandText.{command_text, command_fields, AreFields}
+use Rattle.rbac_text.specs.Command.{command_fields}
+use Rattle.rbac_text.specs.CommandText.{command_text, AreFields}
 use Rattle.rbac_text.specs.CommandObject.{command_object}
 use Rattle.rbac_text.proofs.ValueLemmas.{value_of_json}
 use Rattle.rbac_text.proofs.ObjectLemmas.{command_reads}

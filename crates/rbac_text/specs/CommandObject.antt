@@ -3,7 +3,7 @@ use Rattle.std.specs.Prelude.{List, [], ◌∷◌, codes}
 use Rattle.serde_json.specs.Data.{Data, string, array, number, unsigned, Items, no_items, item, Members, no_members, put}
 use Rattle.rbac_terms.specs.Name.{Name}
 use Rattle.rbac_terms.specs.declared.command.Command.{Command}
-use Rattle.rbac_text.specs.CommandText.{Field, Fields, one_name, some_names, whole, command_word, command_fields}
+use Rattle.rbac_text.specs.Command.{Field, Fields, one_name, some_names, whole, command_word, command_fields}
 
 -- an array of texts
 abbrev pub items_of : List Name → Items

@@ -3,7 +3,8 @@ use Rattle.std.specs.Prelude.{ℕ, ◌≤◌, List, ◌++◌, Bool, not, length,
 use Rattle.std.specs.List.{flat_map}
 use Rattle.line_engine.specs.Lines.{is_line_feed}
 use Rattle.rbac_terms.specs.declared.command.Command.{Command}
-use Rattle.rbac_text.specs.CommandText.{command_text, command_fields, AreFields}
+use Rattle.rbac_text.specs.Command.{command_fields}
+use Rattle.rbac_text.specs.CommandText.{command_text, AreFields}
 
 -- the text of a command, between what stands before it and after it
 abbrev pub line_of : List ℕ → List ℕ → Command → List ℕ

@@ -1,7 +1,8 @@
 //! Commands as lines, each with its line feed.
 ghost use Rattle.std.specs.Prelude.{◌≡◌, ◌≤◌, ◌++◌, true, codes, length, IfErr, OnOk};
 ghost use Rattle.std.specs.List.{list_any, AllByRecursion as Each};
-ghost use Rattle.rbac_text.specs.CommandText.{command_fields, AreFields};
+ghost use Rattle.rbac_text.specs.Command.{command_fields};
+ghost use Rattle.rbac_text.specs.CommandText.{AreFields};
 ghost use Rattle.rbac_text.specs.Lines.{is_longer, line_of, lines_of, IsTold};
 
 use crate::pieces::put_piece;

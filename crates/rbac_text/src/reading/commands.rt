@@ -1,8 +1,9 @@
 //! The command that an object stands for: its fields are taken from left to right, and there is no other key.
-ghost use Rattle.std.specs.Prelude.{codes};
+ghost use Rattle.std.specs.Prelude.{◌∷◌, []};
 ghost use Rattle.serde_json.specs.View.{members_view};
+ghost use Rattle.rbac_text.specs.Steps.{seen};
 ghost use Rattle.rbac_text.specs.Fields.{Reads};
-ghost use Rattle.rbac_text.specs.Command.{command_of, one_name, two_names, three_names};
+ghost use Rattle.rbac_text.specs.Command.{a_name, command_of, object_key, operation_key, role_key, user_key, whole_of};
 
 mod hierarchy;
 mod reviews;
@@ -57,7 +58,7 @@ pub fn command_of(alloc: Global, fields: &Object) -> Reading<Command>
 
 /// The name at this key, where there is no other key but the command's name.
 fn one_name(alloc: Global, fields: &Object, key: &str) -> Reading<Name>
-    ensures { Reads (one_name key.now (members_view fields.now.entries)) result }
+    ensures { Reads (whole_of ((key.now, a_name) ∷ []) (members_view fields.now.entries)) (seen (λ name. (name, tt)) result) }
 {
     let name = name_in(alloc, fields, key)?;
     only_keys(fields, &["name", key])?;
@@ -66,21 +67,21 @@ fn one_name(alloc: Global, fields: &Object, key: &str) -> Reading<Name>
 
 /// The user, and no other key.
 fn one_user(alloc: Global, fields: &Object) -> Reading<Name>
-    ensures { Reads (one_name (codes "user") (members_view fields.now.entries)) result }
+    ensures { Reads (whole_of (user_key ∷ []) (members_view fields.now.entries)) (seen (λ name. (name, tt)) result) }
 {
     one_name(alloc, fields, "user")
 }
 
 /// The role, and no other key.
 fn one_role(alloc: Global, fields: &Object) -> Reading<Name>
-    ensures { Reads (one_name (codes "role") (members_view fields.now.entries)) result }
+    ensures { Reads (whole_of (role_key ∷ []) (members_view fields.now.entries)) (seen (λ name. (name, tt)) result) }
 {
     one_name(alloc, fields, "role")
 }
 
 /// The names at these two keys, and no other key.
 fn two_names(alloc: Global, fields: &Object, first: &str, second: &str) -> Reading<(Name, Name)>
-    ensures { Reads (two_names first.now second.now (members_view fields.now.entries)) result }
+    ensures { Reads (whole_of ((first.now, a_name) ∷ (second.now, a_name) ∷ []) (members_view fields.now.entries)) (seen (λ names. (names.0, (names.1, tt))) result) }
 {
     let one = name_in(alloc, fields, first)?;
     let two = name_in(alloc, fields, second)?;
@@ -90,7 +91,7 @@ fn two_names(alloc: Global, fields: &Object, first: &str, second: &str) -> Readi
 
 /// A user and a role, and no other key.
 fn user_and_role(alloc: Global, fields: &Object) -> Reading<(Name, Name)>
-    ensures { Reads (two_names (codes "user") (codes "role") (members_view fields.now.entries)) result }
+    ensures { Reads (whole_of (user_key ∷ role_key ∷ []) (members_view fields.now.entries)) (seen (λ names. (names.0, (names.1, tt))) result) }
 {
     two_names(alloc, fields, "user", "role")
 }
@@ -103,7 +104,7 @@ fn three_names(
     second: &str,
     third: &str,
 ) -> Reading<(Name, Name, Name)>
-    ensures { Reads (three_names first.now second.now third.now (members_view fields.now.entries)) result }
+    ensures { Reads (whole_of ((first.now, a_name) ∷ (second.now, a_name) ∷ (third.now, a_name) ∷ []) (members_view fields.now.entries)) (seen (λ names. (names.0, (names.1, (names.2, tt)))) result) }
 {
     let one = name_in(alloc, fields, first)?;
     let two = name_in(alloc, fields, second)?;
@@ -114,7 +115,7 @@ fn three_names(
 
 /// The operation and the object of a permission, and a role.
 fn permission_of_role(alloc: Global, fields: &Object) -> Reading<(Name, Name, Name)>
-    ensures { Reads (three_names (codes "operation") (codes "object") (codes "role") (members_view fields.now.entries)) result }
+    ensures { Reads (whole_of (operation_key ∷ object_key ∷ role_key ∷ []) (members_view fields.now.entries)) (seen (λ names. (names.0, (names.1, (names.2, tt)))) result) }
 {
     three_names(alloc, fields, "operation", "object", "role")
 }

@@ -1,6 +1,6 @@
 //! Words of the two kinds of sets.
 ghost use Rattle.std.specs.Prelude.{◌≡◌};
-ghost use Rattle.rbac_text.specs.CommandText.{by_kind};
+ghost use Rattle.rbac_text.specs.Command.{by_kind};
 
 use rbac_terms::Separation;
 

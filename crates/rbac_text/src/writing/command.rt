@@ -3,7 +3,8 @@ ghost use Rattle.std.specs.Prelude.{◌≡◌, ◌++◌, Some, codes, OnOk};
 ghost use Rattle.std.specs.List.{flat_map};
 ghost use Rattle.serde_json.specs.Data.{object};
 ghost use Rattle.serde_json.specs.Read.{read};
-ghost use Rattle.rbac_text.specs.CommandText.{command_fields, command_text, command_word, field_text, AreFields};
+ghost use Rattle.rbac_text.specs.Command.{command_fields, command_word};
+ghost use Rattle.rbac_text.specs.CommandText.{command_text, field_text, AreFields};
 ghost use Rattle.rbac_text.specs.CommandObject.{command_object};
 
 use crate::writing::by_kind::by_kind;

@@ -3,7 +3,8 @@ ghost use Rattle.std.specs.Prelude.{◌≡◌, ◌++◌, ◌∷◌, [], codes, I
 ghost use Rattle.std.specs.List.{flat_map, join_by, list_all};
 ghost use Rattle.rbac_terms.specs.Name.{is_name};
 ghost use Rattle.rbac_text.specs.Pieces.{array_text, in_quotes};
-ghost use Rattle.rbac_text.specs.CommandText.{field_text, one_name, some_names, whole, AreFields, IsField};
+ghost use Rattle.rbac_text.specs.Command.{one_name, some_names, whole};
+ghost use Rattle.rbac_text.specs.CommandText.{field_text, AreFields, IsField};
 
 use rbac_terms::{Name, NameSet};
 use std::alloc::AllocError;

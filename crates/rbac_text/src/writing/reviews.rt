@@ -1,7 +1,8 @@
 //! The name and the fields of a review.
 ghost use Rattle.std.specs.Prelude.{◌≡◌, ◌++◌, OnOk};
 ghost use Rattle.std.specs.List.{flat_map};
-ghost use Rattle.rbac_text.specs.CommandText.{review_word, review_fields, field_text, AreFields};
+ghost use Rattle.rbac_text.specs.Command.{review_word, review_fields};
+ghost use Rattle.rbac_text.specs.CommandText.{field_text, AreFields};
 
 use crate::writing::by_kind::by_kind;
 use crate::writing::fields::{put_name, put_two};

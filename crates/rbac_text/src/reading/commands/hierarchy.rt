@@ -1,8 +1,9 @@
 //! The commands about the role hierarchy.
-ghost use Rattle.std.specs.Prelude.{codes};
+ghost use Rattle.std.specs.Prelude.{◌∷◌, []};
 ghost use Rattle.serde_json.specs.View.{members_view};
+ghost use Rattle.rbac_text.specs.Steps.{seen};
 ghost use Rattle.rbac_text.specs.Fields.{Reads};
-ghost use Rattle.rbac_text.specs.Command.{hierarchy_command, two_names};
+ghost use Rattle.rbac_text.specs.Command.{ascendant_key, descendant_key, hierarchy_command, whole_of};
 
 use crate::reading::commands::sessions::session_command;
 use crate::reading::commands::two_names;
@@ -50,7 +51,7 @@ pub(crate) fn hierarchy_command(alloc: Global, fields: &Object, name: &str) -> R
 
 /// An ascendant and a descendant, and no other key.
 fn two_roles(alloc: Global, fields: &Object) -> Reading<(Name, Name)>
-    ensures { Reads (two_names (codes "ascendant") (codes "descendant") (members_view fields.now.entries)) result }
+    ensures { Reads (whole_of (ascendant_key ∷ descendant_key ∷ []) (members_view fields.now.entries)) (seen (λ names. (names.0, (names.1, tt))) result) }
 {
     two_names(alloc, fields, "ascendant", "descendant")
 }

@@ -1,8 +1,7 @@
 //! The reviews. Those about sets of separation serve both kinds.
-ghost use Rattle.std.specs.Prelude.{codes};
 ghost use Rattle.serde_json.specs.View.{members_view};
-ghost use Rattle.rbac_text.specs.Fields.{Reads, by_word};
-ghost use Rattle.rbac_text.specs.Command.{review_command, reviews, of_one, role_sets, set_review};
+ghost use Rattle.rbac_text.specs.Fields.{Reads};
+ghost use Rattle.rbac_text.specs.Command.{by_row, of_row, review_command, review_rows, role_set_cardinality, role_set_roles, role_sets, set_review};
 
 use crate::reading::commands::{one_name, one_role, one_user, two_names};
 use crate::reading::fields::{Object, Reading, only_keys};
@@ -21,7 +20,7 @@ pub(crate) fn review_command(alloc: Global, fields: &Object, name: &str) -> Read
 
 #[tactic(auto, unfolding(crate::specs::Command::set_review))]
 fn review_of(alloc: Global, fields: &Object, name: &str) -> Reading<Review>
-    ensures { Reads (by_word reviews set_review name.now (members_view fields.now.entries)) result }
+    ensures { Reads (by_row review_rows set_review name.now (members_view fields.now.entries)) result }
 {
     match name {
         "AssignedUsers" => one_role(alloc, fields).map(|role| Review::AssignedUsers { role }),
@@ -55,20 +54,20 @@ fn review_of(alloc: Global, fields: &Object, name: &str) -> Reading<Review>
 }
 
 fn role_sets(fields: &Object, kind: Separation) -> Reading<Review>
-    ensures { Reads (role_sets kind (members_view fields.now.entries)) result }
+    ensures { Reads (of_row (role_sets kind) (members_view fields.now.entries)) result }
 {
     only_keys(fields, &["name"])?;
     Ok(Review::RoleSets { kind })
 }
 
 fn role_set_roles(alloc: Global, fields: &Object, kind: Separation) -> Reading<Review>
-    ensures { Reads (of_one (Review.RoleSetRoles kind) (codes "set") (members_view fields.now.entries)) result }
+    ensures { Reads (of_row (role_set_roles kind) (members_view fields.now.entries)) result }
 {
     one_name(alloc, fields, "set").map(|set| Review::RoleSetRoles { kind, set })
 }
 
 fn role_set_cardinality(alloc: Global, fields: &Object, kind: Separation) -> Reading<Review>
-    ensures { Reads (of_one (Review.RoleSetCardinality kind) (codes "set") (members_view fields.now.entries)) result }
+    ensures { Reads (of_row (role_set_cardinality kind) (members_view fields.now.entries)) result }
 {
     one_name(alloc, fields, "set").map(|set| Review::RoleSetCardinality { kind, set })
 }

@@ -1,8 +1,7 @@
 //! The commands about sets of separation, each for both kinds.
-ghost use Rattle.std.specs.Prelude.{codes};
 ghost use Rattle.serde_json.specs.View.{members_view};
 ghost use Rattle.rbac_text.specs.Fields.{Reads};
-ghost use Rattle.rbac_text.specs.Command.{separation_command, create_set, of_one, of_two, set_cardinality};
+ghost use Rattle.rbac_text.specs.Command.{add_role_member, create_set, delete_role_member, delete_set, of_row, separation_command, set_cardinality};
 
 use crate::reading::commands::reviews::review_command;
 use crate::reading::commands::{one_name, two_names};
@@ -31,7 +30,7 @@ pub(crate) fn separation_command(alloc: Global, fields: &Object, name: &str) -> 
 }
 
 fn create_set(alloc: Global, fields: &Object, kind: Separation) -> Reading<Command>
-    ensures { Reads (create_set kind (members_view fields.now.entries)) result }
+    ensures { Reads (of_row (create_set kind) (members_view fields.now.entries)) result }
 {
     let set = name_in(alloc, fields, "set")?;
     let roles = names_in(alloc, fields, "roles")?;
@@ -46,27 +45,27 @@ fn create_set(alloc: Global, fields: &Object, kind: Separation) -> Reading<Comma
 }
 
 fn delete_set(alloc: Global, fields: &Object, kind: Separation) -> Reading<Command>
-    ensures { Reads (of_one (Command.DeleteSet kind) (codes "set") (members_view fields.now.entries)) result }
+    ensures { Reads (of_row (delete_set kind) (members_view fields.now.entries)) result }
 {
     one_name(alloc, fields, "set").map(|set| Command::DeleteSet { kind, set })
 }
 
 fn add_role_member(alloc: Global, fields: &Object, kind: Separation) -> Reading<Command>
-    ensures { Reads (of_two (Command.AddRoleMember kind) (codes "set") (codes "role") (members_view fields.now.entries)) result }
+    ensures { Reads (of_row (add_role_member kind) (members_view fields.now.entries)) result }
 {
     let (set, role) = two_names(alloc, fields, "set", "role")?;
     Ok(Command::AddRoleMember { kind, set, role })
 }
 
 fn delete_role_member(alloc: Global, fields: &Object, kind: Separation) -> Reading<Command>
-    ensures { Reads (of_two (Command.DeleteRoleMember kind) (codes "set") (codes "role") (members_view fields.now.entries)) result }
+    ensures { Reads (of_row (delete_role_member kind) (members_view fields.now.entries)) result }
 {
     let (set, role) = two_names(alloc, fields, "set", "role")?;
     Ok(Command::DeleteRoleMember { kind, set, role })
 }
 
 fn set_cardinality(alloc: Global, fields: &Object, kind: Separation) -> Reading<Command>
-    ensures { Reads (set_cardinality kind (members_view fields.now.entries)) result }
+    ensures { Reads (of_row (set_cardinality kind) (members_view fields.now.entries)) result }
 {
     let set = name_in(alloc, fields, "set")?;
     let n = whole_in(fields, "n")?;

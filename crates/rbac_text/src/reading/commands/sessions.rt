@@ -1,8 +1,7 @@
 //! The commands about sessions.
-ghost use Rattle.std.specs.Prelude.{codes};
 ghost use Rattle.serde_json.specs.View.{members_view};
 ghost use Rattle.rbac_text.specs.Fields.{Reads};
-ghost use Rattle.rbac_text.specs.Command.{session_command, create_session, of_three};
+ghost use Rattle.rbac_text.specs.Command.{check_access, create_session, of_row, session_command};
 
 use crate::reading::commands::separation::separation_command;
 use crate::reading::commands::{three_names, two_names};
@@ -43,7 +42,7 @@ pub(crate) fn session_command(alloc: Global, fields: &Object, name: &str) -> Rea
 }
 
 fn create_session(alloc: Global, fields: &Object) -> Reading<Command>
-    ensures { Reads (create_session (members_view fields.now.entries)) result }
+    ensures { Reads (of_row create_session (members_view fields.now.entries)) result }
 {
     let user = name_in(alloc, fields, "user")?;
     let session = name_in(alloc, fields, "session")?;
@@ -57,7 +56,7 @@ fn create_session(alloc: Global, fields: &Object) -> Reading<Command>
 }
 
 fn check_access(alloc: Global, fields: &Object) -> Reading<Command>
-    ensures { Reads (of_three Command.CheckAccess (codes "session") (codes "operation") (codes "object") (members_view fields.now.entries)) result }
+    ensures { Reads (of_row check_access (members_view fields.now.entries)) result }
 {
     let (session, operation, object) = three_names(
         alloc,

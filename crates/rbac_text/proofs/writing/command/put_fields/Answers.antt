@@ -1,5 +1,6 @@
 use Rattle.std.proofs.Common.{inl, inr, codes}
-use Rattle.rbac_text.specs.CommandText.{field_text, one_name, some_names}
+use Rattle.rbac_text.specs.Command.{one_name, some_names}
+use Rattle.rbac_text.specs.CommandText.{field_text}
 use Rattle.rbac_text.proofs.TextLemmas.{third_field}
 use Rattle.rbac_text.proofs.writing.command.put_fields.Goals as goal
 
@@ -22,3 +23,11 @@ pub returns-in-GrantPermission-clause-text : goal.returns-in-GrantPermission-cla
 returns-in-GrantPermission-clause-text c =
     let put = c.put_three-in-GrantPermission.ensures.text in
     elim c.in-GrantPermission.is [ inl e ↦ rw e put | inr e ↦ rw e put ]
+
+pub returns-in-DeleteSession-clause-text : goal.returns-in-DeleteSession-clause-text
+returns-in-DeleteSession-clause-text c = rw c.in-DeleteSession.is c.put_two-in-DeleteSession.ensures.text
+
+pub returns-in-AddActiveRole-clause-text : goal.returns-in-AddActiveRole-clause-text
+returns-in-AddActiveRole-clause-text c =
+    let put = c.put_three-in-AddActiveRole.ensures.text in
+    elim c.in-AddActiveRole.is [ inl e ↦ rw e put | inr e ↦ rw e put ]
