@@ -9,10 +9,10 @@ ghost use Rattle.rbac_founding.specs.FoundingFile.{document_of, has_all, has_onl
 ghost use Rattle.rbac_text.specs.Steps.{provided};
 ghost use Rattle.rbac_founding.specs.declared.refusal.FoundingRefusal.TheVariants.{UnknownKey};
 
-use rbac_text::keys::is_one_of;
 use crate::limits::LONGEST_FILE;
 use crate::refusal::FoundingRefusal;
 use crate::version::Version;
+use rbac_text::keys::is_one_of;
 use std::alloc::Global;
 use toml::{Table, Value};
 
