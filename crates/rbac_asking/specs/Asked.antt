@@ -1,7 +1,7 @@
 -- What is told of a policy.
 use Rattle.std.specs.Prelude.{◌≡◌, ⊤, ℕ, List}
 use Rattle.rbac_terms.specs.State.{State}
-use Rattle.rbac_dump_lines.specs.DumpText.{dump_text}
+use Rattle.rbac_pages.specs.DumpText.{dump_text}
 use Rattle.rbac_pages.specs.GraphText.{graph_text}
 use Rattle.rbac_pages.specs.PageText.{page_text}
 use Rattle.rbac_asking.specs.declared.words.Asked.{Asked}

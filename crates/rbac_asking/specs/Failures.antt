@@ -3,8 +3,8 @@ use Rattle.std.specs.Prelude.{ℕ, List, ◌++◌, codes}
 use Rattle.line_engine.specs.Runs.{run_fault_word}
 use Rattle.line_engine.specs.declared.report.RunFault.TheVariants.{NoMemory}
 use Rattle.rbac_founding.specs.FoundingFile.{founding_refusal_word}
-use Rattle.rbac_dump_lines.specs.declared.dump_text.DumpRefusal.{DumpRefusal}
-use Rattle.rbac_dump_lines.specs.declared.dump_text.DumpRefusal.TheVariants.{LineTooLong as DumpLineTooLong, NoMemory as DumpNoMemory}
+use Rattle.rbac_text.specs.declared.lines.DumpRefusal.{DumpRefusal}
+use Rattle.rbac_text.specs.declared.lines.DumpRefusal.TheVariants.{LineTooLong as DumpLineTooLong, NoMemory as DumpNoMemory}
 use Rattle.rbac_asking.specs.declared.failure.Failure.{Failure}
 use Rattle.rbac_asking.specs.declared.failure.Failure.TheVariants.{File, Founding, Run, LineTooLong, BadName}
 

@@ -5,7 +5,7 @@ use Rattle.rbac_words.specs.declared.event.Event.{Event}
 use Rattle.rbac_words.specs.declared.event.Outcome.{Outcome}
 use Rattle.rbac_words.specs.declared.event.Refusal.{Refusal}
 use Rattle.rbac_lines.specs.Event.{event}
-use Rattle.rbac_lines.specs.Fields.{Reading}
+use Rattle.rbac_text.specs.Fields.{Reading}
 use Rattle.rbac_lines.specs.Output.{is_read_refused, read_step}
 use Rattle.rbac_pages.specs.RefusedText.{refused_text, refusal_sentence, line_refusal_sentence}
 use Rattle.rbac_pages.specs.TraceText.{step_text}

@@ -1,9 +1,9 @@
 //! What ends the program with status 1.
 ghost use Rattle.std.specs.Prelude.{◌≡◌};
 
-use rbac_dump_lines::DumpRefusal;
 use rbac_founding::FoundingRefusal;
 use rbac_lines::RunFault;
+use rbac_text::DumpRefusal;
 use std::alloc::AllocError;
 use std::fmt;
 use std::fmt::{Display, Formatter};

@@ -1,1 +1,2 @@
 mod NoEffect
+pub mod TextLemmas

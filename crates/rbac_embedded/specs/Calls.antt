@@ -7,11 +7,11 @@ use Rattle.rbac_terms.specs.declared.answer.Answer.{Answer}
 use Rattle.rbac_terms.specs.declared.answer.Answer.TheVariants.{Granted as GrantedAnswer, Denied as DeniedAnswer}
 use Rattle.rbac_terms.specs.declared.command.Command.{Command}
 use Rattle.rbac_terms.specs.declared.command.Command.TheVariants.{CheckAccess}
-use Rattle.rbac_founding.specs.Steps.{◌>>=◌}
+use Rattle.rbac_text.specs.Steps.{◌>>=◌}
 use Rattle.rbac_founding.specs.FoundingFile.{founding_of, Reading as ReadingFile}
-use Rattle.rbac_lines.specs.CommandText.{command}
-use Rattle.rbac_lines.specs.Fields.{Reading}
-use Rattle.rbac_lines.specs.Text.{answer_text}
+use Rattle.rbac_text.specs.ReadCommand.{command}
+use Rattle.rbac_text.specs.Fields.{Reading}
+use Rattle.rbac_text.specs.AnswerText.{answer_text}
 use Rattle.rbac_embedded.specs.Kept.{Kept}
 use Rattle.rbac_embedded.specs.declared.verdict.Verdict.{Verdict}
 use Rattle.rbac_embedded.specs.declared.verdict.Verdict.TheVariants.{Granted, Refused, Denied, BadName}

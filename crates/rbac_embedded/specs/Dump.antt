@@ -4,7 +4,7 @@ use Rattle.std.specs.List.{flat_map}
 use Rattle.rbac_terms.specs.State.{State}
 use Rattle.rbac_terms.specs.declared.command.Command.{Command}
 use Rattle.rbac_dump.specs.Dump.{dump_of}
-use Rattle.rbac_command_text.specs.CommandText.{command_text}
+use Rattle.rbac_text.specs.CommandText.{command_text}
 
 -- {"name":"AddUser","user":"ann"} and a line feed
 abbrev pub line_text : Command → List ℕ

@@ -4,7 +4,7 @@ use Rattle.rbac_embedded.specs.Kept.{Kept}
 use Rattle.rbac_embedded.specs.Calls.{applied, founded, verdict}
 use Rattle.rbac_embedded.specs.Dump.{dump_text}
 use Rattle.rbac_founding.specs.FoundingFile.{Reading as ReadingFile}
-use Rattle.rbac_lines.specs.Fields.{Reading}
+use Rattle.rbac_text.specs.Fields.{Reading}
 use Rattle.rbac_embedded.specs.declared.status.Status.{Status}
 use Rattle.rbac_embedded.specs.declared.status.Status.TheVariants.{Done, EmptyPlace, FullPlace, ShortBuffer, Checked, BadFounding, BadCommand}
 

@@ -3,8 +3,8 @@ use Rattle.std.specs.Prelude.{ℕ}
 use Rattle.rbac_terms.specs.Denials.{denial_number}
 use Rattle.rbac_founding.specs.declared.refusal.FoundingRefusal.{FoundingRefusal}
 use Rattle.rbac_founding.specs.declared.refusal.FoundingRefusal.TheVariants.{TooLong as FileTooLong, NotToml, BadVersion, UnknownKey, MissingKey, WrongKind as FileWrongKind, OutOfRange, BadName as FileBadName, Repeated, UnknownName, NoMemory as FileNoMemory}
-use Rattle.rbac_lines.specs.declared.refusal.LineRefusal.{LineRefusal}
-use Rattle.rbac_lines.specs.declared.refusal.LineRefusal.TheVariants.{TooLong, NotJson, NotObject, UnknownWord, MissingField, WrongKind, BadName, ExtraField, NoMemory as LineNoMemory}
+use Rattle.rbac_text.specs.declared.refusal.LineRefusal.{LineRefusal}
+use Rattle.rbac_text.specs.declared.refusal.LineRefusal.TheVariants.{TooLong, NotJson, NotObject, UnknownWord, MissingField, WrongKind, BadName, ExtraField, NoMemory as LineNoMemory}
 use Rattle.rbac_embedded.specs.declared.verdict.Verdict.{Verdict}
 use Rattle.rbac_embedded.specs.declared.verdict.Verdict.TheVariants.{Granted, Refused, Denied, BadName as VerdictBadName}
 use Rattle.rbac_embedded.specs.declared.status.Status.{Status}

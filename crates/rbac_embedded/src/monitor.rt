@@ -3,7 +3,7 @@ ghost use Rattle.std.specs.Prelude.{◌≡◌, ◌≢◌, IfOk, IfErr, OnOk, OnE
 ghost use Rattle.sorted_keys.specs.Keys.{has};
 ghost use Rattle.rbac_terms.specs.Name.{pair_cmp};
 ghost use Rattle.rbac_terms.specs.Reviews.{session_permissions};
-ghost use Rattle.rbac_lines.specs.Text.{answer_text};
+ghost use Rattle.rbac_text.specs.AnswerText.{answer_text};
 ghost use Rattle.rbac_embedded.specs.Calls.{after, applied, founded, verdict};
 ghost use Rattle.rbac_embedded.specs.Dump.{dump_text};
 
@@ -12,8 +12,8 @@ use crate::verdict::Verdict;
 use rbac_decide::Policy;
 use rbac_dump::commands_of;
 use rbac_founding::{FoundingRefusal, read_founding};
-use rbac_lines::{LineRefusal, put_answer, read_command};
 use rbac_terms::{Answer, Command, LentName};
+use rbac_text::{LineRefusal, put_answer, read_command};
 use std::alloc::{AllocError, Global};
 use std::marker::Model;
 

@@ -4,7 +4,7 @@ ghost use Rattle.rbac_embedded.specs.Status.{command_number, founding_number, st
 
 use crate::verdict::Verdict;
 use rbac_founding::FoundingRefusal;
-use rbac_lines::LineRefusal;
+use rbac_text::LineRefusal;
 
 /// What a call on a holder is answered with.
 #[derive(Clone, Copy, Debug, PartialEq, Eq, Drop)]

@@ -9,15 +9,15 @@ use Rattle.toml.specs.Data.{Data, Items, Members, as_array, as_str}
 use Rattle.toml.specs.Parse.{parse_document}
 use Rattle.toml.specs.View.{view, items_view, members_view}
 use Rattle.toml.specs.declared.value.Value.{Value}
-use Rattle.rbac_founding.specs.Steps.{◌>>=◌, ◌>>◌, provided, seen}
+use Rattle.rbac_text.specs.Steps.{◌>>=◌, ◌>>◌, provided, seen}
 use Rattle.rbac_founding.specs.FoundingFile.{Reading, document_of, founding_of, longest_file, version_of, known_keys, needed_keys, has_only, has_all, keys_within, right_keys, each, two, as_permission}
 use Rattle.rbac_founding.specs.declared.version.Version.{Version}
 use Rattle.rbac_founding.specs.declared.refusal.FoundingRefusal.{FoundingRefusal}
 use Rattle.rbac_founding.specs.declared.refusal.FoundingRefusal.TheVariants.{TooLong, NotToml, UnknownKey, MissingKey, WrongKind, BadName}
 use Rattle.rbac_founding.proofs.LongLemmas.{front_value}
 use Rattle.std.proofs.lemmas.Bool.{lt-ltb, le-ltb}
-use Rattle.rbac_founding.proofs.ReadingLemmas.{list_any-map, of_kind_more}
-use Rattle.rbac_founding.proofs.Utf8Lemmas.{parsed, not_parsed}
+use Rattle.rbac_text.proofs.ReadingLemmas.{list_any-map, of_kind_more}
+use Rattle.rbac_text.proofs.Utf8Lemmas.{parsed, not_parsed}
 
 -- ---- The document
 

@@ -13,8 +13,8 @@ use Rattle.rbac_words.specs.Limits.{most_members, last_clock, most_sent}
 use Rattle.rbac_terms.specs.Name.{Permission, is_name, name_cmp, pair_cmp}
 use Rattle.rbac_terms.specs.Vocabulary.{Vocabulary, is_listed}
 use Rattle.rbac_words.specs.Group.{Group}
-use Rattle.rbac_founding.specs.Keys.{is_one_of}
-use Rattle.rbac_founding.specs.Steps.{◌>>=◌, ◌>>◌, provided, ReadsBut}
+use Rattle.rbac_text.specs.Keys.{is_one_of}
+use Rattle.rbac_text.specs.Steps.{◌>>=◌, ◌>>◌, provided, ReadsBut}
 use Rattle.rbac_founding.specs.declared.founding.Founding.{Founding}
 use Rattle.rbac_terms.specs.declared.hierarchy_kind.HierarchyKind.{HierarchyKind}
 use Rattle.rbac_terms.specs.declared.hierarchy_kind.HierarchyKind.TheVariants.{General, Limited}

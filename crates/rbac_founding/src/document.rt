@@ -6,13 +6,13 @@ ghost use Rattle.std.specs.Str.{bytes_eq};
 ghost use Rattle.toml.specs.Data.{as_integer, get_member};
 ghost use Rattle.toml.specs.View.{view, table_view};
 ghost use Rattle.rbac_founding.specs.FoundingFile.{document_of, has_all, has_only, keys_within, right_keys, version_of};
-ghost use Rattle.rbac_founding.specs.Steps.{provided};
+ghost use Rattle.rbac_text.specs.Steps.{provided};
 ghost use Rattle.rbac_founding.specs.declared.refusal.FoundingRefusal.TheVariants.{UnknownKey};
 
-use crate::keys::is_one_of;
 use crate::limits::LONGEST_FILE;
 use crate::refusal::FoundingRefusal;
 use crate::version::Version;
+use rbac_text::keys::is_one_of;
 use std::alloc::Global;
 use toml::{Table, Value};
 

@@ -3,7 +3,7 @@ ghost use Rattle.std.specs.Prelude.{◌≡◌, if◌then◌else◌, Ok, Err, is_
 ghost use Rattle.std.specs.List.{list_all};
 ghost use Rattle.toml.specs.Data.{as_array, as_str};
 ghost use Rattle.toml.specs.View.{view, items_view, table_view};
-ghost use Rattle.rbac_founding.specs.Steps.{seen};
+ghost use Rattle.rbac_text.specs.Steps.{seen};
 ghost use Rattle.rbac_founding.specs.FoundingFile.{array_at, as_permission, as_permissions, as_texts, entries_of, text_or, whole_at, whole_or};
 ghost use Rattle.rbac_founding.specs.FoundingEntries.{entries_view, pair_of, text_of};
 

@@ -4,9 +4,8 @@
 mod document;
 mod entries;
 mod founding;
-pub mod keys;
 pub mod limits;
-pub mod names;
+mod names;
 mod reading;
 mod refusal;
 mod sample;

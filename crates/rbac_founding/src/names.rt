@@ -1,35 +1,17 @@
-//! Texts as names, those of a founding file among them.
+//! The names of a founding file.
 ghost use Rattle.std.specs.Prelude.{◌≡◌, ◌&&◌, Bool, map, if◌then◌else◌, Ok, Err};
 ghost use Rattle.std.specs.List.{list_all};
 ghost use Rattle.rbac_terms.specs.Name.{is_name};
-ghost use Rattle.rbac_founding.specs.Steps.{seen, ReadsBut};
+ghost use Rattle.rbac_text.specs.Steps.{seen};
 ghost use Rattle.rbac_founding.specs.FoundingFile.{Reads};
 ghost use Rattle.rbac_founding.specs.FoundingEntries.{name_of, names_of, pair_of, permissions_of, text_of};
 
 use crate::entries::pair_of;
 use crate::refusal::FoundingRefusal;
-use rbac_words::{Name, NameRefusal};
+use rbac_text::names::name_or;
+use rbac_words::Name;
 use std::alloc::Global;
 use toml::Value;
-
-/// The name that a text is.
-///
-/// # Errors
-/// `bad_name` where the text is no name, `no_memory` where memory ends.
-pub fn name_or<E: Copy + Drop>(
-    alloc: Global,
-    text: &str,
-    bad_name: E,
-    no_memory: E,
-) -> Result<Name, E>
-    ensures { ReadsBut no_memory (if is_name text.now then Ok text.now else Err bad_name) result }
-{
-    match Name::read(alloc, text.as_bytes()) {
-        Ok(name) => Ok(name),
-        Err(NameRefusal::BadName) => Err(bad_name),
-        Err(NameRefusal::NoMemory) => Err(no_memory),
-    }
-}
 
 fn name_of(alloc: Global, text: &str) -> Result<Name, FoundingRefusal>
     ensures { Reads (name_of text.now) result }

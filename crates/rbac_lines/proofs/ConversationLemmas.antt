@@ -3,7 +3,7 @@ use Rattle.std.proofs.Common.{◌≡◌, ◌≢◌, ◌⊎◌, ℕ, List, Bool, 
 use Rattle.std.specs.Result.{OnErr, is_err}
 use Rattle.rbac_terms.specs.declared.command.Command.{Command}
 use Rattle.rbac_lines.specs.declared.refusal.DeskRefusal.TheVariants.{NoMemory}
-use Rattle.rbac_lines.specs.Fields.{Reading}
+use Rattle.rbac_text.specs.Fields.{Reading}
 use Rattle.rbac_lines.specs.Text.{Reply, reply_text}
 use Rattle.rbac_lines.specs.Conversation.{Asks, IsLost, Answers}
 

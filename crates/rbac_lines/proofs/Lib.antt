@@ -1,6 +1,4 @@
-pub mod ArrayLemmas
+pub mod BatchLemmas
 pub mod ConversationLemmas
 pub mod EventLemmas
-pub mod FieldLemmas
-pub mod TextLemmas
 pub mod RunLemmas

@@ -4,11 +4,11 @@ use Rattle.std.specs.Prelude.{ℕ, List, [], ◌∷◌, codes, ok_or, Ok}
 use Rattle.serde_json.specs.Data.{Members}
 use Rattle.serde_json.specs.Find.{as_object}
 use Rattle.rbac_terms.specs.declared.command.Command.{Command}
-use Rattle.rbac_lines.specs.declared.refusal.LineRefusal.TheVariants.{NotObject}
-use Rattle.rbac_founding.specs.Steps.{◌>>=◌, ◌>>◌}
-use Rattle.rbac_lines.specs.Fields.{Reading, whole_in, object_in, only_keys}
-use Rattle.rbac_lines.specs.Command.{command_of}
-use Rattle.rbac_lines.specs.Event.{value_of}
+use Rattle.rbac_text.specs.declared.refusal.LineRefusal.TheVariants.{NotObject}
+use Rattle.rbac_text.specs.Steps.{◌>>=◌, ◌>>◌}
+use Rattle.rbac_text.specs.Fields.{Reading, whole_in, object_in, only_keys}
+use Rattle.rbac_text.specs.Command.{command_of}
+use Rattle.rbac_text.specs.Value.{value_of}
 
 -- at, and the object command
 abbrev pub client_of : Members → Reading (ℕ × Command)

@@ -3,7 +3,7 @@ use Rattle.std.specs.Prelude.{◌≡◌, ◌≢◌, ◌⊎◌, ℕ, List, Bool, 
 use Rattle.line_engine.specs.Runs.{TakesAll}
 use Rattle.rbac_terms.specs.declared.command.Command.{Command}
 use Rattle.rbac_lines.specs.declared.refusal.DeskRefusal.TheVariants.{NoMemory}
-use Rattle.rbac_lines.specs.Fields.{Reading}
+use Rattle.rbac_text.specs.Fields.{Reading}
 use Rattle.rbac_lines.specs.Client.{client}
 use Rattle.rbac_lines.specs.Text.{Reply, reply_text, line_refusal_text}
 

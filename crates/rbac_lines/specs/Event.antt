@@ -1,19 +1,17 @@
 -- What event a line stands for. A line is refused for the first of these: it is too long, it is no JSON, it is no object;
 -- then its object is checked whole: its word, the fields that belong to that from left to right, and no other key; and
 -- only then is the command object of a submit looked into, in the same way, or those of a batch, one after the other.
-use Rattle.std.specs.Prelude.{ℕ, List, [], ◌∷◌, length, codes, nat_lt, if◌then◌else◌, Option, None, ok_or, Ok, Err}
-use Rattle.std.specs.Str.{is_utf8}
+use Rattle.std.specs.Prelude.{ℕ, List, [], ◌∷◌, codes, ok_or, Ok}
 use Rattle.serde_json.specs.Data.{Data, Items, no_items, item, Members}
-use Rattle.serde_json.specs.Read.{read}
 use Rattle.serde_json.specs.Find.{as_object}
-use Rattle.line_engine.specs.Lines.{longest_line}
 use Rattle.rbac_words.specs.declared.event.Event.{Event}
 use Rattle.rbac_terms.specs.declared.command.Command.{Command}
 use Rattle.rbac_words.specs.declared.event.Event.TheVariants.{Submit, SubmitBatch, Receive, Deliver}
-use Rattle.rbac_lines.specs.declared.refusal.LineRefusal.TheVariants.{TooLong, NotJson, NotObject, WrongKind}
-use Rattle.rbac_founding.specs.Steps.{◌>>=◌, ◌>>◌}
-use Rattle.rbac_lines.specs.Fields.{Reading, whole_in, text_in, object_in, objects_in, only_keys, by_word, unknown}
-use Rattle.rbac_lines.specs.Command.{command_of}
+use Rattle.rbac_text.specs.declared.refusal.LineRefusal.TheVariants.{NotObject, WrongKind}
+use Rattle.rbac_text.specs.Steps.{◌>>=◌, ◌>>◌}
+use Rattle.rbac_text.specs.Fields.{Reading, whole_in, text_in, object_in, objects_in, only_keys, by_word, unknown}
+use Rattle.rbac_text.specs.Command.{command_of}
+use Rattle.rbac_text.specs.Value.{value_of}
 
 -- submit: at, caller, serial, and the object command
 abbrev pub submit : Members → Reading Event
@@ -81,14 +79,6 @@ abbrev pub event_of : Members → Reading Event
 event_of object = do
   word ← text_in (codes "do") object
   by_word events unknown word object
-
--- the value of a JSON text, which is UTF-8
-abbrev pub json_of : List ℕ → Option Data
-json_of text = if is_utf8 text then read text else None
-
--- the value of a line
-abbrev pub value_of : List ℕ → Reading Data
-value_of line = if nat_lt longest_line (length line) then Err TooLong else ok_or (json_of line) NotJson
 
 -- the event that a line stands for, or the first refusal
 unfoldable pub event : List ℕ → Reading Event

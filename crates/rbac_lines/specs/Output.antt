@@ -8,7 +8,7 @@ use Rattle.rbac_words.specs.declared.event.Event.TheVariants.{Submit, SubmitBatc
 use Rattle.rbac_words.specs.declared.event.Outcome.{Outcome}
 use Rattle.rbac_words.specs.declared.event.Refusal.{Refusal}
 use Rattle.rbac_words.specs.declared.record.Record.{Record}
-use Rattle.rbac_lines.specs.declared.refusal.LineRefusal.{LineRefusal}
+use Rattle.rbac_text.specs.declared.refusal.LineRefusal.{LineRefusal}
 use Rattle.rbac_lines.specs.Event.{event}
 use Rattle.rbac_lines.specs.Text.{outcome_text, refusal_text, line_refusal_text}
 

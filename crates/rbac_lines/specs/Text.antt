@@ -1,21 +1,17 @@
 -- What a line is answered with: compact JSON without blanks, its keys in the order of their bytes, and a line feed.
 use Rattle.std.specs.Prelude.{ℕ, ◌==◌, if◌then◌else◌, List, ◌++◌, codes, decimal, Option, Some, None, Result, Ok, Err}
-use Rattle.std.specs.List.{join_by}
-use Rattle.rbac_terms.specs.Name.{Name, Permission}
-use Rattle.rbac_terms.specs.Denials.{denial_word, denial_number}
 use Rattle.rbac_words.specs.declared.stamp.Stamp.{Stamp}
 use Rattle.rbac_words.specs.declared.record.Record.{Record}
-use Rattle.rbac_terms.specs.declared.answer.Denial.{Denial}
 use Rattle.rbac_terms.specs.declared.answer.Answer.{Answer}
-use Rattle.rbac_terms.specs.declared.answer.Answer.TheVariants.{Done, Granted, Refused, Names, Permissions, Count, Denied}
 use Rattle.rbac_words.specs.declared.event.Outcome.{Outcome}
 use Rattle.rbac_words.specs.declared.event.Outcome.TheVariants.{Submitted, Received, Delivered}
 use Rattle.rbac_words.specs.declared.event.Refusal.{Refusal}
 use Rattle.rbac_words.specs.declared.event.Refusal.TheVariants.{UnknownMember, BadBatch, FromSelf, NotSent, Repeat, Gap, StampNotRising, ClockFull, SentFull, BadSerial, NoMemory}
 use Rattle.rbac_lines.specs.declared.refusal.DeskRefusal.{DeskRefusal}
 use Rattle.rbac_lines.specs.declared.refusal.DeskRefusal.TheVariants.{UnknownMember as DeskUnknownMember, Stopped, Busy, ClockFull as DeskClockFull, SentFull as DeskSentFull, NoMemory as DeskNoMemory}
-use Rattle.rbac_lines.specs.declared.refusal.LineRefusal.{LineRefusal}
-use Rattle.rbac_lines.specs.declared.refusal.LineRefusal.TheVariants.{TooLong, NotJson, NotObject, UnknownWord, MissingField, WrongKind, BadName, ExtraField, NoMemory as LineNoMemory}
+use Rattle.rbac_text.specs.declared.refusal.LineRefusal.{LineRefusal}
+use Rattle.rbac_text.specs.AnswerText.{answer_text}
+use Rattle.rbac_text.specs.Refusals.{line_refusal_word}
 
 -- ---- Parts of a text
 
@@ -29,44 +25,6 @@ stamp_text stamp =
 abbrev pub stamp_or_null : Option Stamp → List ℕ
 stamp_or_null (Some stamp) = stamp_text stamp
 stamp_or_null None = codes "null"
-
--- {"denied":"NoSession","number":10}
-abbrev pub denial_text : Denial → List ℕ
-denial_text denial = codes "{\"denied\":\"" ++ denial_word denial ++ codes "\",\"number\":" ++ decimal (denial_number denial) ++ codes "}"
-
--- "ann": none of a name's bytes has to be escaped
-abbrev pub name_text : Name → List ℕ
-name_text name = codes "\"" ++ name ++ codes "\""
-
--- ["read","ledger"]: the operation and the object
-abbrev pub permission_text : Permission → List ℕ
-permission_text permission = codes "[" ++ name_text permission.0 ++ codes "," ++ name_text permission.1 ++ codes "]"
-
--- the texts of the elements, with commas between, in brackets
-abbrev pub array_text : {X : Type 0} → (X → List ℕ) → List X → List ℕ
-array_text element_text elements = codes "[" ++ join_by element_text (codes ",") elements ++ codes "]"
-
--- {"names":["boss","payer"]}
-abbrev pub names_text : List Name → List ℕ
-names_text names = codes "{\"names\":" ++ array_text name_text names ++ codes "}"
-
--- {"permissions":[["read","ledger"]]}
-abbrev pub permissions_text : List Permission → List ℕ
-permissions_text permissions = codes "{\"permissions\":" ++ array_text permission_text permissions ++ codes "}"
-
--- {"count":2}
-abbrev pub count_text : ℕ → List ℕ
-count_text count = codes "{\"count\":" ++ decimal count ++ codes "}"
-
--- "Done", "Granted", "Refused", what a review lists, or a denial
-abbrev pub answer_text : Answer → List ℕ
-answer_text Done = codes "\"Done\""
-answer_text Granted = codes "\"Granted\""
-answer_text Refused = codes "\"Refused\""
-answer_text (Names names) = names_text names
-answer_text (Permissions permissions) = permissions_text permissions
-answer_text (Count count) = count_text count
-answer_text (Denied denial) = denial_text denial
 
 -- how each refusal ends
 abbrev pub refused_word_text : List ℕ → List ℕ
@@ -115,18 +73,6 @@ refusal_word ClockFull = codes "ClockFull"
 refusal_word SentFull = codes "SentFull"
 refusal_word (BadSerial next) = codes "BadSerial"
 refusal_word NoMemory = codes "NoMemory"
-
--- the word of a line's refusal
-abbrev pub line_refusal_word : LineRefusal → List ℕ
-line_refusal_word TooLong = codes "TooLong"
-line_refusal_word NotJson = codes "NotJson"
-line_refusal_word NotObject = codes "NotObject"
-line_refusal_word UnknownWord = codes "UnknownWord"
-line_refusal_word MissingField = codes "MissingField"
-line_refusal_word WrongKind = codes "WrongKind"
-line_refusal_word BadName = codes "BadName"
-line_refusal_word ExtraField = codes "ExtraField"
-line_refusal_word LineNoMemory = codes "NoMemory"
 
 -- {"line":5,"refused":"NotSent"}: a refusal that has no more to tell
 abbrev pub refused_text : ℕ → List ℕ → List ℕ

@@ -1,22 +1,17 @@
 //! Lines as events.
 ghost use Rattle.std.specs.Prelude.{◌≡◌, ◌≢◌, ◌++◌, ◌∷◌, [], IfOk, IfErr, OnOk, Ok, Err};
 ghost use Rattle.serde_json.specs.View.{view, items_view, members_view};
-ghost use Rattle.rbac_lines.specs.Fields.{Reads};
-ghost use Rattle.rbac_lines.specs.Event.{event, event_of, value_of, command_in, commands_of, submit, batch, receive, deliver};
+ghost use Rattle.rbac_text.specs.Fields.{Reads};
+ghost use Rattle.rbac_lines.specs.Event.{event, event_of, command_in, commands_of, submit, batch, receive, deliver};
 
 mod client;
-mod command_text;
-mod commands;
-pub(crate) mod fields;
 
-use crate::reading::commands::command_of;
-use crate::reading::fields::{
+pub use client::{kept_line_asks_the_same, read_client};
+use rbac_text::LineRefusal;
+use rbac_text::reading::fields::{
     Object, Reading, object_in, objects_in, only_keys, text_in, whole_in,
 };
-use crate::refusal::LineRefusal;
-pub use client::{kept_line_asks_the_same, read_client};
-pub use command_text::read_command;
-use line_engine::LONGEST_LINE;
+use rbac_text::reading::{command_of, value_of};
 use rbac_words::{Command, Commands, Event};
 use serde_json::Value;
 use std::alloc::Global;
@@ -36,21 +31,6 @@ pub fn read_line(alloc: Global, line: &[u8]) -> Result<Event, LineRefusal>
     let value = value_of(alloc, line)?;
     let object = value.as_object().ok_or(LineRefusal::NotObject)?;
     event_of(alloc, object)
-}
-
-/// The value of a line of JSON. Bytes that are not UTF-8 are no JSON.
-fn value_of(alloc: Global, line: &[u8]) -> Result<Value, LineRefusal>
-    ensures value_read { IfOk result (λ value. value_of line.now ≡ Ok (view value)) }
-    ensures first_refusal { IfErr result (λ refusal. refusal ≢ LineRefusal.NoMemory → value_of line.now ≡ Err refusal) }
-{
-    if LONGEST_LINE < line.len() {
-        return Err(LineRefusal::TooLong);
-    }
-    match Value::from_slice(alloc, line) {
-        Ok(value) => Ok(value),
-        Err(error) if error.is_memory() => Err(LineRefusal::NoMemory),
-        Err(_) => Err(LineRefusal::NotJson),
-    }
 }
 
 fn event_of(alloc: Global, object: &Object) -> Result<Event, LineRefusal>

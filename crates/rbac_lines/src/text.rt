@@ -1,15 +1,16 @@
 //! The texts that lines are answered with. Each call puts one text, its line feed included, behind what the buffer has. A
 //! buffer of bytes refuses a write only for want of memory, and then it may have a part of the text.
 ghost use Rattle.std.specs.Prelude.{◌≡◌, ◌≢◌, ◌++◌, true, codes, decimal, IfOk, OnOk, Some};
-ghost use Rattle.rbac_lines.specs.Text.{stamp_or_null, answer_text, answered_text, bad_serial_text, count_text, denial_text, reply_text, out_of_turn_text, submitted_text, received_text, delivered_text, nothing_delivered_text, refusal_word, refused_word_text, refused_text, refusal_text, line_refusal_text};
+ghost use Rattle.rbac_text.specs.AnswerText.{answer_text};
+ghost use Rattle.rbac_lines.specs.Text.{stamp_or_null, answered_text, bad_serial_text, reply_text, out_of_turn_text, submitted_text, received_text, delivered_text, nothing_delivered_text, refusal_word, refused_word_text, refused_text, refusal_text, line_refusal_text};
 
-mod lists;
-mod pieces;
+mod stamps;
 
-use crate::refusal::{DeskRefusal, LineRefusal};
-use lists::{put_names, put_permissions};
-use pieces::{put_number, put_piece, put_stamp};
-use rbac_words::{Answer, Denial, Record, Refusal, Stamp};
+use crate::refusal::DeskRefusal;
+use rbac_text::pieces::{put_number, put_piece};
+use rbac_text::{LineRefusal, put_answer};
+use rbac_words::{Answer, Record, Refusal, Stamp};
+use stamps::put_stamp;
 use std::alloc::AllocError;
 
 /// The line as the last key.
@@ -49,40 +50,6 @@ pub(crate) fn put_received(
 {
     begin_acknowledged(text, acknowledged)?;
     end_at_line(text, line)
-}
-
-fn put_denial(text: &mut Vec<u8>, denial: Denial) -> Result<(), AllocError>
-    ensures { OnOk result (text.new.items ≡ text.old.items ++ denial_text denial) }
-{
-    put_piece(text, "{\"denied\":\"")?;
-    put_piece(text, denial.word())?;
-    put_number(text, "\",\"number\":", u64::from(denial.number()))?;
-    put_piece(text, "}")
-}
-
-fn put_count(text: &mut Vec<u8>, count: u32) -> Result<(), AllocError>
-    ensures { OnOk result (text.new.items ≡ text.old.items ++ count_text count) }
-{
-    put_number(text, "{\"count\":", u64::from(count))?;
-    put_piece(text, "}")
-}
-
-/// An answer by itself, without a line feed.
-///
-/// # Errors
-/// `AllocError` where there is no memory for it.
-pub fn put_answer(text: &mut Vec<u8>, answer: &Answer) -> Result<(), AllocError>
-    ensures { OnOk result (text.new.items ≡ text.old.items ++ answer_text answer.now) }
-{
-    match answer {
-        Answer::Done => text.extend_from_slice(b"\"Done\""),
-        Answer::Granted => text.extend_from_slice(b"\"Granted\""),
-        Answer::Refused => text.extend_from_slice(b"\"Refused\""),
-        Answer::Names(names) => put_names(text, names.names()),
-        Answer::Permissions(permissions) => put_permissions(text, permissions.permissions()),
-        Answer::Count(count) => put_count(text, *count),
-        Answer::Denied(denial) => put_denial(text, *denial),
-    }
 }
 
 /// The first key of a text that has an answer, and the answer.

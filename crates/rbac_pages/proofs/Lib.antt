@@ -1,3 +1,5 @@
+pub mod AskingLemmas
+pub mod DumpLemmas
 pub mod HeldLemmas
 pub mod MatchLemmas
 pub mod TextLemmas

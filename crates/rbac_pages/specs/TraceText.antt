@@ -16,8 +16,9 @@ use Rattle.rbac_words.specs.declared.event.Event.{Event}
 use Rattle.rbac_words.specs.declared.event.Event.TheVariants.{Submit, SubmitBatch, Receive, Deliver}
 use Rattle.rbac_words.specs.declared.event.Outcome.{Outcome}
 use Rattle.rbac_words.specs.declared.event.Outcome.TheVariants.{Submitted, Received, Delivered}
-use Rattle.rbac_lines.specs.Text.{stamp_text, answer_text}
-use Rattle.rbac_command_text.specs.CommandText.{command_text}
+use Rattle.rbac_text.specs.AnswerText.{answer_text}
+use Rattle.rbac_lines.specs.Text.{stamp_text}
+use Rattle.rbac_text.specs.CommandText.{command_text}
 use Rattle.rbac_pages.specs.declared.held.Awaited.{Awaited}
 
 -- line 5:

@@ -4,7 +4,7 @@ ghost use Rattle.std.specs.Prelude.{◌≡◌, IfOk};
 ghost use Rattle.rbac_pages.specs.RefusedText.{refusal_sentence, line_refusal_sentence, refused_text};
 
 use crate::text::put;
-use rbac_lines::LineRefusal;
+use rbac_text::LineRefusal;
 use rbac_words::Refusal;
 use std::alloc::{AllocError, Global};
 use std::fmt;

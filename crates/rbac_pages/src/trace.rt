@@ -6,9 +6,8 @@ ghost use Rattle.rbac_pages.specs.TraceText.{asked_text, sent_text, acknowledged
 
 use crate::held::{Awaited, MEMBER_NUMBERS, awaited_of, held_of};
 use crate::text::{Teller, put, put_all};
-use rbac_command_text::put_command;
-use rbac_lines::put_answer;
 use rbac_member::Member;
+use rbac_text::{put_answer, put_command};
 use rbac_words::{Command, Event, Outcome, Record, Stamp};
 use rbac_world::World;
 use std::alloc::{AllocError, Global};

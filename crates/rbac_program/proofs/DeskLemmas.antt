@@ -5,7 +5,7 @@ use Rattle.rbac_terms.specs.declared.command.Command.{Command}
 use Rattle.rbac_node.specs.Pass.{PassState}
 use Rattle.rbac_lines.specs.declared.refusal.DeskRefusal.TheVariants.{NoMemory, Stopped}
 use Rattle.rbac_lines.specs.Text.{Reply}
-use Rattle.rbac_lines.specs.Fields.{Reading}
+use Rattle.rbac_text.specs.Fields.{Reading}
 use Rattle.rbac_lines.specs.Conversation.{Asks, Answers, AnswersLine, Conversation}
 use Rattle.std.specs.Io.KnownBytes.{Appends}
 use Rattle.line_engine.specs.Lines.{clip, lines}

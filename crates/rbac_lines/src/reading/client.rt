@@ -2,13 +2,12 @@
 ghost use Rattle.std.specs.Prelude.{◌≡◌, ◌≢◌, ℕ, List, IfOk, IfErr, Ok, Err};
 ghost use Rattle.serde_json.specs.View.{members_view};
 ghost use Rattle.line_engine.specs.Lines.{clip};
-ghost use Rattle.rbac_lines.specs.Fields.{Reads};
+ghost use Rattle.rbac_text.specs.Fields.{Reads};
 ghost use Rattle.rbac_lines.specs.Client.{client, client_of};
 
-use crate::reading::commands::command_of;
-use crate::reading::fields::{Object, object_in, only_keys, whole_in};
-use crate::reading::value_of;
-use crate::refusal::LineRefusal;
+use rbac_text::LineRefusal;
+use rbac_text::reading::fields::{Object, object_in, only_keys, whole_in};
+use rbac_text::reading::{command_of, value_of};
 use rbac_words::Command;
 use std::alloc::Global;
 

@@ -1,5 +1,5 @@
 use Rattle.std.proofs.Common.{◌∙◌, ap}
-use Rattle.rbac_founding.specs.Steps.{provided}
+use Rattle.rbac_text.specs.Steps.{provided}
 use Rattle.rbac_founding.specs.declared.refusal.FoundingRefusal.TheVariants.{UnknownKey}
 use Rattle.rbac_founding.proofs.FoundingLemmas.{has_only_keys}
 use Rattle.rbac_founding.proofs.document.only_keys.Goals as goal

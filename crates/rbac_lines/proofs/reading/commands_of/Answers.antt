@@ -1,7 +1,7 @@
 use Rattle.std.proofs.Common.{◌+◌, ◌∙◌, ap, sym, drop, Ok}
 use Rattle.serde_json.specs.View.{items_view}
 use Rattle.rbac_lines.specs.Event.{commands_of}
-use Rattle.rbac_lines.proofs.ArrayLemmas.{commands_after, none_before, commands_next}
+use Rattle.rbac_lines.proofs.BatchLemmas.{commands_after, none_before, commands_next}
 use Rattle.rbac_lines.proofs.reading.commands_of.Goals as goal
 
 pub loop-value-init : goal.loop-value-init

@@ -1,7 +1,7 @@
 use Rattle.std.proofs.Common.{◌≡◌, drop}
 use Rattle.serde_json.specs.View.{items_view}
 use Rattle.rbac_lines.specs.Event.{commands_of}
-use Rattle.rbac_lines.proofs.ArrayLemmas.{commands_after}
+use Rattle.rbac_lines.proofs.BatchLemmas.{commands_after}
 use Rattle.rbac_lines.proofs.reading.commands_of.Given as goal
 
 -- what is read, and what is left to read

@@ -1,5 +1,5 @@
 use Rattle.std.proofs.Common.{◌++◌, codes}
-use Rattle.rbac_lines.proofs.TextLemmas.{put_before}
+use Rattle.rbac_text.proofs.TextLemmas.{put_before}
 use Rattle.rbac_lines.proofs.text.put_refused_word.Goals as goal
 
 pub returns : goal.returns

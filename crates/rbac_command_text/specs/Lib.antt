@@ -1,2 +1,0 @@
-pub mod CommandText
-pub mod CommandObject

@@ -1,9 +1,0 @@
-use Rattle.std.proofs.Common.{◌≡◌, map, drop}
-use Rattle.serde_json.specs.View.{items_view}
-use Rattle.rbac_lines.specs.Fields.{names_of}
-use Rattle.rbac_lines.proofs.ArrayLemmas.{text_of, names_from}
-use Rattle.rbac_lines.proofs.reading.fields.names_of.Given as goal
-
--- what is left to add to the names so far
-abbrev pub invariant-loop-value : goal.invariant-loop-value
-invariant-loop-value l = names_of (items_view l.array) ≡ names_from l.names (map text_of (drop l.value-index l.array))

@@ -1,0 +1,11 @@
+pub mod Utf8Lemmas
+pub mod ReadingLemmas
+pub mod ValueLemmas
+pub mod FieldLemmas
+pub mod ArrayLemmas
+pub mod TextLemmas
+pub mod ObjectLemmas
+pub mod CommandBack
+pub mod OneLine
+pub mod ReadBack
+pub mod LineLemmas

@@ -1,0 +1,12 @@
+pub mod Steps
+pub mod Keys
+pub mod Refusals
+pub mod Fields
+pub mod Value
+pub mod Command
+pub mod ReadCommand
+pub mod Pieces
+pub mod AnswerText
+pub mod CommandText
+pub mod CommandObject
+pub mod Lines

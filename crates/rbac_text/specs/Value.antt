@@ -1,0 +1,16 @@
+-- The JSON value that a line, or a text of its own, stands for.
+use Rattle.std.specs.Prelude.{ℕ, List, length, nat_lt, if◌then◌else◌, Option, None, ok_or, Err}
+use Rattle.std.specs.Str.{is_utf8}
+use Rattle.serde_json.specs.Data.{Data}
+use Rattle.serde_json.specs.Read.{read}
+use Rattle.line_engine.specs.Lines.{longest_line}
+use Rattle.rbac_text.specs.declared.refusal.LineRefusal.TheVariants.{TooLong, NotJson}
+use Rattle.rbac_text.specs.Fields.{Reading}
+
+-- the value of a JSON text, which is UTF-8
+abbrev pub json_of : List ℕ → Option Data
+json_of text = if is_utf8 text then read text else None
+
+-- the value of a line
+abbrev pub value_of : List ℕ → Reading Data
+value_of line = if nat_lt longest_line (length line) then Err TooLong else ok_or (json_of line) NotJson

@@ -1,0 +1,19 @@
+//! A command and an answer as texts: what is read of a command's JSON object, and what is written.
+#![tactic(auto)]
+
+mod answer;
+pub mod keys;
+mod law;
+mod lines;
+pub mod names;
+pub mod pieces;
+pub mod reading;
+mod refusal;
+mod writing;
+
+pub use answer::put_answer;
+pub use law::written_command_is_read;
+pub use lines::{DumpRefusal, put_lines};
+pub use reading::read_command;
+pub use refusal::LineRefusal;
+pub use writing::{command_word, put_command};

@@ -1,0 +1,151 @@
+//! The fields of a JSON object, each read as what it has to be: refused as MissingField where its key is not there, as
+//! WrongKind where its value is of another kind, and as BadName where a name is due and the text is none.
+ghost use Rattle.std.specs.Prelude.{◌≡◌, [], map, is_some, unwrap_or, string_bytes};
+ghost use Rattle.std.specs.BTreeMap.{keys as entry_keys};
+ghost use Rattle.std.specs.List.{list_all, list_any};
+ghost use Rattle.std.specs.Str.{bytes_eq};
+ghost use Rattle.serde_json.specs.Find.{as_object, as_str};
+ghost use Rattle.serde_json.specs.View.{view, items_view, members_view};
+ghost use Rattle.rbac_text.specs.Steps.{seen};
+ghost use Rattle.rbac_text.specs.Fields.{Reads, value_in, whole_in, text_in, object_in, objects_of, objects_in, name_of, name_in, names_of, names_in, only_keys};
+
+use crate::keys::is_one_of;
+use crate::names::name_or;
+use crate::refusal::LineRefusal;
+use rbac_terms::{Name, NameSet};
+use serde_json::{Map, Value};
+use std::alloc::Global;
+
+/// A JSON object, whose keys have no order. Where a key was given twice, it has the last value.
+pub type Object = Map<String, Value>;
+
+/// What is read, or the first refusal.
+pub type Reading<T> = Result<T, LineRefusal>;
+
+fn value_in<'o>(object: &'o Object, key: &str) -> Reading<&'o Value>
+    ensures { seen (λ value. view value.now) result ≡ value_in key.now (members_view object.now.entries) }
+{
+    object.get(key).ok_or(LineRefusal::MissingField)
+}
+
+/// The whole number at a key, up to 4,294,967,295. Any other number is of another kind, 1.0 and negative ones among them.
+pub fn whole_in(object: &Object, key: &str) -> Result<u32, LineRefusal>
+    ensures { result ≡ whole_in key.now (members_view object.now.entries) }
+{
+    let value = value_in(object, key)?;
+    value
+        .as_u64()
+        .and_then(|number| u32::try_from(number).ok())
+        .ok_or(LineRefusal::WrongKind)
+}
+
+/// The text at a key.
+pub fn text_in<'o>(object: &'o Object, key: &str) -> Reading<&'o str>
+    ensures { seen (λ text. text.now) result ≡ text_in key.now (members_view object.now.entries) }
+{
+    let value = value_in(object, key)?;
+    value.as_str().ok_or(LineRefusal::WrongKind)
+}
+
+/// The object at a key.
+pub fn object_in<'o>(object: &'o Object, key: &str) -> Reading<&'o Object>
+    ensures { seen (λ inner. members_view inner.now.entries) result ≡ object_in key.now (members_view object.now.entries) }
+{
+    let value = value_in(object, key)?;
+    value.as_object().ok_or(LineRefusal::WrongKind)
+}
+
+/// The name that a text is.
+fn name_of(alloc: Global, text: &str) -> Reading<Name>
+    ensures { Reads (name_of text.now) result }
+{
+    name_or(alloc, text, LineRefusal::BadName, LineRefusal::NoMemory)
+}
+
+/// The name at a key.
+pub fn name_in(alloc: Global, object: &Object, key: &str) -> Reading<Name>
+    ensures { Reads (name_in key.now (members_view object.now.entries)) result }
+{
+    let text = text_in(object, key)?;
+    name_of(alloc, text)
+}
+
+fn are_texts(array: &[Value]) -> bool
+    ensures { result ≡ list_all (λ value. is_some (as_str (view value))) array.now }
+{
+    array.iter().all(|value| value.is_string())
+}
+
+/// A value's text, or an empty one where it is no text.
+fn text_of(value: &Value) -> &str
+    ensures { result.now ≡ unwrap_or (as_str (view value.now)) [] }
+{
+    value.as_str().unwrap_or("")
+}
+
+/// The set of the names in an array. An element that is no text is refused before any text that is no name, so that
+/// the array is looked through before the first name is read. A name given twice counts once.
+fn names_of(alloc: Global, array: &[Value]) -> Reading<NameSet>
+    ensures { Reads (names_of (items_view array.now)) result }
+{
+    if !are_texts(array) {
+        return Err(LineRefusal::WrongKind);
+    }
+    let mut names = NameSet::new(alloc);
+    for value in array {
+        let name = name_of(alloc, text_of(value))?;
+        names.add(name)?;
+    }
+    Ok(names)
+}
+
+/// The set of the names at a key.
+pub fn names_in(alloc: Global, object: &Object, key: &str) -> Reading<NameSet>
+    ensures { Reads (names_in key.now (members_view object.now.entries)) result }
+{
+    let value = value_in(object, key)?;
+    let array = value.as_array().ok_or(LineRefusal::WrongKind)?;
+    names_of(alloc, array)
+}
+
+fn are_objects(array: &[Value]) -> bool
+    ensures { result ≡ list_all (λ value. is_some (as_object (view value))) array.now }
+{
+    array.iter().all(|value| value.is_object())
+}
+
+/// The array, if each of its elements is an object.
+fn objects_of(array: &[Value]) -> Reading<&[Value]>
+    ensures { seen (λ kept. items_view kept.now) result ≡ objects_of (items_view array.now) }
+{
+    if !are_objects(array) {
+        return Err(LineRefusal::WrongKind);
+    }
+    Ok(array)
+}
+
+/// The array at a key, of which each element is an object.
+pub fn objects_in<'o>(object: &'o Object, key: &str) -> Reading<&'o [Value]>
+    ensures { seen (λ array. items_view array.now) result ≡ objects_in key.now (members_view object.now.entries) }
+{
+    let value = value_in(object, key)?;
+    let array = value.as_array().ok_or(LineRefusal::WrongKind)?;
+    objects_of(array)
+}
+
+fn has_only(object: &Object, keys: &[&str]) -> bool
+    ensures { result ≡ list_all (λ key. list_any (λ known. bytes_eq (string_bytes key) known.now) keys.now) (entry_keys object.now) }
+{
+    object.keys().all(|key| is_one_of(keys, key.as_str()))
+}
+
+/// Refuses an object that has a key besides these.
+pub fn only_keys(object: &Object, keys: &[&str]) -> Reading<()>
+    ensures { result ≡ only_keys (map (λ key. key.now) keys.now) (members_view object.now.entries) }
+{
+    if has_only(object, keys) {
+        Ok(())
+    } else {
+        Err(LineRefusal::ExtraField)
+    }
+}
