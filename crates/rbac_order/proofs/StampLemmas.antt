@@ -1,5 +1,5 @@
 -- The order of stamps is total, and what follows for lists in stamp order.
-use Rattle.std.proofs.Common.{Bool, true, false, not, cond, ◌||◌, ◌≡◌, ◌<◌, ◌⊎◌, inl, inr, arith, refl, sym, ap, subst, ◌∙◌, true≢false, List, [], ◌∷◌, ◌++◌, Option, Some, None, append-nil}
+use Rattle.std.proofs.Common.{Bool, true, false, not, cond, ◌||◌, ◌≡◌, ◌↔◌, ◌<◌, ◌⊎◌, inl, inr, arith, refl, sym, ap, subst, ◌∙◌, true≢false, List, [], ◌∷◌, ◌++◌, Option, Some, None, append-nil}
 use Rattle.std.specs.List.{AllByRecursion as Each, filter, list_any}
 use Rattle.std.specs.List.Sorted.{IsPermutation}
 use Rattle.std.proofs.lemmas.Bool.Decides.{nat_tests}
@@ -10,6 +10,13 @@ use Rattle.sorted_keys.proofs.Lists.{Each-append, Each-left, Each-right, Each-we
 use Rattle.rbac_words.specs.declared.stamp.Stamp.{Stamp}
 use Rattle.rbac_words.specs.Message.{next_place}
 use Rattle.rbac_words.specs.Stamp.{IsBefore, is_before, is_same_stamp, IsRising, IsInStampOrder, insert_by_stamp, insert_all, sort_by_stamp, last_stamp, up_to, IsAfter, has_passed}
+
+-- the order in plain numbers
+abbrev IsLess : Stamp → Stamp → Type 0
+IsLess s t = (s.clock < t.clock) ⊎ ((s.clock ≡ t.clock) × ((s.member < t.member) ⊎ ((s.member ≡ t.member) × (s.place < t.place))))
+
+pub in_numbers : (s t : Stamp) → IsBefore s t ↔ IsLess s t
+in_numbers s t = (λ p. grind (arith, nat_tests), λ p. grind (arith, nat_tests))
 
 pub earlier : (s t : Stamp) → s.clock < t.clock → IsBefore s t
 earlier s t h = grind (arith, nat_tests)

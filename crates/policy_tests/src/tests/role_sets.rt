@@ -117,7 +117,10 @@ fn assert_users(rt: &impl Abort, alloc: Global, sets: &RoleSets, role: &str, tex
 }
 
 fn assert_roles(rt: &impl Abort, alloc: Global, sets: &RoleSets, user: &str, texts: &[&str]) {
-    assert_seconds(rt, sets.assignments_of(&name(rt, alloc, user)), texts);
+    let user = name(rt, alloc, user);
+    assert_seconds(rt, sets.assignments_of(&user), texts);
+    assert_found(rt, sets.roles_of(alloc, &user), texts);
+    drop(user);
 }
 
 fn assert_users_after(

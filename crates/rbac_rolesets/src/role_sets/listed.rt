@@ -1,16 +1,33 @@
-//! The users of roles, by one walk over UA each, and what is granted to them, by a look at each permission.
+//! The users of roles, by one walk over UA each, the roles of a user, by a look at each role, and what is granted to roles, by a
+//! look at each permission.
 ghost use Rattle.std.specs.Prelude.{◌≡◌, ◌&&◌, IfOk, filter};
 ghost use Rattle.std.specs.List.{list_any};
 ghost use Rattle.std.specs.Ordering.{eq_by_cmp};
+ghost use Rattle.sorted_keys.specs.Keys.{has};
 ghost use Rattle.hashed_keys.specs.Pairs.{seconds};
 ghost use Rattle.rbac_terms.specs.Name.{name_cmp, pair_cmp};
-ghost use Rattle.rbac_terms.specs.Relations.{users_of};
+ghost use Rattle.rbac_terms.specs.Relations.{users_of, roles_of};
 
 use crate::role_sets::RoleSets;
 use crate::role_sets::users_with::users_with;
 use rbac_terms::{Name, NameSet, PermissionSet, Vocabulary};
 use sorted_keys::{KeyTest, SortedSet};
 use std::alloc::{AllocError, Global};
+
+// The roles that are assigned to a user.
+#[derive(Drop)]
+struct RolesOf<'a> {
+    sets: &'a RoleSets,
+    user: &'a Name,
+}
+
+impl KeyTest<Name> for RolesOf<'_> {
+    ghost passes = { λ roles role. has pair_cmp (roles.user.now, role) roles.sets.now.content.assigned };
+
+    fn test(&self, role: &Name) -> bool {
+        self.sets.assigned(self.user, role)
+    }
+}
 
 // The permissions that are granted to a role that passes a test.
 #[derive(Drop)]
@@ -58,6 +75,17 @@ impl RoleSets {
             unreachable!()
         };
         Ok(NameSet::of(users))
+    }
+
+    /// The roles that are assigned to the user.
+    ///
+    /// # Errors
+    /// `AllocError` where there is no memory for it.
+    pub fn roles_of(&self, alloc: Global, user: &Name) -> Result<NameSet, AllocError>
+        ensures { let s = self.now.content in IfOk result (λ roles. roles ≡ roles_of user.now s.roles s.assigned) }
+    {
+        let assigned = RolesOf { sets: self, user };
+        Ok(NameSet::of(self.roles.copy_where(alloc, &assigned)?))
     }
 
     /// The permissions of the vocabulary that are granted to a role that passes the test.
