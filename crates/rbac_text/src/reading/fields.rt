@@ -29,6 +29,9 @@ fn value_in<'o>(object: &'o Object, key: &str) -> Reading<&'o Value>
 }
 
 /// The whole number at a key, up to 4,294,967,295. Any other number is of another kind, 1.0 and negative ones among them.
+///
+/// # Errors
+/// `MissingField` where the key is not there, `WrongKind` where its value is of another kind.
 pub fn whole_in(object: &Object, key: &str) -> Result<u32, LineRefusal>
     ensures { result ≡ whole_in key.now (members_view object.now.entries) }
 {
@@ -40,6 +43,9 @@ pub fn whole_in(object: &Object, key: &str) -> Result<u32, LineRefusal>
 }
 
 /// The text at a key.
+///
+/// # Errors
+/// `MissingField` where the key is not there, `WrongKind` where its value is no text.
 pub fn text_in<'o>(object: &'o Object, key: &str) -> Reading<&'o str>
     ensures { seen (λ text. text.now) result ≡ text_in key.now (members_view object.now.entries) }
 {
@@ -48,6 +54,9 @@ pub fn text_in<'o>(object: &'o Object, key: &str) -> Reading<&'o str>
 }
 
 /// The object at a key.
+///
+/// # Errors
+/// `MissingField` where the key is not there, `WrongKind` where its value is no object.
 pub fn object_in<'o>(object: &'o Object, key: &str) -> Reading<&'o Object>
     ensures { seen (λ inner. members_view inner.now.entries) result ≡ object_in key.now (members_view object.now.entries) }
 {
@@ -63,7 +72,7 @@ fn name_of(alloc: Global, text: &str) -> Reading<Name>
 }
 
 /// The name at a key.
-pub fn name_in(alloc: Global, object: &Object, key: &str) -> Reading<Name>
+pub(crate) fn name_in(alloc: Global, object: &Object, key: &str) -> Reading<Name>
     ensures { Reads (name_in key.now (members_view object.now.entries)) result }
 {
     let text = text_in(object, key)?;
@@ -100,7 +109,7 @@ fn names_of(alloc: Global, array: &[Value]) -> Reading<NameSet>
 }
 
 /// The set of the names at a key.
-pub fn names_in(alloc: Global, object: &Object, key: &str) -> Reading<NameSet>
+pub(crate) fn names_in(alloc: Global, object: &Object, key: &str) -> Reading<NameSet>
     ensures { Reads (names_in key.now (members_view object.now.entries)) result }
 {
     let value = value_in(object, key)?;
@@ -125,6 +134,9 @@ fn objects_of(array: &[Value]) -> Reading<&[Value]>
 }
 
 /// The array at a key, of which each element is an object.
+///
+/// # Errors
+/// `MissingField` where the key is not there, `WrongKind` where its value is no array or an element is no object.
 pub fn objects_in<'o>(object: &'o Object, key: &str) -> Reading<&'o [Value]>
     ensures { seen (λ array. items_view array.now) result ≡ objects_in key.now (members_view object.now.entries) }
 {
@@ -140,6 +152,9 @@ fn has_only(object: &Object, keys: &[&str]) -> bool
 }
 
 /// Refuses an object that has a key besides these.
+///
+/// # Errors
+/// `ExtraField` where there is one.
 pub fn only_keys(object: &Object, keys: &[&str]) -> Reading<()>
     ensures { result ≡ only_keys (map (λ key. key.now) keys.now) (members_view object.now.entries) }
 {
