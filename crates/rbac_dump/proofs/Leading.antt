@@ -1,7 +1,7 @@
 -- Commands that lead from a state to another, each of them done.
 use Rattle.std.proofs.Common.{List, [], ◌∷◌, ◌++◌, map, cond, ◌≡◌, Some, None, refl, sym, ap, ◌∙◌, subst, append_assoc}
 use Rattle.std.proofs.lemmas.List.{append-nil}
-use Rattle.std.specs.List.{AllByRecursion as Each}
+use Rattle.std.specs.List.{flat_map, AllByRecursion as Each}
 use Rattle.rbac_terms.specs.State.{State}
 use Rattle.rbac_terms.specs.Change.{change}
 use Rattle.rbac_terms.specs.Rows.{Precondition, leftmost, preconditions}
@@ -30,8 +30,16 @@ makes c s t none changed done brings =
     let allowed = fails_none (preconditions c s) none in
     (ap (λ d. effect_unless d c s) allowed ∙ changed, ap (λ d. reply_unless d c s) allowed ∙ done, brings)
 
+-- one command
+pub leads_one : (s : State) (c : Command) (t : State) → Makes s c t → Leads s (c ∷ []) t
+leads_one s c t m = (m.0, (m.1, tt), (m.2, tt))
+
+-- the same state, said otherwise
+pub leads_to : (s : State) (cs : List Command) (t u : State) → t ≡ u → Leads s cs t → Leads s cs u
+leads_to s cs t u same leads = subst (Leads s cs) same leads
+
 -- commands go on by others
-leads_on : (s : State) (cs ds : List Command) (t u : State) → Leads s cs t → Leads t ds u → Leads s (cs ++ ds) u
+pub leads_on : (s : State) (cs ds : List Command) (t u : State) → Leads s cs t → Leads t ds u → Leads s (cs ++ ds) u
 leads_on s [] ds t u first second = subst (λ x. Leads x ds u) (sym first.0) second
 leads_on s (c ∷ cs) ds t u first second =
     let rest = leads_on (effect c s) cs ds t u (first.0, first.1.1, first.2.1) second in
@@ -42,7 +50,7 @@ abbrev pub TellsNext : {X : Type 0} → (X → Command) → (List X → State) �
 TellsNext {X} command at xs = (done : List X) (x : X) (rest : List X) → xs ≡ done ++ (x ∷ rest) → Makes (at done) (command x) (at (done ++ (x ∷ [])))
 
 -- where each does, the commands of a list make the state with all of them
-told : {X : Type 0} (command : X → Command) (at : List X → State) (xs : List X) → TellsNext command at xs → Leads (at []) (map command xs) (at xs)
+pub told : {X : Type 0} (command : X → Command) (at : List X → State) (xs : List X) → TellsNext command at xs → Leads (at []) (map command xs) (at xs)
 told {X} command at xs each = go [] xs refl
   where
     go : (done rest : List X) → xs ≡ done ++ rest → Leads (at done) (map command rest) (at xs)
@@ -56,3 +64,23 @@ told {X} command at xs each = go [] xs refl
 -- commands go on by those of a list
 pub and_then : {X : Type 0} (s : State) (cs : List Command) (command : X → Command) (at : List X → State) (xs : List X) → Leads s cs (at []) → TellsNext command at xs → Leads s (cs ++ map command xs) (at xs)
 and_then s cs command at xs before each = leads_on s cs (map command xs) (at []) (at xs) before (told command at xs each)
+
+-- ---- Some commands for each element, or none
+
+-- those of the next element lead from the state in which what was told ends before it to the one in which it ends behind it
+abbrev pub TellsEach : {X : Type 0} → (X → List Command) → (List X → List X → State) → List X → Type 0
+TellsEach {X} commands at xs = (done : List X) (x : X) (rest : List X) → xs ≡ done ++ (x ∷ rest) → Leads (at done (x ∷ rest)) (commands x) (at (done ++ (x ∷ [])) rest)
+
+told_each : {X : Type 0} (commands : X → List Command) (at : List X → List X → State) (xs : List X) → TellsEach commands at xs → Leads (at [] xs) (flat_map commands xs) (at xs [])
+told_each {X} commands at xs each = go [] xs refl
+  where
+    go : (done rest : List X) → xs ≡ done ++ rest → Leads (at done rest) (flat_map commands rest) (at xs [])
+    go done [] e = (ap (λ l. at l []) (sym (e ∙ append-nil done)), tt, tt)
+    go done (x ∷ rest) e =
+        leads_on (at done (x ∷ rest)) (commands x) (flat_map commands rest) (at (done ++ (x ∷ [])) rest) (at xs []) (each done x rest e)
+        (go (done ++ (x ∷ [])) rest (e ∙ sym (append_assoc done (x ∷ []) rest)))
+
+-- commands go on by those of each element
+pub and_each : {X : Type 0} (s : State) (cs : List Command) (commands : X → List Command) (at : List X → List X → State) (xs : List X) → Leads s cs (at [] xs) → TellsEach commands at xs
+    → Leads s (cs ++ flat_map commands xs) (at xs [])
+and_each s cs commands at xs before each = leads_on s cs (flat_map commands xs) (at [] xs) (at xs []) before (told_each commands at xs each)

@@ -4,6 +4,7 @@
 
 mod dump;
 pub mod laws;
+mod parts;
 mod telling;
 
 pub use dump::commands_of;

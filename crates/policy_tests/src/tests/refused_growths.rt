@@ -169,10 +169,13 @@ fn users_roles_and_permissions(rt: HostRuntime) {
     drop(policy);
 }
 
+// The most bytes of a command's text that can be read.
+const ROOM: usize = 65_536;
+
 fn dumped(rt: &impl Abort, alloc: Global, policy: &Policy) -> Vec<Command> {
-    match commands_of(alloc, policy) {
+    match commands_of(alloc, policy, ROOM) {
         Ok(commands) => commands,
-        Err(_) => commands_of(alloc, policy).expect(rt, "memory"),
+        Err(_) => commands_of(alloc, policy, ROOM).expect(rt, "memory"),
     }
 }
 
