@@ -23,7 +23,7 @@ use std::{env, fs, io};
 /// What was asked for was written.
 const DONE: u8 = 0;
 
-/// A fault of a file, of the founding, of the run or of the dump.
+/// A fault of a file, of the founding or of the run.
 const FAULT: u8 = 1;
 
 /// The command line is refused.

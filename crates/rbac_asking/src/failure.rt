@@ -3,7 +3,6 @@ ghost use Rattle.std.specs.Prelude.{◌≡◌};
 
 use rbac_founding::FoundingRefusal;
 use rbac_lines::RunFault;
-use rbac_text::DumpRefusal;
 use std::alloc::AllocError;
 use std::fmt;
 use std::fmt::{Display, Formatter};
@@ -17,8 +16,6 @@ pub(crate) enum Failure<'w> {
     Founding(FoundingRefusal),
     /// The lines were not read to their end, or what is told of them was not written.
     Run(RunFault),
-    /// A line of the dump would be too long to be read.
-    LineTooLong,
     /// A name that was asked about is none.
     BadName(&'w str),
 }
@@ -44,19 +41,6 @@ impl From<RunFault> for Failure<'_> {
     }
 }
 
-impl From<DumpRefusal> for Failure<'_> {
-    ghost use Rattle.rbac_asking.specs.Failures.{dump_failure};
-
-    ghost from_gives = { λ refusal failure. failure ≡ dump_failure refusal };
-
-    fn from(refusal: DumpRefusal) -> Self {
-        match refusal {
-            DumpRefusal::LineTooLong => Failure::LineTooLong,
-            DumpRefusal::NoMemory => Failure::Run(RunFault::NoMemory),
-        }
-    }
-}
-
 impl Display for Failure<'_> {
     ghost use Rattle.std.specs.Prelude.{Some};
     ghost use Rattle.rbac_asking.specs.Failures.{failure_text};
@@ -68,7 +52,6 @@ impl Display for Failure<'_> {
             Failure::File(path) => write!(f, "rbac_ask: file: {path}"),
             Failure::Founding(refusal) => write!(f, "rbac_ask: founding: {}", refusal.word()),
             Failure::Run(fault) => write!(f, "rbac_ask: run: {}", fault.word()),
-            Failure::LineTooLong => write!(f, "rbac_ask: dump: LineTooLong"),
             Failure::BadName(name) => write!(f, "rbac_ask: name: {name}"),
         }
     }

@@ -59,7 +59,7 @@ Examples:
 
 Status:
   0  the lines were read to their end, and what was asked for was written; or this help was
-  1  a fault of a file, of the founding, of the run or of the dump: one line on the error stream
+  1  a fault of a file, of the founding or of the run: one line on the error stream
   2  the command line is refused";
 
 const FOUNDING: &str = "The file of the founding, or - for the sample founding";

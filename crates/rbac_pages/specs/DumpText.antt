@@ -1,12 +1,11 @@
 -- A policy told as client lines, which make it again.
-use Rattle.std.specs.Prelude.{◌≡◌, ℕ, List, Bool, IsTrue, Ok, codes}
+use Rattle.std.specs.Prelude.{◌≡◌, ℕ, List, IsTrue, Ok, codes}
 use Rattle.std.specs.List.{list_all}
-use Rattle.line_engine.specs.Lines.{longest_line}
 use Rattle.rbac_terms.specs.State.{State}
 use Rattle.rbac_terms.specs.declared.command.Command.{Command}
 use Rattle.rbac_dump.specs.Dump.{dump_of}
 use Rattle.rbac_lines.specs.Client.{client}
-use Rattle.rbac_text.specs.Lines.{is_longer, is_no_feed, line_of, lines_of}
+use Rattle.rbac_text.specs.Lines.{is_no_feed, line_of, lines_of}
 
 -- what stands in the line before the command, and after it
 abbrev pub begin : List ℕ
@@ -19,9 +18,9 @@ end = codes "}"
 abbrev pub asking : Command → List ℕ
 asking command = line_of begin end command
 
--- whether that line is longer than a line may be
-abbrev pub is_too_long : Command → Bool
-is_too_long command = is_longer longest_line begin end command
+-- the room that there is for the text of a command in such a line: 65,536 bytes but for the 19 round it
+abbrev pub room : ℕ
+room = 65517
 
 -- the line is one line, and what is read of it is just that: member 1 is asked the command
 abbrev pub IsAsked : Command → Type 0
@@ -33,4 +32,4 @@ lines_text commands = lines_of begin end commands
 
 -- the lines of a dump
 abbrev pub dump_text : State → List ℕ
-dump_text s = lines_text (dump_of s)
+dump_text s = lines_text (dump_of room s)

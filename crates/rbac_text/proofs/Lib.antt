@@ -9,3 +9,4 @@ pub mod CommandBack
 pub mod OneLine
 pub mod ReadBack
 pub mod LineLemmas
+pub mod CutLines

@@ -1,10 +1,9 @@
 -- Commands told as lines.
-use Rattle.std.specs.Prelude.{ℕ, ◌≤◌, List, ◌++◌, Bool, not, length, nat_lt, codes}
+use Rattle.std.specs.Prelude.{ℕ, List, ◌++◌, Bool, not, codes}
 use Rattle.std.specs.List.{flat_map}
 use Rattle.line_engine.specs.Lines.{is_line_feed}
 use Rattle.rbac_terms.specs.declared.command.Command.{Command}
-use Rattle.rbac_text.specs.Command.{command_fields}
-use Rattle.rbac_text.specs.CommandText.{command_text, AreFields}
+use Rattle.rbac_text.specs.CommandText.{command_text}
 
 -- the text of a command, between what stands before it and after it
 abbrev pub line_of : List ℕ → List ℕ → Command → List ℕ
@@ -17,11 +16,3 @@ lines_of before after commands = flat_map (λ command. line_of before after comm
 -- no line feed
 abbrev pub is_no_feed : ℕ → Bool
 is_no_feed byte = not (is_line_feed byte)
-
--- whether a command's line has more bytes than these
-abbrev pub is_longer : ℕ → List ℕ → List ℕ → Command → Bool
-is_longer most before after command = nat_lt most (length (line_of before after command))
-
--- what is known of a command that was told as a line: a reader takes its fields, and the line is no longer than a line may be
-abbrev pub IsTold : ℕ → List ℕ → List ℕ → Command → Type 0
-IsTold most before after command = AreFields (command_fields command) × (length (line_of before after command) ≤ most)

@@ -13,7 +13,7 @@ mod writing;
 
 pub use answer::put_answer;
 pub use law::written_command_is_read;
-pub use lines::{DumpRefusal, put_lines};
+pub use lines::put_lines;
 pub use reading::read_command;
 pub use refusal::LineRefusal;
 pub use writing::{command_word, put_command};

@@ -1,36 +1,14 @@
 //! Commands as lines, each with its line feed.
-ghost use Rattle.std.specs.Prelude.{◌≡◌, ◌≤◌, ◌++◌, true, codes, length, IfErr, OnOk};
-ghost use Rattle.std.specs.List.{list_any, AllByRecursion as Each};
+ghost use Rattle.std.specs.Prelude.{◌≡◌, ◌++◌, codes, OnOk};
+ghost use Rattle.std.specs.List.{AllByRecursion as Each};
 ghost use Rattle.rbac_text.specs.Command.{command_fields};
 ghost use Rattle.rbac_text.specs.CommandText.{AreFields};
-ghost use Rattle.rbac_text.specs.Lines.{is_longer, line_of, lines_of, IsTold};
+ghost use Rattle.rbac_text.specs.Lines.{line_of, lines_of};
 
 use crate::pieces::put_piece;
 use crate::writing::put_command;
 use rbac_terms::Command;
 use std::alloc::AllocError;
-use thiserror::Error;
-
-/// Why a policy is not told as lines.
-#[derive(Clone, Copy, Debug, PartialEq, Eq, Drop, Error)]
-pub enum DumpRefusal {
-    /// A line would be longer than a line may be: a set or a session has some thousand roles.
-    #[error("a line would have more than 65536 bytes")]
-    LineTooLong,
-    /// Memory ran out.
-    #[error("no memory")]
-    NoMemory,
-}
-
-impl From<AllocError> for DumpRefusal {
-    ghost use Rattle.rbac_text.specs.declared.lines.DumpRefusal.TheVariants.{NoMemory};
-
-    ghost from_gives = { λ _ refusal. refusal ≡ NoMemory };
-
-    fn from(_refused: AllocError) -> DumpRefusal {
-        DumpRefusal::NoMemory
-    }
-}
 
 // The line of a command, without its line feed.
 fn put_open_line(
@@ -47,46 +25,36 @@ fn put_open_line(
     put_piece(text, after)
 }
 
-// The same with its line feed. Refused where it is too long.
+// The same with its line feed.
 fn put_line(
     text: &mut Vec<u8>,
     before: &str,
     command: &Command,
     after: &str,
-    most: usize,
-) -> Result<(), DumpRefusal>
+) -> Result<(), AllocError>
     ensures text { OnOk result (text.new.items ≡ text.old.items ++ (line_of before.now after.now command.now ++ codes "\n")) }
-    ensures told { OnOk result (IsTold most before.now after.now command.now) }
-    ensures too_long { IfErr result (λ refusal. refusal ≡ DumpRefusal.LineTooLong → is_longer most before.now after.now command.now ≡ true) }
+    ensures fit { OnOk result (AreFields (command_fields command.now)) }
 {
-    let start = text.len();
     put_open_line(text, before, command, after)?;
-    if most < text.len() - start {
-        return Err(DumpRefusal::LineTooLong);
-    }
-    text.extend_from_slice(b"\n")?;
-    Ok(())
+    text.extend_from_slice(b"\n")
 }
 
 /// Puts a line for each of these commands behind what the buffer has, in order: the text of the command, with what stands before it and
-/// after it in each line.
+/// after it in each line. A reader takes the fields of each command.
 ///
 /// # Errors
-/// `LineTooLong` where a line would have more bytes than this, without its line feed, and `NoMemory` where memory ends. The buffer may have
-/// a part of the text then.
+/// `AllocError` where there is no memory for it. The buffer may have a part of the text then.
 pub fn put_lines(
     text: &mut Vec<u8>,
     before: &str,
     commands: &[Command],
     after: &str,
-    most: usize,
-) -> Result<(), DumpRefusal>
+) -> Result<(), AllocError>
     ensures text { OnOk result (text.new.items ≡ text.old.items ++ lines_of before.now after.now commands.now) }
-    ensures told { OnOk result (Each (IsTold most before.now after.now) commands.now) }
-    ensures too_long { IfErr result (λ refusal. refusal ≡ DumpRefusal.LineTooLong → list_any (is_longer most before.now after.now) commands.now ≡ true) }
+    ensures fit { OnOk result (Each (λ command. AreFields (command_fields command)) commands.now) }
 {
     for command in commands {
-        put_line(text, before, command, after, most)?;
+        put_line(text, before, command, after)?;
     }
     Ok(())
 }
