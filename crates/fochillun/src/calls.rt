@@ -1,6 +1,6 @@
 //! The calls of other languages: each takes the policy out of its place, calls what is proved, and puts it back.
 ghost use Rattle.std.specs.Prelude.{◌≡◌, ◌≢◌, None};
-ghost use Rattle.rbac_embedded.specs.Holding.{answer_buffer, answer_length, answer_status, apply_buffer, apply_kept, apply_length, apply_status, check_status, close_status, dump_buffer, dump_length, dump_status, open_status, opened};
+ghost use Rattle.rbac_embedded.specs.Holding.{answer_buffer, answer_length, answer_status, apply_buffer, apply_kept, apply_length, apply_status, check_status, close_status, dump_buffer, dump_length, dump_status, open_status, opened, IsDumpRead};
 ghost use Rattle.rbac_embedded.specs.Status.{no_memory, status_number};
 
 use crate::place::Place;
@@ -80,7 +80,7 @@ pub extern "C" fn policy_check(
     status.number()
 }
 
-/// Puts the commands that make the policy again into the buffer.
+/// Puts the commands that make the policy again into the buffer, each in a line that reads as just that command.
 #[unsafe(no_mangle)]
 pub extern "C" fn policy_dump(
     place: &mut Place,
@@ -91,6 +91,7 @@ pub extern "C" fn policy_dump(
     ensures told { result ≢ no_memory → result ≡ status_number (dump_status out.old place.old.slot.kept) }
     ensures buffer { result ≢ no_memory → out.new ≡ dump_buffer out.old place.old.slot.kept }
     ensures length { result ≢ no_memory → written.new ≡ dump_length place.old.slot.kept }
+    ensures reads { result ≢ no_memory → IsDumpRead place.old.slot.kept }
     ensures unchanged { place.new.slot.kept ≡ place.old.slot.kept }
     ensures buffer_unchanged { result ≡ no_memory → out.new ≡ out.old }
     ensures no_length { result ≡ no_memory → written.new ≡ 0 }

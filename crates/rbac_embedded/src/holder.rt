@@ -1,6 +1,6 @@
 //! A place for one monitor: the calls that another language makes, over values.
 ghost use Rattle.std.specs.Prelude.{◌≡◌, ◌≢◌, None, length, option_map};
-ghost use Rattle.rbac_embedded.specs.Holding.{answer_buffer, answer_length, answer_status, apply_buffer, apply_kept, apply_length, apply_status, check_status, close_status, dump_buffer, dump_length, dump_status, open_status, opened, room_status, with_text};
+ghost use Rattle.rbac_embedded.specs.Holding.{answer_buffer, answer_length, answer_status, apply_buffer, apply_kept, apply_length, apply_status, check_status, close_status, dump_buffer, dump_length, dump_status, open_status, opened, room_status, with_text, IsDumpRead};
 ghost use Rattle.rbac_embedded.specs.Status.{no_memory, status_number};
 
 use crate::monitor::Monitor;
@@ -143,11 +143,12 @@ impl Holder {
         }
     }
 
-    /// The commands that make the policy again, as `apply` puts a text. Changes nothing.
+    /// The commands that make the policy again, as `apply` puts a text, each in a line that reads as just that command. Changes nothing.
     pub fn dump(&self, alloc: Global, out: &mut [u8], written: &mut usize) -> Status
         ensures told { status_number result ≢ no_memory → result ≡ dump_status out.old self.now }
         ensures buffer { status_number result ≢ no_memory → out.new ≡ dump_buffer out.old self.now }
         ensures length { status_number result ≢ no_memory → written.new ≡ dump_length self.now }
+        ensures reads { status_number result ≢ no_memory → IsDumpRead self.now }
         ensures buffer_unchanged { status_number result ≡ no_memory → out.new ≡ out.old }
         ensures no_length { status_number result ≡ no_memory → written.new ≡ 0 }
     {

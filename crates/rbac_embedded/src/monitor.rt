@@ -5,10 +5,11 @@ ghost use Rattle.rbac_terms.specs.Name.{pair_cmp};
 ghost use Rattle.rbac_terms.specs.Reviews.{session_permissions};
 ghost use Rattle.rbac_text.specs.AnswerText.{answer_text};
 ghost use Rattle.rbac_embedded.specs.Calls.{after, applied, founded, verdict};
-ghost use Rattle.rbac_embedded.specs.Dump.{dump_text};
+ghost use Rattle.rbac_embedded.specs.Dump.{dump_text, IsReadBack};
 
 use crate::dumping::lines_of;
 use crate::verdict::Verdict;
+use line_engine::LONGEST_LINE;
 use rbac_decide::Policy;
 use rbac_dump::commands_of;
 use rbac_founding::{FoundingRefusal, read_founding};
@@ -113,16 +114,18 @@ impl Monitor {
         }
     }
 
-    /// The commands of the policy's dump, each as a JSON object in a line. A policy that was just founded with its vocabulary answers each
-    /// of them Done in this order, and they leave this very state (`commands_of`).
+    /// The commands of the policy's dump, each as a JSON object in a line, which reads as just that command. A policy that was just founded
+    /// with its vocabulary answers each of them Done in this order, and they leave this very state (`commands_of`).
     ///
     /// # Errors
     /// `AllocError` where there is no memory for them.
     pub fn dump(&self, alloc: Global) -> Result<Vec<u8>, AllocError>
-        ensures { IfOk result (λ text. text.items ≡ dump_text self.now.state) }
+        ensures text { IfOk result (λ text. text.items ≡ dump_text self.now.state) }
+        ensures reads { OnOk result (IsReadBack self.now.state) }
     {
-        let commands = commands_of(alloc, &self.policy)?;
-        lines_of(alloc, &commands)
+        let commands = commands_of(alloc, &self.policy, LONGEST_LINE)?;
+        let text = lines_of(alloc, &commands)?;
+        Ok(text)
     }
 
     /// The text of the answer to the last command that was applied; empty before the first one.
