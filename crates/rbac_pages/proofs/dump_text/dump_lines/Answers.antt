@@ -6,7 +6,7 @@ use Rattle.rbac_dump.specs.Dump.{dump_of}
 use Rattle.rbac_pages.specs.DumpText.{begin, end, lines_text}
 use Rattle.rbac_text.specs.Lines.{IsTold}
 use Rattle.rbac_pages.proofs.DumpLemmas.{all_asked, lines_ask}
-use Rattle.rbac_pages.proofs.dump_lines.dump_lines.Goals as goal
+use Rattle.rbac_pages.proofs.dump_text.dump_lines.Goals as goal
 
 pub returns-clause-asks : goal.returns-clause-asks
 returns-clause-asks c =
