@@ -3,7 +3,7 @@
 #![tactic(auto)]
 
 mod diagram;
-mod dump_lines;
+mod dump_text;
 mod granting;
 mod held;
 mod policy_page;
@@ -13,7 +13,7 @@ mod text;
 mod trace;
 
 pub use diagram::Diagram;
-pub use dump_lines::dump_lines;
+pub use dump_text::dump_lines;
 pub use granting::why;
 pub use policy_page::page;
 pub use refusing::{refused_line_text, refused_text};

@@ -7,7 +7,7 @@ use Rattle.rbac_pages.specs.DumpText.{lines_text, room}
 use Rattle.rbac_text.specs.Command.{command_fields}
 use Rattle.rbac_text.specs.CommandText.{command_text, AreFields}
 use Rattle.rbac_pages.proofs.DumpLemmas.{all_asked, lines_ask}
-use Rattle.rbac_pages.proofs.dump_lines.dump_lines.Goals as goal
+use Rattle.rbac_pages.proofs.dump_text.dump_lines.Goals as goal
 
 pub returns-clause-asks : goal.returns-clause-asks
 returns-clause-asks c =
