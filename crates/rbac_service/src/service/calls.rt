@@ -27,11 +27,12 @@ impl<G: GroupName, K: Gate + Drop, C: Courier + Drop> Service<G, K, C> {
     /// A pass of a new caller of a member, with an empty front. It may wait for the member's lock.
     ///
     /// # Errors
-    /// `UnknownMember` exactly where the group has no such member, then `Stopped`, then `CallersFull`.
+    /// `UnknownMember` exactly where the group has no such member, then `Stopped` (so too where another member's node stood at its place,
+    /// which none does), then `CallersFull`.
     pub fn enroll<R: Wait>(&self, rt: &R, at: u32) -> Result<Pass<G>, EnrollRefusal>
         ensures known { OnOk result (IsNumber G.group at) }
         ensures stranger { IfErr result (λ refusal. (refusal ≡ EnrollRefusal.UnknownMember) ↔ (IsNumber G.group at → ⊥)) }
-        ensures member { IfOk result (λ pass. IsNumber G.group pass.member) }
+        ensures member { IfOk result (λ pass. pass.member ≡ at) }
         ensures first_serial { IfOk result (λ pass. pass.next ≡ 0) }
         ensures no_ticket { IfOk result (λ pass. pass.is_waiting ≡ false) }
         ensures empty_front { IfOk result (λ pass. pass.front ≡ []) }
@@ -40,11 +41,11 @@ impl<G: GroupName, K: Gate + Drop, C: Courier + Drop> Service<G, K, C> {
             return Err(EnrollRefusal::UnknownMember);
         };
         let mut node = slot.node.lock(rt);
-        if node.is_stopped() {
+        if node.is_stopped() || node.member().number() != at {
             return Err(EnrollRefusal::Stopped);
         }
         node.invariants();
-        let history_row = self.rows.history(node.member().number());
+        let history_row = self.rows.history(at);
         match node.enroll(history_row) {
             Some(pass) => Ok(pass),
             None => Err(EnrollRefusal::CallersFull),
@@ -189,6 +190,8 @@ impl<G: GroupName, K: Gate + Drop, C: Courier + Drop> Service<G, K, C> {
     ) -> Result<Receipt, CallRefusal>
         ensures answered { IfOk result (λ receipt. IsAnswered (record pass.old { next = pass.old.next + 1; is_waiting = true }) (called pass.old receipt.stamp command) receipt.place receipt.answer pass.new) }
         ensures member { IfOk result (λ receipt. receipt.stamp.member ≡ pass.old.member) }
+        ensures busy { IfErr result (λ refusal. refusal ≡ CallRefusal.Submit ServiceRefusal.Busy → pass.old.is_waiting ≡ true) }
+        ensures waiting { pass.old.is_waiting ≡ true → IfErr result (λ refusal. (refusal ≡ CallRefusal.Submit ServiceRefusal.Stopped) ⊎ (refusal ≡ CallRefusal.Submit ServiceRefusal.Busy)) }
         ensures refused { IfErr result (λ refusal. IsCallRefused pass.old command refusal pass.new) }
     {
         let ticket = self
