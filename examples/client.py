@@ -1,8 +1,8 @@
 #!/usr/bin/env python3
 """A client of the monitor: it sends commands and prints what each was answered.
 
-    examples/client.py [--journal FILE [--ask RBAC_ASK [--most LINES]]] PROGRAM serve FOUNDING < COMMANDS
-    examples/client.py [--journal FILE [--ask RBAC_ASK [--most LINES]]] PROGRAM play FOUNDING - < COMMANDS
+    examples/client.py [--journal FILE [--most LINES]] PROGRAM serve FOUNDING < COMMANDS
+    examples/client.py [--journal FILE [--most LINES]] PROGRAM play FOUNDING - < COMMANDS
 
 COMMANDS has one command a line, as {"name":"AddUser","user":"ann"}; with "at":2 in it, it is asked of member 2. PROGRAM is the monitor. By serve
 each command is one line and gets one answer. By play it is submitted and delivered at member 1, and the client keeps the serials. A line that is
@@ -12,9 +12,9 @@ The monitor keeps nothing on disk: a journal gets each command that was answered
 and nothing that was denied. So it is a file of COMMANDS too. At the start its commands are asked again, and the next day goes on from there; where one
 of them is not answered Done once more, as on another founding, the client ends and sends nothing else.
 
-A journal only grows. Where --ask names the program rbac_ask, a journal of more than LINES lines (10,000 where --most is left out) is replaced by a
-dump of what its commands have made: a command for each user, role, assignment, grant, pair, set and session that is there. That is done only once
-each of its commands was answered Done by the monitor that runs, and the old journal stands until the disk has the new one."""
+A journal only grows. With --most, one of more than LINES lines is replaced by a dump, for which PROGRAM is asked, of what its commands have made: a
+command for each user, role, assignment, grant, pair, set and session that is there. That is done only once each of its commands was answered Done by
+the monitor that runs, and the old journal stands until the disk has the new one."""
 import argparse
 import json
 import os
@@ -172,14 +172,13 @@ def answered(monitor, journal, shortener, line):
 def main(words):
     parser = argparse.ArgumentParser(usage=__doc__)
     parser.add_argument("--journal")
-    parser.add_argument("--ask")
-    parser.add_argument("--most", type=int, default=10_000)
+    parser.add_argument("--most", type=int)
     parser.add_argument("words", nargs=argparse.REMAINDER)
     told = parser.parse_args(words)
     if len(told.words) < 3:
         return __doc__
     journal = Journal(told.journal) if told.journal else None
-    shortener = Shortener(told.ask, told.most, told.words[2]) if journal and told.ask else None
+    shortener = Shortener(told.words[0], told.most, told.words[2]) if journal and told.most is not None else None
     monitor = (Client if "play" in told.words else Caller)(told.words)
     try:
         if journal:

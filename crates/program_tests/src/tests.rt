@@ -174,6 +174,110 @@ const SEVEN_ANSWERS: &[u8] = br#"{"answer":"Done","line":1}
 {"line":7,"refused":"UnknownMember"}
 "#;
 
+const MADE: &[u8] = br#"{"at":1,"command":{"name":"AddUser","user":"ann"}}
+{"at":1,"command":{"name":"AddRole","role":"clerk"}}
+{"at":1,"command":{"name":"AssignUser","user":"ann","role":"clerk"}}
+{"at":1,"command":{"name":"GrantPermission","operation":"read","object":"ledger","role":"clerk"}}
+{"at":1,"command":{"name":"CreateSession","user":"ann","session":"s1","roles":["clerk"]}}
+"#;
+
+/// A call with these words and this input ends with this status and this output, and writes no error.
+fn expect_told<T: Files + AllocGlobal + Threads + Wait + Clock + Abort + Copy + Send + Sync>(
+    rt: &T,
+    words: &[&str],
+    input: &[u8],
+    status: u8,
+    told: &[u8],
+) {
+    let mut output = Vec::new(rt.alloc());
+    let mut errors = Vec::new(rt.alloc());
+    let answered = command(rt, words, input, &mut output, &mut errors);
+    assert_eq!(rt; answered, status);
+    assert!(rt; output.as_slice() == told);
+    assert!(rt; errors.is_empty());
+}
+
+#[test]
+fn tells_the_policy_that_lines_leave(rt: HostRuntime) {
+    let dump = ["rbac_monitor", "dump", "--serve", "-", "-"];
+    expect_told(&rt, &dump, MADE, 0, MADE);
+    let who = ["rbac_monitor", "who", "--serve", "-", "-", "read", "ledger"];
+    let may =
+        b"users that are authorized for a role with the permission\n  ann by role clerk\nsessions in which such a role is active\n  s1 of ann by role clerk\n";
+    expect_told(&rt, &who, MADE, 0, may);
+    let graph = ["rbac_monitor", "show", "--dot", "--serve", "-", "-"];
+    let roles = b"digraph roles {\n  node [shape=box];\n  \"clerk\";\n}\n";
+    expect_told(&rt, &graph, MADE, 0, roles);
+}
+
+#[test]
+fn the_status_is_the_verdict(rt: HostRuntime) {
+    let granted = [
+        "rbac_monitor",
+        "why",
+        "--serve",
+        "-",
+        "-",
+        "s1",
+        "read",
+        "ledger",
+    ];
+    let reason = b"Granted: session s1 has the active role clerk\n  which is granted read ledger\n";
+    expect_told(&rt, &granted, MADE, 0, reason);
+    let refused = [
+        "rbac_monitor",
+        "why",
+        "--serve",
+        "-",
+        "-",
+        "s1",
+        "pay",
+        "invoice",
+    ];
+    let none =
+        b"Refused: no active role has the permission, itself or by a role that it inherits\n";
+    expect_told(&rt, &refused, MADE, 3, none);
+    let denied = [
+        "rbac_monitor",
+        "why",
+        "--serve",
+        "-",
+        "-",
+        "s2",
+        "read",
+        "ledger",
+    ];
+    let missing = b"Denied: NoSession: there is no session s2\n";
+    expect_told(&rt, &denied, MADE, 4, missing);
+    let add = r#"{"name":"AddRole","role":"clerk"}"#;
+    let command = ["rbac_monitor", "why", "--serve", "-", "-", add];
+    let exists = b"Denied: RoleExists: there is already a role clerk\n";
+    expect_told(&rt, &command, MADE, 4, exists);
+}
+
+#[test]
+fn a_refused_line_ends_what_is_told(rt: HostRuntime) {
+    let words = ["rbac_monitor", "dump", "-", "-"];
+    let errors = b"rbac_monitor: lines: 5 of 5 were refused\n";
+    let mut output = Vec::new(rt.alloc());
+    let mut told = Vec::new(rt.alloc());
+    let answered = command(&rt, &words, MADE, &mut output, &mut told);
+    assert_eq!(rt; answered, 1);
+    assert!(rt; output.is_empty());
+    assert!(rt; told.as_slice() == errors.as_slice());
+    let lenient = ["rbac_monitor", "dump", "--lenient", "-", "-"];
+    expect_told(&rt, &lenient, MADE, 0, b"");
+}
+
+#[test]
+fn finds_what_is_wrong_with_a_line(rt: HostRuntime) {
+    let words = ["rbac_monitor", "lint", "--serve", "-", "-"];
+    expect_told(&rt, &words, MADE, 0, b"");
+    let line = br#"{"at":1,"command":{"name":"AdUser","user":"ann"}}"#;
+    let fault = b"-:1:27: fault: UnknownWord: \"AdUser\" is no command; did you mean AddUser?\n";
+    expect_told(&rt, &words, line, 1, fault);
+}
+
 #[test]
 fn a_line_for_a_third_member_of_two_is_refused(rt: HostRuntime) -> Result<(), Fail> {
     let founding = ("sample_of_two.toml", SAMPLE_OF_TWO);

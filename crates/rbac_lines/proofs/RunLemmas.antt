@@ -21,7 +21,7 @@ follows old number line text is_refused new plays = (
 )
 
 -- where the end of the input was met, that was all that the reader had
-whole : (Outcome : List (List ℕ) → Result Summary RunFault → Type 0) (P : Summary → List ℕ → Type 0) (had left : Option (List ℕ)) (result : Result Summary RunFault) (input : List ℕ) (ended : Bool)
+pub whole : (Outcome : List (List ℕ) → Result Summary RunFault → Type 0) (P : Summary → List ℕ → Type 0) (had left : Option (List ℕ)) (result : Result Summary RunFault) (input : List ℕ) (ended : Bool)
     → Consumes had left input → (ended ≡ true → IsAtEnd left) → OnOk result (ended ≡ true) → Outcome (lines_read ended input) result
     → ((summary : Summary) (all : List ℕ) → Outcome (lines all) (Ok summary) → P summary all) → IfOk result (λ summary. IfSome had (P summary))
 whole Outcome P had left (Ok summary) input ended consumed at_end met outcome then_so =

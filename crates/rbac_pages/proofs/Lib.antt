@@ -3,3 +3,4 @@ pub mod DumpLemmas
 pub mod HeldLemmas
 pub mod MatchLemmas
 pub mod TextLemmas
+pub mod WhyLemmas

@@ -5,3 +5,5 @@ pub mod PageText
 pub mod RefusedText
 pub mod TraceText
 pub mod WhyText
+pub mod HindranceText
+pub mod GranteeText

@@ -1,10 +1,25 @@
--- Why a check is answered as it is.
-use Rattle.std.specs.Prelude.{Option, Some, None, ℕ, List, ◌++◌, codes}
+-- What a command would be answered, and why.
+use Rattle.std.specs.Prelude.{◌≡◌, Option, Some, None, Bool, true, false, ℕ, List, ◌++◌, codes}
 use Rattle.std.specs.List.{flat_map}
-use Rattle.rbac_terms.specs.Name.{Name, Permission}
+use Rattle.std.specs.FinMap.Entries.{find}
+use Rattle.rbac_terms.specs.Name.{Name, Permission, name_cmp}
 use Rattle.rbac_terms.specs.Denials.{denial_word}
+use Rattle.rbac_terms.specs.Effect.{session_holds}
+use Rattle.rbac_terms.specs.Rows.{first_denial}
+use Rattle.rbac_terms.specs.State.{State, Session}
+use Rattle.rbac_terms.specs.declared.answer.Answer.{Answer}
+use Rattle.rbac_terms.specs.declared.answer.Answer.TheVariants.{Refused, Denied as DeniedAnswer}
 use Rattle.rbac_terms.specs.declared.answer.Denial.{Denial}
+use Rattle.rbac_terms.specs.declared.command.Command.{Command}
+use Rattle.rbac_terms.specs.declared.command.Command.TheVariants.{AddActiveRole, CheckAccess}
+use Rattle.rbac_reasons.specs.Hindrance.{denial_of, Hinders}
+use Rattle.rbac_reasons.specs.Reason.{IsReason}
+use Rattle.rbac_reasons.specs.declared.told.Hindrance.{Hindrance}
 use Rattle.rbac_reasons.specs.declared.told.Reason.{Reason}
+use Rattle.rbac_pages.specs.GranteeText.{grantees}
+use Rattle.rbac_pages.specs.HindranceText.{denied_text}
+use Rattle.rbac_pages.specs.declared.explanation.Verdict.{Verdict}
+use Rattle.rbac_pages.specs.declared.explanation.Verdict.TheVariants.{Allowed, Refused as RefusedVerdict, Denied}
 
 -- the active role, the roles from it down to the one that is granted the permission, each of which the one before it inherits, and the
 -- permission
@@ -20,7 +35,42 @@ reason_text session permission reason =
     ++ flat_map inherits_text reason.inherited.items
     ++ granted_text permission
 
--- of a check that is not granted: that it is refused, or the word of its denial
-abbrev pub not_granted_text : Option Denial → List ℕ
-not_granted_text None = codes "Refused: no active role has the permission, itself or by a role that it inherits\n"
-not_granted_text (Some denial) = codes "Denied: " ++ denial_word denial ++ codes "\n"
+-- whether a role can be activated
+abbrev pub activation_text : Option Denial → List ℕ
+activation_text None = codes " would grant it, and can be activated\n"
+activation_text (Some denial) = codes " would grant it, but activating it is denied: " ++ denial_word denial ++ codes "\n"
+
+--   doctor would grant it, but activating it is denied: NotAuthorized
+-- a role that would grant it, and whether the session's owner can activate it there
+abbrev pub grantee_text : State → Name → Name → Name → List ℕ
+grantee_text s owner session role = codes "  " ++ role ++ activation_text (first_denial (AddActiveRole owner session role) s)
+
+-- each role that would grant it
+abbrev pub grantees_text : State → Name → Permission → Option Session → List ℕ
+grantees_text s session permission None = codes ""
+grantees_text s session permission (Some found) = flat_map (grantee_text s found.owner session) (grantees s permission)
+
+abbrev pub refused_text : State → Name → Permission → List ℕ
+refused_text s session permission =
+    codes "Refused: no active role has the permission, itself or by a role that it inherits\n" ++ grantees_text s session permission (find name_cmp session s.sessions)
+
+-- what a check that is not denied is answered
+abbrev pub TellsCheck : Bool → State → Name → Permission → List ℕ → Type 0
+TellsCheck true s session permission text = (reason : Reason) × IsReason s session permission reason × (text ≡ reason_text session permission reason)
+TellsCheck false s session permission text = text ≡ refused_text s session permission
+
+-- what is told of a command: what stands in its way, or why a check is granted or refused, or that nothing does
+abbrev pub TellsUnless : Option Denial → Command → State → List ℕ → Type 0
+TellsUnless (Some denial) c s text = (hindrance : Hindrance) × (denial_of hindrance ≡ denial) × Hinders c s hindrance × (text ≡ denied_text hindrance)
+TellsUnless None (CheckAccess session operation object) s text =
+    TellsCheck (session_holds (find name_cmp session s.sessions) s (operation, object)) s session (operation, object) text
+TellsUnless None c s text = text ≡ codes "Not denied: no precondition fails\n"
+
+abbrev pub TellsWhy : Command → State → List ℕ → Type 0
+TellsWhy c s text = TellsUnless (first_denial c s) c s text
+
+-- the verdict that an answer is
+abbrev pub verdict_of : Answer → Verdict
+verdict_of (DeniedAnswer denial) = Denied
+verdict_of Refused = RefusedVerdict
+verdict_of answer = Allowed

@@ -1,17 +1,21 @@
-//! Why a check is answered as it is.
-ghost use Rattle.std.specs.Prelude.{◌≡◌, ◌≢◌, ◌++◌, codes, IfOk, OnOk};
+//! What a command would be answered, and why.
+ghost use Rattle.std.specs.Prelude.{◌≡◌, ◌++◌, codes, IfOk, OnOk};
 ghost use Rattle.std.specs.List.{flat_map};
+ghost use Rattle.std.specs.FinMap.Entries.{find};
+ghost use Rattle.rbac_terms.specs.Name.{name_cmp};
 ghost use Rattle.rbac_terms.specs.Effect.{reply};
 ghost use Rattle.rbac_terms.specs.Rows.{first_denial};
-ghost use Rattle.rbac_terms.specs.declared.answer.Answer.TheVariants.{Granted};
-ghost use Rattle.rbac_terms.specs.declared.command.Command.TheVariants.{CheckAccess};
-ghost use Rattle.rbac_reasons.specs.Reason.{IsReason};
-ghost use Rattle.rbac_reasons.specs.declared.told.Reason.{Reason as ReasonValue};
-ghost use Rattle.rbac_pages.specs.WhyText.{inherits_text, granted_text, reason_text, not_granted_text};
+ghost use Rattle.rbac_terms.specs.declared.command.Command.TheVariants.{AddActiveRole, CheckAccess};
+ghost use Rattle.rbac_reasons.specs.Hindrance.{denial_of};
+ghost use Rattle.rbac_pages.specs.WhyText.{inherits_text, granted_text, reason_text, activation_text, grantees_text, refused_text, verdict_of, TellsWhy};
 
+use crate::explanation::{Explanation, Verdict};
+use crate::grantees::grantees;
+use crate::hindering::denied_text;
+use crate::text::{Teller, put_all};
 use rbac_decide::Policy;
-use rbac_reasons::{Reason, reason};
-use rbac_terms::Name;
+use rbac_reasons::{Hindrance, Reason, hindrance, reason};
+use rbac_terms::{Command, Name};
 use std::alloc::{AllocError, Global};
 
 // The session and its active role.
@@ -72,49 +76,176 @@ fn text_of(
     Ok(text)
 }
 
-// What a check that is not granted is answered.
-fn refusal_text(
+// Whether a role can be activated in the session by its owner.
+fn put_activation(
+    alloc: Global,
+    text: &mut Vec<u8>,
+    policy: &Policy,
+    command: &Command,
+) -> Result<(), AllocError>
+    ensures { OnOk result (text.new.items ≡ text.old.items ++ activation_text (first_denial command.now policy.now)) }
+{
+    match hindrance(alloc, policy, command)? {
+        None => text.extend_from_slice(b" would grant it, and can be activated\n"),
+        Some(found) => put_denied(text, &found),
+    }
+}
+
+// That a role can't be activated.
+fn put_denied(text: &mut Vec<u8>, found: &Hindrance) -> Result<(), AllocError>
+    ensures { OnOk result (text.new.items ≡ text.old.items ++ activation_text (Some (denial_of found.now))) }
+{
+    text.extend_from_slice(b" would grant it, but activating it is denied: ")?;
+    text.extend_from_slice(found.denial().word().as_bytes())?;
+    text.extend_from_slice(b"\n")
+}
+
+// The command by which the role is activated.
+fn activation(owner: &Name, session: &Name, role: &Name) -> Result<Command, AllocError>
+    ensures { IfOk result (λ command. command ≡ AddActiveRole owner.now session.now role.now) }
+{
+    Ok(Command::AddActiveRole {
+        user: owner.copy()?,
+        session: session.copy()?,
+        role: role.copy()?,
+    })
+}
+
+// A role that would grant a check, and whether it can be activated.
+#[derive(Drop)]
+struct GranteeTeller<'p> {
+    alloc: Global,
+    policy: &'p Policy,
+    owner: &'p Name,
+    session: &'p Name,
+}
+
+impl Teller<Name, u8> for GranteeTeller<'_> {
+    ghost use Rattle.rbac_pages.specs.WhyText.{grantee_text};
+
+    ghost told_of = { λ teller role. grantee_text teller.policy.now teller.owner.now teller.session.now role };
+
+    fn put(&self, text: &mut Vec<u8>, role: &Name) -> Result<(), AllocError> {
+        text.extend_from_slice(b"  ")?;
+        text.extend_from_slice(role.as_bytes())?;
+        let command = activation(self.owner, self.session, role)?;
+        let done = put_activation(self.alloc, text, self.policy, &command);
+        drop(command);
+        done
+    }
+}
+
+// Each role that would grant the check.
+fn put_grantees(
+    alloc: Global,
+    text: &mut Vec<u8>,
+    policy: &Policy,
+    session: &Name,
+    operation: &Name,
+    object: &Name,
+) -> Result<(), AllocError>
+    ensures { OnOk result (text.new.items ≡ text.old.items ++ grantees_text policy.now session.now (operation.now, object.now) (find name_cmp session.now policy.now.sessions)) }
+{
+    let Some(found) = policy.session(session) else {
+        return Ok(());
+    };
+    let roles = grantees(alloc, policy, operation, object)?;
+    let teller = GranteeTeller {
+        alloc,
+        policy,
+        owner: &found.owner,
+        session,
+    };
+    put_all(text, &teller, &roles)
+}
+
+// What is told of a check that is refused.
+fn refused_text(
     alloc: Global,
     policy: &Policy,
     session: &Name,
     operation: &Name,
     object: &Name,
 ) -> Result<Vec<u8>, AllocError>
-    ensures { IfOk result (λ text. text.items ≡ not_granted_text (first_denial (CheckAccess session.now operation.now object.now) policy.now)) }
+    ensures { IfOk result (λ text. text.items ≡ refused_text policy.now session.now (operation.now, object.now)) }
 {
     let mut text = Vec::new(alloc);
-    match policy.check(session, operation, object) {
-        Ok(_) => text.extend_from_slice(
-            b"Refused: no active role has the permission, itself or by a role that it inherits\n",
-        )?,
-        Err(denial) => {
-            text.extend_from_slice(b"Denied: ")?;
-            text.extend_from_slice(denial.word().as_bytes())?;
-            text.extend_from_slice(b"\n")?;
-        }
-    }
+    text.extend_from_slice(
+        b"Refused: no active role has the permission, itself or by a role that it inherits\n",
+    )?;
+    put_grantees(alloc, &mut text, policy, session, operation, object)?;
     Ok(text)
 }
 
-/// Why a check is answered as it is: where it is granted, an active role of the session and the roles from it, each inherited by the
-/// one before it, down to one that is granted the permission, and else that it is refused, or the word of its denial.
-///
-/// # Errors
-/// `AllocError` where there is no memory for it.
-pub fn why(
+// What is told of a check that is not denied.
+fn explain_check(
     alloc: Global,
     policy: &Policy,
     session: &Name,
     operation: &Name,
     object: &Name,
-) -> Result<Vec<u8>, AllocError>
-    ensures granted { reply (CheckAccess session.now operation.now object.now) policy.now ≡ Granted → IfOk result (λ text. (found : ReasonValue)
-        × IsReason policy.now session.now (operation.now, object.now) found
-        × (text.items ≡ reason_text session.now (operation.now, object.now) found)) }
-    ensures other { reply (CheckAccess session.now operation.now object.now) policy.now ≢ Granted → IfOk result (λ text. text.items ≡ not_granted_text (first_denial (CheckAccess session.now operation.now object.now) policy.now)) }
+) -> Result<Explanation, AllocError>
+    ensures verdict { first_denial (CheckAccess session.now operation.now object.now) policy.now ≡ None → IfOk result (λ told. told.verdict ≡ verdict_of (reply (CheckAccess session.now operation.now object.now) policy.now)) }
+    ensures text { first_denial (CheckAccess session.now operation.now object.now) policy.now ≡ None → IfOk result (λ told. TellsWhy (CheckAccess session.now operation.now object.now) policy.now told.text.items) }
 {
     match reason(alloc, policy, session, operation, object)? {
-        Some(found) => text_of(alloc, session, operation, object, &found),
-        None => refusal_text(alloc, policy, session, operation, object),
+        Some(found) => Ok(Explanation {
+            verdict: Verdict::Allowed,
+            text: text_of(alloc, session, operation, object, &found)?,
+        }),
+        None => Ok(Explanation {
+            verdict: Verdict::Refused,
+            text: refused_text(alloc, policy, session, operation, object)?,
+        }),
+    }
+}
+
+// What is told of a command in whose way nothing stands.
+fn explain_allowed(
+    alloc: Global,
+    policy: &Policy,
+    command: &Command,
+) -> Result<Explanation, AllocError>
+    ensures verdict { first_denial command.now policy.now ≡ None → IfOk result (λ told. told.verdict ≡ verdict_of (reply command.now policy.now)) }
+    ensures text { first_denial command.now policy.now ≡ None → IfOk result (λ told. TellsWhy command.now policy.now told.text.items) }
+{
+    match command {
+        Command::CheckAccess {
+            session,
+            operation,
+            object,
+        } => explain_check(alloc, policy, session, operation, object),
+        _ => {
+            let mut text = Vec::new(alloc);
+            text.extend_from_slice(b"Not denied: no precondition fails\n")?;
+            Ok(Explanation {
+                verdict: Verdict::Allowed,
+                text,
+            })
+        }
+    }
+}
+
+/// What a command would be answered, and why. Where it is denied, the word of its denial, and by names what makes its first failing
+/// precondition fail. Where it is a check that is granted, an active role of the session and the roles from it, each inherited by the
+/// one before it, down to one that is granted the permission; where that is refused, each role that would grant it, and whether the
+/// session's owner can activate it.
+///
+/// # Errors
+/// `AllocError` where there is no memory for it.
+pub fn why(alloc: Global, policy: &Policy, command: &Command) -> Result<Explanation, AllocError>
+    ensures verdict { IfOk result (λ told. told.verdict ≡ verdict_of (reply command.now policy.now)) }
+    ensures text { IfOk result (λ told. TellsWhy command.now policy.now told.text.items) }
+{
+    match hindrance(alloc, policy, command)? {
+        Some(found) => {
+            let text = denied_text(alloc, &found);
+            drop(found);
+            Ok(Explanation {
+                verdict: Verdict::Denied,
+                text: text?,
+            })
+        }
+        None => explain_allowed(alloc, policy, command),
     }
 }

@@ -1,3 +1,4 @@
-pub mod Sample
 pub mod Faults
+pub mod Sample
 pub mod Serving
+pub mod Telling

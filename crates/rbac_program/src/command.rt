@@ -1,17 +1,21 @@
 //! The whole program but for the standard streams.
-ghost use Rattle.std.specs.Prelude.{◌≡◌, ◌≢◌, ◌≤◌, IfSome, false, is_ok, if◌then◌else◌, length};
+ghost use Rattle.std.specs.Prelude.{◌≡◌, ◌≢◌, ◌≤◌, IfSome, IfOk, IsErr, false, is_ok, if◌then◌else◌, length};
 ghost use Rattle.std.specs.IoError.{error_kind};
 ghost use Rattle.std.specs.Io.KnownBytes.{Appends};
 ghost use Rattle.line_engine.specs.Watched.{failed_of, inner_of};
 ghost use Rattle.rbac_lines.specs.Output.{output};
 ghost use Rattle.rbac_program.specs.Sample.{sample_world};
+ghost use Rattle.rbac_program.specs.Telling.{status_of};
 
 use crate::fault::Fault;
+use crate::linting::lint;
 use crate::play::play;
 use crate::serving::serve;
+use crate::telling::{differ, draw, dump_to, tell, trace};
 use crate::words::{Asked, read_words};
 use clap::Error;
 use rbac_lines::{RunFault, Watched, watch};
+use rbac_pages::Verdict;
 use std::alloc::AllocError;
 use std::convert::AsStr;
 use std::fmt::Display;
@@ -31,9 +35,16 @@ const FAULT: u8 = 1;
 /// The command line is refused.
 const REFUSED: u8 = 2;
 
+/// The check that was asked about would be refused.
+const CHECK_REFUSED: u8 = 3;
+
+/// The command that was asked about would be denied.
+const COMMAND_DENIED: u8 = 4;
+
 /// Does what the words say, of which the first is the program's name, and answers the status: 0 where the input was read
-/// to its end or help was asked for, 1 after a fault, 2 where the words are refused. Without other words the sample is
-/// played, as `watched_command` says.
+/// to its end or help was asked for, 1 after a fault, 2 where the words are refused, and where they ask what a check or a
+/// command would be answered, 3 and 4 where that is a refusal and a denial. Without other words the sample is played, as
+/// `watched_command` says.
 pub fn command<
     T: Files + AllocGlobal + Threads + Wait + Clock + Copy + Send + Sync,
     S: AsStr,
@@ -41,7 +52,7 @@ pub fn command<
     W: Write + Drop,
     E: Write,
 >(rt: &T, words: &[S], reader: R, writer: W, errors: &mut E) -> u8
-    ensures status { result ≤ 2 }
+    ensures status { result ≤ 4 }
     ensures not_refused { length words.now ≤ 1 → result ≤ 1 }
 {
     watched_command(rt, words, reader, &mut watch(writer), errors)
@@ -56,7 +67,7 @@ fn watched_command<
     E: Write,
 >(rt: &T, words: &[S], reader: R, writer: &mut Watched<W>, errors: &mut E) -> u8
     requires { failed_of writer.old ≡ false }
-    ensures status { result ≤ 2 }
+    ensures status { result ≤ 4 }
     ensures not_refused { length words.now ≤ 1 → result ≤ 1 }
     ensures sample_played { length words.now ≤ 1 → result ≡ 0 →
         IfSome (R.remaining reader) (λ input. Appends (W.contents (inner_of writer.old)) (W.contents (inner_of writer.new)) (output input sample_world)) }
@@ -67,8 +78,20 @@ fn watched_command<
             let served = serve(rt, founding, reader, writer, errors);
             status_of(served, errors)
         }
+        Ok(Asked::Tell(lines, question)) => {
+            let told = tell(rt, lines, question, reader, writer, errors);
+            status_of_told(told, errors)
+        }
+        Ok(Asked::DumpTo(lines, folder)) => {
+            let written = dump_to(rt, lines, folder, reader, errors);
+            status_of(written, errors)
+        }
+        Ok(Asked::Trace(lines)) => status_of(trace(rt, lines, reader, writer), errors),
+        Ok(Asked::Diagram(lines)) => status_of(draw(rt, lines, reader, writer), errors),
+        Ok(Asked::Lint(asked)) => status_of_lint(lint(rt, asked, reader, writer), errors),
+        Ok(Asked::Differ(asked)) => status_of(differ(rt, asked, writer, errors), errors),
         Err(error) if error.kind() == clap::error::ErrorKind::OutOfMemory => {
-            tell(errors, Fault::from(AllocError))
+            tell_fault(errors, Fault::from(AllocError))
         }
         Err(error) if error.use_stderr() => {
             put(errors, &error);
@@ -84,7 +107,32 @@ fn status_of<E: Write>(done: Result<(), Fault<'_>>, errors: &mut E) -> u8
 {
     match done {
         Ok(()) => DONE,
-        Err(fault) => tell(errors, fault),
+        Err(fault) => tell_fault(errors, fault),
+    }
+}
+
+// The status of what was looked at: 0 only where nothing was found. A fault is told.
+fn status_of_lint<E: Write>(found: Result<bool, Fault<'_>>, errors: &mut E) -> u8
+    ensures found { IfOk found.entry (λ is_faulty. result ≡ (if is_faulty then 1 else 0)) }
+    ensures bounded { result ≤ 1 }
+{
+    match found {
+        Ok(false) => DONE,
+        Ok(true) => FAULT,
+        Err(fault) => tell_fault(errors, fault),
+    }
+}
+
+// The status of what was told. A fault is told too.
+fn status_of_told<E: Write>(told: Result<Verdict, Fault<'_>>, errors: &mut E) -> u8
+    ensures fault { IsErr told.entry → result ≡ 1 }
+    ensures told { IfOk told.entry (λ verdict. result ≡ status_of verdict) }
+{
+    match told {
+        Ok(Verdict::Allowed) => DONE,
+        Ok(Verdict::Refused) => CHECK_REFUSED,
+        Ok(Verdict::Denied) => COMMAND_DENIED,
+        Err(fault) => tell_fault(errors, fault),
     }
 }
 
@@ -100,7 +148,7 @@ pub fn program<
     W: Write + Drop,
     E: Write,
 >(rt: &T, reader: R, writer: W, errors: &mut E) -> u8
-    ensures { result ≤ 2 }
+    ensures { result ≤ 4 }
 {
     match words_of(rt) {
         Ok(words) => command(rt, &words, reader, writer, errors),
@@ -114,7 +162,7 @@ pub(crate) fn no_words<E: Write>(error: &io::Error, errors: &mut E) -> u8
     ensures not_text { error_kind error.now ≢ ErrorKind.OutOfMemory → result ≡ 2 }
 {
     match error.kind() {
-        ErrorKind::OutOfMemory => tell(errors, Fault::from(AllocError)),
+        ErrorKind::OutOfMemory => tell_fault(errors, Fault::from(AllocError)),
         _ => {
             put(errors, &"error: a word of the command line is not text\n");
             REFUSED
@@ -127,7 +175,7 @@ fn show<W: Write, D: Display, E: Write>(stream: &mut W, text: &D, errors: &mut E
     ensures { result ≤ 1 }
 {
     if write!(stream, "{text}").is_err() || stream.flush().is_err() {
-        return tell(errors, Fault::Run(RunFault::Write));
+        return tell_fault(errors, Fault::Run(RunFault::Write));
     }
     DONE
 }
@@ -138,7 +186,7 @@ fn put<W: Write, D: Display>(stream: &mut W, text: &D) {
 }
 
 /// Tells a fault, and answers its status.
-fn tell<E: Write>(errors: &mut E, fault: Fault<'_>) -> u8
+fn tell_fault<E: Write>(errors: &mut E, fault: Fault<'_>) -> u8
     ensures { result ≡ 1 }
 {
     let _ = writeln!(errors, "{fault}");

@@ -3,7 +3,7 @@ ghost use Rattle.std.specs.Prelude.{◌≡◌};
 ghost use Rattle.rbac_program.specs.Faults.{audit_word};
 
 use rbac_founding::FoundingRefusal;
-use rbac_lines::RunFault;
+use rbac_lines::{LineRefusal, RunFault, Summary};
 use rbac_service::AuditRefusal;
 use std::alloc::AllocError;
 use std::fmt;
@@ -24,6 +24,14 @@ pub(crate) enum Fault<'w> {
     Audit(AuditRefusal),
     /// A node does not confirm its member's pass.
     NotConfirmed,
+    /// Lines that were read for what they leave were refused.
+    Lines(Summary),
+    /// A text that was asked about is no name.
+    BadName(&'w str),
+    /// A text that was asked about is no command.
+    Command(LineRefusal),
+    /// No commands were found that lead from one policy to the other.
+    NotMade,
 }
 
 impl From<AllocError> for Fault<'_> {
@@ -80,6 +88,13 @@ impl Display for Fault<'_> {
             Fault::NoThread => write!(f, "rbac_monitor: run: NoThread"),
             Fault::Audit(refusal) => write!(f, "rbac_monitor: audit: {}", audit_word(refusal)),
             Fault::NotConfirmed => write!(f, "rbac_monitor: audit: NotConfirmed"),
+            Fault::Lines(summary) => {
+                let Summary { lines, refused } = summary;
+                write!(f, "rbac_monitor: lines: {refused} of {lines} were refused")
+            }
+            Fault::BadName(text) => write!(f, "rbac_monitor: name: {text}"),
+            Fault::Command(refusal) => write!(f, "rbac_monitor: command: {}", refusal.word()),
+            Fault::NotMade => write!(f, "rbac_monitor: diff: NotMade"),
         }
     }
 }

@@ -1,9 +1,13 @@
-//! The command line.
+//! What the words of the command line ask for.
 ghost use Rattle.std.specs.Prelude.{◌≤◌, length, IsOkAnd};
 ghost use Rattle.rbac_program.specs.Sample.{PlaysSample};
 
-use clap::{Arg, ArgAction, ArgMatches, Command, Error};
-use std::alloc::{AllocError, Global};
+mod help;
+mod line;
+
+use clap::{ArgMatches, Error};
+use line::command_line;
+use std::alloc::Global;
 use std::convert::AsStr;
 
 /// A schedule that is played on a founding.
@@ -13,12 +17,74 @@ pub(crate) struct Play<'w> {
     pub(crate) schedule: &'w str,
 }
 
+/// Where the lines come from, and what they are.
+#[derive(Clone, Copy, Drop)]
+pub(crate) struct Lines<'w> {
+    pub(crate) founding: &'w str,
+    pub(crate) path: &'w str,
+    /// They are client lines, and no schedule.
+    pub(crate) are_client_lines: bool,
+    /// A line that is refused ends nothing.
+    pub(crate) is_lenient: bool,
+}
+
+/// What is asked of the policy that lines leave.
+#[derive(Clone, Copy, Drop)]
+pub(crate) enum Question<'w> {
+    /// The policy as client lines that make it again.
+    Dump,
+    /// The policy as a page.
+    Page,
+    /// Its roles as a graph.
+    Graph,
+    /// What a check would be answered, and why.
+    WhyCheck {
+        session: &'w str,
+        operation: &'w str,
+        object: &'w str,
+    },
+    /// What the command of this JSON object would be answered, and why.
+    WhyCommand(&'w str),
+    /// Who may perform an operation on an object.
+    Who {
+        operation: &'w str,
+        object: &'w str,
+    },
+}
+
+/// Two inputs of client lines on one founding: what leads from the policy of the first to that of the second is told.
+#[derive(Clone, Copy, Drop)]
+pub(crate) struct Difference<'w> {
+    pub(crate) founding: &'w str,
+    pub(crate) from: &'w str,
+    pub(crate) to: &'w str,
+    pub(crate) is_lenient: bool,
+}
+
+/// A founding file that is looked at, and lines.
+#[derive(Clone, Copy, Drop)]
+pub(crate) struct Lint<'w> {
+    pub(crate) founding: &'w str,
+    pub(crate) lines: Option<&'w str>,
+    pub(crate) are_client_lines: bool,
+}
+
 /// What the words ask for.
 #[derive(Clone, Copy, Drop)]
 pub(crate) enum Asked<'w> {
     Play(Play<'w>),
     /// Callers are served by the members of this founding.
     Serve(&'w str),
+    /// Something is told of the policy that lines leave.
+    Tell(Lines<'w>, Question<'w>),
+    /// The policy is written into a new folder of this path, with its founding.
+    DumpTo(Lines<'w>, &'w str),
+    /// What each line of a schedule does to its member.
+    Trace(Lines<'w>),
+    /// The schedule as a space-time diagram.
+    Diagram(Lines<'w>),
+    Differ(Difference<'w>),
+    Lint(Lint<'w>),
 }
 
 /// The sample founding, and standard input.
@@ -27,117 +93,93 @@ const SAMPLE_AND_INPUT: Play<'static> = Play {
     schedule: "-",
 };
 
-const ABOUT: &str =
-    "Takes commands of role-based access control, one JSON object a line, and answers each line";
-
-// The last founding format that is read, the date of this version, and the logic that it is proved in, which several kits have.
-const VERSION: &str = "2 (2026-11-26, rattle logic dac8208d650f15bf)";
-
-const AFTER_HELP: &str = "\
-Without words: the same as 'play - -'.
-
-A line of serve asks a member a command, and is answered in one line:
-  {\"at\":1,\"command\":{\"name\":\"AddUser\",\"user\":\"ann\"}}
-  {\"answer\":\"Done\",\"line\":1}
-A line of play is one of these; caller and serial are numbers, serials 0, 1, 2 and so on for each
-caller, one for each of the 1 to 64 commands of a batch:
-  {\"do\":\"submit\",\"at\":1,\"caller\":0,\"serial\":0,\"command\":{\"name\":\"AddUser\",\"user\":\"ann\"}}
-  {\"do\":\"batch\",\"at\":1,\"caller\":0,\"serial\":1,\"commands\":[{\"name\":\"AddUser\",\"user\":\"bob\"}]}
-  {\"do\":\"deliver\",\"at\":1}
-  {\"do\":\"receive\",\"at\":1,\"from\":2,\"number\":1}
-An answer is \"Done\", \"Granted\" or \"Refused\", what a review lists, or {\"denied\":WORD,\"number\":N};
-{\"line\":1,\"refused\":WORD} is a line that was not taken.
-
-The commands with their fields, of which roles is an array of names, n a number, each other one a name:
-  AddUser DeleteUser AssignedRoles AuthorizedRoles UserPermissions  user
-  AddRole DeleteRole AssignedUsers AuthorizedUsers RolePermissions  role
-  AssignUser DeassignUser  user role
-  GrantPermission RevokePermission  operation object role
-  AddInheritance DeleteInheritance AddAscendant AddDescendant  ascendant descendant
-  CreateSession  user session roles
-  DeleteSession  user session
-  AddActiveRole DropActiveRole  user session role
-  CheckAccess  session operation object
-  SessionRoles SessionPermissions  session
-  RoleOperationsOnObject  role object
-  UserOperationsOnObject  user object
-  CreateSsdSet CreateDsdSet  set roles n
-  DeleteSsdSet DeleteDsdSet  set
-  AddSsdRoleMember AddDsdRoleMember DeleteSsdRoleMember DeleteDsdRoleMember  set role
-  SetSsdSetCardinality SetDsdSetCardinality  set n
-  SsdRoleSets DsdRoleSets
-  SsdRoleSetRoles DsdRoleSetRoles SsdRoleSetCardinality DsdRoleSetCardinality  set
-
-A founding file is TOML with the keys
-  version                    1 or 2, needed
-  hierarchy                  \"general\" or \"limited\", needed in version 2; version 1 has no such key, and is general
-  members                    a whole number from 1 to 8, needed
-  operations, objects        arrays of names, needed
-  permissions                an array of [operation, object], needed
-  clock, sent_limit          whole numbers; 0 and 65536 where they are absent
-A name has 1 to 64 bytes of A-Z a-z 0-9 _ - and the full stop.
-
-Examples:
-  echo '{\"at\":1,\"command\":{\"name\":\"AddUser\",\"user\":\"ann\"}}' | rbac_monitor serve -
-  your_program | rbac_monitor serve FOUNDING | what_reads_the_answers
-
-Status:
-  0  the input was read to its end, or this help was asked for and written
-  1  a fault of a file, of the founding, of the run or of the audit: one line on the error stream
-  2  the command line is refused";
-
-const FOUNDING: &str = "The file of the founding, or - for the sample founding";
-
-const SCHEDULE: &str = "The file of the lines, or - for standard input";
-
-fn path<'w>(alloc: Global, id: &'w str, help: &'w str) -> Arg<'w> {
-    Arg::new(alloc, id)
-        .required(true)
-        .action(ArgAction::Set)
-        .help(help)
+// The value of an argument that is required, or has `-` as its default.
+fn word_of<'w>(matches: &ArgMatches<'w>, id: &str) -> &'w str {
+    matches.get_str(id).unwrap_or("-")
 }
 
-// The subcommand that plays a schedule.
-fn playing<'w>(alloc: Global) -> Result<Command<'w>, AllocError> {
-    Command::new(alloc, "play")
-        .about("Plays the lines of SCHEDULE on the world of FOUNDING")
-        .arg(path(alloc, "FOUNDING", FOUNDING))?
-        .arg(path(alloc, "SCHEDULE", SCHEDULE))
+fn lines_of<'w>(matches: &ArgMatches<'w>) -> Lines<'w> {
+    Lines {
+        founding: word_of(matches, "FOUNDING"),
+        path: word_of(matches, "LINES"),
+        are_client_lines: matches.get_flag("serve"),
+        is_lenient: matches.get_flag("lenient"),
+    }
 }
 
-// The subcommand that serves callers.
-fn serving<'w>(alloc: Global) -> Result<Command<'w>, AllocError> {
-    Command::new(alloc, "serve")
-        .about(
-            "Serves callers by the members of FOUNDING: standard input has one command of a member a line",
-        )
-        .arg(path(alloc, "FOUNDING", FOUNDING))
+// A session, an operation and an object are a check; a word alone is a command.
+fn question_of<'w>(matches: &ArgMatches<'w>) -> Question<'w> {
+    match (matches.get_str("OPERATION"), matches.get_str("OBJECT")) {
+        (Some(operation), Some(object)) => Question::WhyCheck {
+            session: word_of(matches, "QUESTION"),
+            operation,
+            object,
+        },
+        _ => Question::WhyCommand(word_of(matches, "QUESTION")),
+    }
 }
 
-// One subcommand more.
-fn add<'w>(
-    line: Command<'w>,
-    next: Result<Command<'w>, AllocError>,
-) -> Result<Command<'w>, AllocError> {
-    line.subcommand(next?)
+fn shown_of<'w>(matches: &ArgMatches<'w>) -> Question<'w> {
+    if matches.get_flag("dot") {
+        Question::Graph
+    } else {
+        Question::Page
+    }
 }
 
-fn command_line<'w>(alloc: Global) -> Result<Command<'w>, AllocError> {
-    let line = Command::new(alloc, "rbac_monitor")
-        .bin_name("rbac_monitor")?
-        .version(VERSION)
-        .about(ABOUT)
-        .after_help(AFTER_HELP);
-    let line = add(line, playing(alloc))?;
-    add(line, serving(alloc))
+fn dump_of<'w>(matches: &ArgMatches<'w>) -> Asked<'w> {
+    match matches.get_str("to") {
+        Some(folder) => Asked::DumpTo(lines_of(matches), folder),
+        None => Asked::Tell(lines_of(matches), Question::Dump),
+    }
+}
+
+fn trace_of<'w>(matches: &ArgMatches<'w>) -> Asked<'w> {
+    if matches.get_flag("svg") {
+        Asked::Diagram(lines_of(matches))
+    } else {
+        Asked::Trace(lines_of(matches))
+    }
+}
+
+fn who_of<'w>(matches: &ArgMatches<'w>) -> Asked<'w> {
+    let question = Question::Who {
+        operation: word_of(matches, "OPERATION"),
+        object: word_of(matches, "OBJECT"),
+    };
+    Asked::Tell(lines_of(matches), question)
+}
+
+fn difference_of<'w>(matches: &ArgMatches<'w>) -> Asked<'w> {
+    Asked::Differ(Difference {
+        founding: word_of(matches, "FOUNDING"),
+        from: word_of(matches, "FROM"),
+        to: word_of(matches, "TO"),
+        is_lenient: matches.get_flag("lenient"),
+    })
+}
+
+fn lint_of<'w>(matches: &ArgMatches<'w>) -> Asked<'w> {
+    Asked::Lint(Lint {
+        founding: word_of(matches, "FOUNDING"),
+        lines: matches.get_str("LINES"),
+        are_client_lines: matches.get_flag("serve"),
+    })
 }
 
 fn asked_of<'w>(matches: &ArgMatches<'w>) -> Asked<'w> {
     match matches.subcommand() {
-        Some(("serve", paths)) => Asked::Serve(paths.get_str("FOUNDING").unwrap_or("-")),
-        Some((_, paths)) => Asked::Play(Play {
-            founding: paths.get_str("FOUNDING").unwrap_or("-"),
-            schedule: paths.get_str("SCHEDULE").unwrap_or("-"),
+        Some(("serve", words)) => Asked::Serve(word_of(words, "FOUNDING")),
+        Some(("dump", words)) => dump_of(words),
+        Some(("show", words)) => Asked::Tell(lines_of(words), shown_of(words)),
+        Some(("why", words)) => Asked::Tell(lines_of(words), question_of(words)),
+        Some(("who", words)) => who_of(words),
+        Some(("trace", words)) => trace_of(words),
+        Some(("diff", words)) => difference_of(words),
+        Some(("lint", words)) => lint_of(words),
+        Some((_, words)) => Asked::Play(Play {
+            founding: word_of(words, "FOUNDING"),
+            schedule: word_of(words, "SCHEDULE"),
         }),
         None => Asked::Play(SAMPLE_AND_INPUT),
     }

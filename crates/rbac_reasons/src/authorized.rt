@@ -28,12 +28,11 @@ pub(crate) fn authorized_by(
     reached(alloc, declared, &starts)
 }
 
-/// The roles that a user is authorized for.
-pub(crate) fn authorized_roles(
-    alloc: Global,
-    policy: &Policy,
-    user: &Name,
-) -> Result<NameSet, AllocError>
+/// The roles that a user is authorized for, as a set.
+///
+/// # Errors
+/// `AllocError` where there is no memory for it.
+pub fn authorized_roles(alloc: Global, policy: &Policy, user: &Name) -> Result<NameSet, AllocError>
     ensures { IfOk result (λ roles. (role : NameValue) → has name_cmp role roles ≡ is_authorized policy.now user.now role) }
 {
     policy.invariants();

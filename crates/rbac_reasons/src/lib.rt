@@ -13,6 +13,7 @@ mod sorted;
 mod told;
 mod walk;
 
+pub use authorized::authorized_roles;
 pub use chain::Chain;
 pub use denied::hindrance;
 pub use granted::reason;

@@ -1,7 +1,7 @@
 //! What is told of an answer: the reason of a grant, and the hindrance of a denial.
 
 use crate::chain::Chain;
-use rbac_terms::{Name, NameSet, Separation};
+use rbac_terms::{Denial, Name, NameSet, Separation};
 
 /// Why a session may perform an operation on an object.
 #[derive(Drop)]
@@ -148,4 +148,46 @@ pub enum Hindrance {
     Limited {
         descendant: Name,
     },
+}
+
+impl Hindrance {
+    ghost use Rattle.std.specs.Prelude.{◌≡◌};
+    ghost use Rattle.rbac_reasons.specs.Hindrance.{denial_of};
+
+    /// The denial that it explains.
+    pub fn denial(&self) -> Denial
+        ensures { result ≡ denial_of self.now }
+    {
+        match self {
+            Hindrance::UserExists { .. } => Denial::UserExists,
+            Hindrance::NoUser { .. } => Denial::NoUser,
+            Hindrance::RoleExists { .. } => Denial::RoleExists,
+            Hindrance::NoRole { .. } => Denial::NoRole,
+            Hindrance::Assigned { .. } => Denial::Assigned,
+            Hindrance::NotAssigned { .. } => Denial::NotAssigned,
+            Hindrance::NoPermission { .. } => Denial::NoPermission,
+            Hindrance::NotGranted { .. } => Denial::NotGranted,
+            Hindrance::SessionExists { .. } => Denial::SessionExists,
+            Hindrance::NoSession { .. } => Denial::NoSession,
+            Hindrance::NotOwner { .. } => Denial::NotOwner,
+            Hindrance::NotAuthorized { .. } => Denial::NotAuthorized,
+            Hindrance::RoleActive { .. } => Denial::RoleActive,
+            Hindrance::RoleNotActive { .. } => Denial::RoleNotActive,
+            Hindrance::Inherits { .. } => Denial::Inherits,
+            Hindrance::NoInheritance { .. } => Denial::NoInheritance,
+            Hindrance::Cycle { .. } => Denial::Cycle,
+            Hindrance::SsdViolated { .. } => Denial::SsdViolated,
+            Hindrance::DsdViolated { .. } => Denial::DsdViolated,
+            Hindrance::SetExists { .. } => Denial::SetExists,
+            Hindrance::NoSet { .. } => Denial::NoSet,
+            Hindrance::BadCardinality { .. } => Denial::BadCardinality,
+            Hindrance::InSet { .. } => Denial::InSet,
+            Hindrance::NotInSet { .. } => Denial::NotInSet,
+            Hindrance::RoleConstrained { .. } => Denial::RoleConstrained,
+            Hindrance::Limit { .. } => Denial::Limit,
+            Hindrance::NoOperation { .. } => Denial::NoOperation,
+            Hindrance::NoObject { .. } => Denial::NoObject,
+            Hindrance::Limited { .. } => Denial::Limited,
+        }
+    }
 }

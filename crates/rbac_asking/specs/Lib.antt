@@ -1,4 +1,0 @@
-pub mod Failures
-pub mod Applying
-pub mod Tracing
-pub mod Asked

@@ -1,0 +1,86 @@
+//! What two inputs of client lines leave differently.
+
+use crate::fault::Fault;
+use crate::founding_file::founding_of;
+use crate::telling::lines::{serve, served_of, write_whole};
+use crate::words::Difference;
+use rbac_decide::Policy;
+use rbac_lines::RunFault;
+use rbac_pages::{COMMAND_ROOM, client_lines};
+use rbac_telling::{LeadingRefusal, Served, commands_between};
+use rbac_terms::Command;
+use std::alloc::Global;
+use std::fs;
+use std::io::Write;
+use std::rt::Files;
+
+// The group of the founding after the client lines of a file.
+fn served_by<'w, T: Files + AllocGlobal, E: Write>(
+    rt: &T,
+    asked: Difference<'w>,
+    path: &'w str,
+    errors: &mut E,
+) -> Result<Served, Fault<'w>> {
+    let mut served = served_of(rt.alloc(), founding_of(rt, asked.founding)?);
+    let read = match fs::open(rt, path) {
+        Ok(file) => serve(rt.alloc(), &mut served, file, asked.is_lenient, errors),
+        Err(_) => Err(Fault::File(path)),
+    };
+    match read {
+        Ok(()) => Ok(served),
+        Err(fault) => {
+            drop(served);
+            Err(fault)
+        }
+    }
+}
+
+// The client lines of commands.
+fn lines_of<'w>(alloc: Global, commands: &[Command]) -> Result<Vec<u8>, Fault<'w>> {
+    match client_lines(alloc, commands) {
+        Ok(text) => Ok(text),
+        Err(_) => Err(Fault::Run(RunFault::NoMemory)),
+    }
+}
+
+// Writes the client lines that lead from one policy to the other.
+fn write_between<'w, W: Write>(
+    alloc: Global,
+    from: &Policy,
+    to: &Policy,
+    writer: &mut W,
+) -> Result<(), Fault<'w>> {
+    match commands_between(alloc, from, to, COMMAND_ROOM) {
+        Ok(commands) => write_whole(writer, &lines_of(alloc, &commands)?),
+        Err(LeadingRefusal::NotMade) => Err(Fault::NotMade),
+        Err(LeadingRefusal::NoMemory) => Err(Fault::Run(RunFault::NoMemory)),
+    }
+}
+
+// Reads the second input, and writes what leads to its policy.
+fn differ_from<'w, T: Files + AllocGlobal, W: Write, E: Write>(
+    rt: &T,
+    asked: Difference<'w>,
+    from: &Policy,
+    writer: &mut W,
+    errors: &mut E,
+) -> Result<(), Fault<'w>> {
+    let to = served_by(rt, asked, asked.to, errors)?;
+    let written = write_between(rt.alloc(), from, to.policy(), writer);
+    drop(to);
+    written
+}
+
+/// Writes the client lines that lead from the policy of one input of client lines to that of another: from the first each is answered
+/// Done, and they leave the second.
+pub(crate) fn differ<'w, T: Files + AllocGlobal, W: Write, E: Write>(
+    rt: &T,
+    asked: Difference<'w>,
+    writer: &mut W,
+    errors: &mut E,
+) -> Result<(), Fault<'w>> {
+    let from = served_by(rt, asked, asked.from, errors)?;
+    let told = differ_from(rt, asked, from.policy(), writer, errors);
+    drop(from);
+    told
+}

@@ -1,0 +1,4 @@
+mod FollowsLemmas
+mod LeadingLemmas
+mod OutputLemmas
+mod QuestionLemmas

@@ -1,0 +1,7 @@
+use Rattle.rbac_terms.specs.State.{State}
+use Rattle.rbac_telling.specs.Leading.{IsLed}
+use Rattle.rbac_telling.proofs.leading.Way.put_in.Given as goal
+
+-- from wherever it came so far, it still comes
+abbrev pub invariant-loop-command : goal.invariant-loop-command
+invariant-loop-command l = (s : State) → IsLed s l.fn.self.commands.items l.fn.self.policy → IsLed s l.self.commands.items l.self.policy
