@@ -3,12 +3,14 @@
  * A place holds one policy, or none. Its holder owns it: any memory of this type, all zeros at first.
  *
  * What the caller owes, for nothing checks this side:
- *   - a place is never copied, and its fields are never read or written, while it is full;
+ *   - a place is never copied, and its fields are never read or written, while it is full; `is_full` holds 0 or 1;
  *   - a place is used by one call at a time; with a lock round it any thread may call, and two places
  *     never need a lock;
  *   - a pointer to bytes is never null, also where the length is 0, and points to as many bytes as
- *     the length says; `out`, `written`, `place` and what is read do not overlap;
- *   - no call is made in a signal handler, or in the forked child of a process with threads;
+ *     the length says, which is at most that of the largest object (PTRDIFF_MAX), and of `out` too these
+ *     bytes are initialised; `out`, `written`, `place` and what is read do not overlap;
+ *   - no call is made in a signal handler, or in the forked child of a process with threads, and none is
+ *     left by a longjmp;
  *   - malloc, realloc and free are those of one allocator, which aligns as the C library does.
  *
  * What each number means, it means in all calls. docs/EMBEDDING.md has the rest.
@@ -100,7 +102,7 @@ uint32_t policy_check(struct policy_place *place, const uint8_t *session, size_t
  * DONE; SHORT_BUFFER, `out` as it was; EMPTY_PLACE, NO_MEMORY. */
 uint32_t policy_dump(struct policy_place *place, uint8_t *out, size_t out_length, size_t *written);
 
-/* Ends the policy, and gives back all its memory. The place is empty then, and may be opened again.
+/* Ends the policy, and frees its memory. The place is empty then, and may be opened again.
  * DONE, EMPTY_PLACE. */
 uint32_t policy_close(struct policy_place *place);
 

@@ -1,7 +1,7 @@
-//! Dumps: client lines that make a policy again, as the second program tells them.
+//! Dumps: client lines that make a policy again, as the monitor tells them.
 //!
 //! A case is client lines that make a policy, the mark, and client lines that are asked then. They are played in two ways: the first
-//! lines as they are, and in their place what the second program tells of their policy, of a group that was just founded.
+//! lines as they are, and in their place what the monitor tells of their policy, of a group that was just founded.
 
 use crate::case::{Case, Played, lines_of};
 use crate::coverage::command_of;
@@ -31,9 +31,9 @@ pub fn behind_the_mark(case: &Case) -> Case {
     with_lines(case, &parts_of(case).1)
 }
 
-/// The client lines of a case as the second program is asked for their dump.
+/// The client lines of a case as the monitor is asked for their dump.
 fn dumping(case: &Case, lines: &[&[u8]]) -> Case {
-    let words = ["dump", "--serve", &case.words[1], "-"].map(str::to_owned);
+    let words = ["dump", "--serve", "--lenient", &case.words[1], "-"].map(str::to_owned);
     Case { words: words.to_vec(), ..with_lines(case, lines) }
 }
 
@@ -85,7 +85,7 @@ fn unnumbered(answers: &[&[u8]]) -> Vec<u8> {
     answers.iter().map(without).collect::<String>().into_bytes()
 }
 
-/// What the second program tells of the policy in the place of the lines before the mark. What it prints are the answers of the
+/// What the monitor tells of the policy in the place of the lines before the mark. What it prints are the answers of the
 /// monitor behind the mark, and then what is wrong besides.
 pub struct Again<'a> {
     asked: &'a dyn Player,
@@ -134,7 +134,7 @@ impl<'a> Again<'a> {
         Again { asked, reference, program, counted: RefCell::default() }
     }
 
-    /// What the second program tells of the lines before the mark.
+    /// What the monitor tells of the lines before the mark.
     fn dumps_of(&self, cases: &[Case]) -> Result<Vec<Played>, String> {
         self.asked.play(&cases.iter().map(|case| dumping(case, &parts_of(case).0)).collect::<Vec<_>>())
     }

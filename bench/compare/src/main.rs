@@ -32,7 +32,7 @@ use std::process::ExitCode;
 
 const HELP: &str = "\
 usage: compare --reference PROGRAM --room FOLDER (--program PROGRAM | --try FOLDER | --library | --library-briefly) [--lines N] [--seed N] [--without-reviews] [--groups] [--serve]
-       compare --dumps --reference PROGRAM --room FOLDER (--program PROGRAM | --try FOLDER) (--ask PROGRAM | --try-ask FOLDER) [--without-limits] [--lines N] [--seed N]
+       compare --dumps --reference PROGRAM --room FOLDER (--program PROGRAM | --try FOLDER) [--without-limits] [--lines N] [--seed N]
 
   --reference PROGRAM  the reference
   --program PROGRAM    the monitor, as built
@@ -45,10 +45,8 @@ usage: compare --reference PROGRAM --room FOLDER (--program PROGRAM | --try FOLD
   --without-reviews    no review commands
   --groups             random schedules of groups alone
   --serve              the submits of the schedules as lines of a client of serve
-  --dumps              what the second program tells of policies of such lines, in their place, and what is asked then
-  --ask PROGRAM        the second program, as built
-  --try-ask FOLDER     the folder of its crate: it is built and run by rt try
-  --without-limits     no dumps at the limits, which take the second program minutes where it was built without a proof";
+  --dumps              the dumps that the monitor makes of policies of such lines, in their place, and what is asked then
+  --without-limits     no dumps at the limits, which take the monitor minutes where it was built without a proof";
 
 /// Random lines for dumps, where a program is built and run by rt try.
 const LINES_OF_DUMPS_TRIED: usize = 20_000;
@@ -62,15 +60,7 @@ struct Words {
     serve: bool,
     dumps: bool,
     limits: bool,
-    asked: Asked,
     library: Option<Extent>,
-}
-
-/// The second program.
-#[derive(Default)]
-struct Asked {
-    program: Option<PathBuf>,
-    tried: Option<PathBuf>,
 }
 
 fn main() -> ExitCode {
@@ -99,7 +89,7 @@ fn read_words() -> Option<Words> {
     let members = Members::OneAndGroups;
     let mut choices = Choices { seed: 1, lines: 100_000, reviews: true, extent: Extent::Whole, members };
     let (mut lines, mut serve, mut library) = (None, false, None);
-    let (mut dumps, mut limits, mut asked) = (false, true, Asked::default());
+    let (mut dumps, mut limits) = (false, true);
     let mut words = std::env::args().skip(1);
     while let Some(word) = words.next() {
         match word.as_str() {
@@ -116,32 +106,30 @@ fn read_words() -> Option<Words> {
             "--serve" => serve = true,
             "--dumps" => dumps = true,
             "--without-limits" => limits = false,
-            "--ask" => asked.program = Some(words.next()?.into()),
-            "--try-ask" => asked.tried = Some(words.next()?.into()),
             _ => return None,
         }
     }
     if [program.is_some(), tried.is_some(), library.is_some()].into_iter().filter(|given| *given).count() != 1 {
         return None;
     }
-    if dumps == (asked.program.is_none() && asked.tried.is_none()) || dumps && (serve || library.is_some()) {
+    if dumps && (serve || library.is_some()) {
         return None;
     }
     if library.is_some() {
         choices.members = Members::One;
     }
-    if tried.is_some() || asked.tried.is_some() {
+    if tried.is_some() {
         (choices.extent, choices.lines) = (Extent::Short, 0);
     }
     let usual = if dumps && choices.lines == 0 { LINES_OF_DUMPS_TRIED } else { choices.lines };
     choices.lines = lines.unwrap_or(usual);
-    Some(Words { reference: reference?, program, tried, room: room?, choices, serve, dumps, limits, asked, library })
+    Some(Words { reference: reference?, program, tried, room: room?, choices, serve, dumps, limits, library })
 }
 
 /// Whether the programs never differed and all that can occur did.
 fn compare(words: &Words) -> Result<bool, String> {
     let reference = binary(&words.reference, &words.room.join("reference"))?;
-    let program = monitor(words)?;
+    let program = monitor(words, "program")?;
     let choices = &words.choices;
     println!("seed {}", choices.seed);
     let pair = Pair { reference: &reference, program: program.as_ref() };
@@ -169,7 +157,7 @@ fn compare(words: &Words) -> Result<bool, String> {
 /// The same of client lines: what one client is answered, line by line.
 fn compare_serving(words: &Words) -> Result<bool, String> {
     let reference = binary(&words.reference, &words.room.join("reference"))?;
-    let program = monitor(words)?;
+    let program = monitor(words, "program")?;
     let pair = Pair { reference: &reference, program: program.as_ref() };
     let mut cases = generate::fixed_cases(&words.choices);
     cases.extend(choose::chosen_cases(&reference, &words.choices, &cases)?);
@@ -198,7 +186,7 @@ fn compare_serving(words: &Words) -> Result<bool, String> {
 /// The same of dumps: what is asked of a policy that was made again is answered as it is of the policy itself.
 fn compare_dumps(words: &Words) -> Result<bool, String> {
     let reference = binary(&words.reference, &words.room.join("reference"))?;
-    let (program, asked) = (monitor(words)?, second_program(words)?);
+    let (program, asked) = (monitor(words, "program")?, monitor(words, "asked")?);
     let direct = Direct { reference: &reference };
     let again = Again::new(asked.as_ref(), &reference, program.as_ref());
     let pair = Pair { reference: &direct, program: &again };
@@ -269,25 +257,14 @@ fn compare_calls(_: &Words, _: Extent) -> Result<bool, String> {
     Err("built without the library".to_owned())
 }
 
-fn monitor(words: &Words) -> Result<Box<dyn Player>, String> {
+fn monitor(words: &Words, room: &str) -> Result<Box<dyn Player>, String> {
     match (&words.program, &words.tried) {
-        (Some(program), _) => Ok(Box::new(binary(program, &words.room.join("program"))?)),
+        (Some(program), _) => Ok(Box::new(binary(program, &words.room.join(room))?)),
         (None, Some(folder)) => {
-            let room = absolute(&words.room)?.join("tried");
+            let room = absolute(&words.room)?.join(room);
             Ok(Box::new(Tried { crate_folder: folder.clone(), room }))
         }
         (None, None) => Err("no program".to_owned()),
-    }
-}
-
-fn second_program(words: &Words) -> Result<Box<dyn Player>, String> {
-    match (&words.asked.program, &words.asked.tried) {
-        (Some(program), _) => Ok(Box::new(binary(program, &words.room.join("asked"))?)),
-        (None, Some(folder)) => {
-            let room = absolute(&words.room)?.join("tried_asked");
-            Ok(Box::new(Tried { crate_folder: folder.clone(), room }))
-        }
-        (None, None) => Err("no second program".to_owned()),
     }
 }
 
