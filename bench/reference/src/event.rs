@@ -1,11 +1,13 @@
 //! A schedule line as an event.
 
+mod asked;
 mod commands;
 mod fields;
 
 use crate::command::Command;
 use crate::json;
 use crate::limits;
+pub use asked::{Asked, Brought, read_asked};
 use fields::Fields;
 
 pub enum Event {

@@ -21,3 +21,5 @@ pub const MEMBERS: u32 = 8;
 
 /// Commands of one message.
 pub const BATCH: usize = 64;
+/// The bytes of a message's text that a line brings to another member.
+pub const MESSAGE_BYTES: usize = 65_485;

@@ -1,18 +1,22 @@
 //! The output lines: compact JSON with keys in byte order. Names need no escapes.
 
-use crate::answer::{Answer, Denial};
-use crate::event::LineRefusal;
-use crate::name::Name;
-use crate::world::{EventRefusal, Outcome, Record, Stamp};
-use std::fmt;
-use std::io::Write;
-
 /// Writing into a vector cannot fail.
 macro_rules! put {
     ($text:expr, $($part:tt)*) => {
         write!($text, $($part)*).expect("a vector takes all bytes")
     };
 }
+
+pub mod alone;
+mod commands;
+
+use crate::answer::{Answer, Denial};
+use crate::command::Command;
+use crate::event::LineRefusal;
+use crate::name::Name;
+use crate::world::{EventRefusal, Outcome, Record, Stamp};
+use std::fmt;
+use std::io::Write;
 
 /// The line for what became of an event.
 pub fn write_outcome(text: &mut Vec<u8>, line: u64, outcome: &Outcome) {
@@ -108,4 +112,10 @@ fn write_name(text: &mut Vec<u8>, name: &Name) {
     text.push(b'"');
     text.extend_from_slice(name.as_str().as_bytes());
     text.push(b'"');
+}
+
+pub fn command_length(command: &Command) -> usize {
+    let mut text = Vec::new();
+    commands::write_command(&mut text, command);
+    text.len()
 }

@@ -3,6 +3,7 @@
 //! A command names the first precondition of its row that fails, from left to right, and then nothing changes.
 
 mod core;
+mod dump;
 mod hierarchy;
 mod reviews;
 mod separation;

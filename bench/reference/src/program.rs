@@ -1,11 +1,11 @@
 //! The program's words, files, faults and statuses.
 
-use crate::event;
-use crate::founding::{self, FoundingRefusal};
+use crate::event::{self, Asked, Brought};
+use crate::founding::{self, Founding, FoundingRefusal};
 use crate::limits;
 use crate::lines::Lines;
-use crate::output;
-use crate::world::World;
+use crate::output::{self, alone};
+use crate::world::{Alone, EventRefusal, Message, World};
 use std::collections::HashMap;
 use std::ffi::OsString;
 use std::fs::File;
@@ -16,10 +16,11 @@ use std::process::ExitCode;
 const HELP: &str = "\
 Plays commands of role-based access control, one JSON object a line, and answers each line
 
-Usage: reference [play FOUNDING SCHEDULE | serve FOUNDING]
+Usage: reference [play FOUNDING SCHEDULE | serve FOUNDING | member FOUNDING NUMBER]
 
 FOUNDING is the file of the founding, or - for the sample founding.
 SCHEDULE is the file of the lines, or - for standard input.
+NUMBER is that of the member that takes lines.
 Without words: the same as 'play - -'.
 
 Status: 0 the input was read to its end, 1 a fault of a file, of the founding or of the run, 2 the words are refused
@@ -32,12 +33,14 @@ enum Words {
     Help,
     Play { founding: String, schedule: String },
     Serve { founding: String },
+    Member { founding: String, number: String },
 }
 
 /// What ends the program with status 1. The word in its message is the variant's name.
 enum Fault {
     File(String),
     Founding(FoundingRefusal),
+    NoMember(String),
     Run(RunFault),
 }
 
@@ -59,6 +62,7 @@ pub fn run(words: Vec<OsString>) -> ExitCode {
         }
         Some(Words::Play { founding, schedule }) => status_of(play(&founding, &schedule)),
         Some(Words::Serve { founding }) => status_of(serve(&founding)),
+        Some(Words::Member { founding, number }) => status_of(run_member(&founding, number)),
     };
     ExitCode::from(status)
 }
@@ -84,6 +88,9 @@ fn read_words(words: Vec<OsString>) -> Option<Words> {
             Some(Words::Play { founding: founding.into(), schedule: schedule.into() })
         }
         ["serve", founding] if is_path(founding) => Some(Words::Serve { founding: founding.into() }),
+        ["member", founding, number] if is_path(founding) && !number.starts_with('-') => {
+            Some(Words::Member { founding: founding.into(), number: number.into() })
+        }
         _ => None,
     }
 }
@@ -92,14 +99,18 @@ fn message(fault: &Fault) -> String {
     match fault {
         Fault::File(path) => format!("file: {path}"),
         Fault::Founding(refusal) => format!("founding: {refusal:?}"),
+        Fault::NoMember(number) => format!("member: {number}"),
         Fault::Run(fault) => format!("run: {fault:?}"),
     }
 }
 
-fn found(path: &str) -> Result<World, Fault> {
+fn read_founding(path: &str) -> Result<Founding, Fault> {
     let bytes = read_founding_file(path).map_err(|_| Fault::File(path.into()))?;
-    let founding = founding::read_founding(&bytes).map_err(Fault::Founding)?;
-    Ok(World::new(founding))
+    founding::read_founding(&bytes).map_err(Fault::Founding)
+}
+
+fn found(path: &str) -> Result<World, Fault> {
+    read_founding(path).map(World::new)
 }
 
 /// Not the buffered standard output: each answer goes out when it is made.
@@ -112,6 +123,14 @@ fn serve(founding: &str) -> Result<(), Fault> {
     let mut world = found(founding)?;
     let input = BufReader::with_capacity(READ_BYTES, io::stdin().lock());
     serve_lines(input, unbuffered_output()?, &mut world).map_err(Fault::Run)
+}
+
+fn run_member(founding: &str, number: String) -> Result<(), Fault> {
+    let founding = read_founding(founding)?;
+    let member = number.parse().ok().and_then(|number| Alone::new(founding, number));
+    let mut member = member.ok_or(Fault::NoMember(number))?;
+    let input = BufReader::with_capacity(READ_BYTES, io::stdin().lock());
+    run_member_lines(input, unbuffered_output()?, &mut member).map_err(Fault::Run)
 }
 
 fn play(founding: &str, schedule: &str) -> Result<(), Fault> {
@@ -180,4 +199,64 @@ fn serve_lines(input: impl BufRead, mut output: impl Write, world: &mut World) -
         output.write_all(&text).map_err(|_| RunFault::Write)?;
     }
     Ok(())
+}
+
+/// Each line asks one thing of the member.
+fn run_member_lines(input: impl BufRead, mut output: impl Write, member: &mut Alone) -> Result<(), RunFault> {
+    let mut lines = Lines::new(input);
+    let mut number = 0;
+    let mut text = Vec::new();
+    while let Some(line) = lines.next().map_err(|_| RunFault::Read)? {
+        number += 1;
+        text.clear();
+        match event::read_asked(line) {
+            Err(refusal) => output::write_line_refusal(&mut text, number, refusal),
+            Ok(asked) => {
+                if let Err(refusal) = answer_asked(&mut text, number, asked, member) {
+                    output::write_event_refusal(&mut text, number, refusal);
+                }
+            }
+        }
+        output.write_all(&text).map_err(|_| RunFault::Write)?;
+    }
+    Ok(())
+}
+
+fn answer_asked(text: &mut Vec<u8>, line: u64, asked: Asked, member: &mut Alone) -> Result<(), EventRefusal> {
+    match asked {
+        Asked::Submit(batch) => {
+            let message = member.message_of(batch)?;
+            short_text(&message)?;
+            alone::write_number(text, line, member.send(message));
+        }
+        Asked::Next(batch) => alone::write_message(text, line, Some(&short_text(&member.message_of(batch)?)?)),
+        Asked::Own { number, message } => {
+            short_text(&message)?;
+            alone::write_number(text, line, member.take_own(number, message)?);
+        }
+        Asked::Receive(Brought { from, number, message }) => {
+            alone::write_received(text, line, member.receive(from, number, message)?);
+        }
+        Asked::Answer(Brought { from, number, message }) => {
+            let answer = member.answer_to(from, number, &message)?;
+            alone::write_message(text, line, answer.as_ref().map(alone::message_text).as_deref());
+        }
+        Asked::Deliver => alone::write_delivered(text, line, member.deliver()),
+        Asked::Message { number } => {
+            let message = member.sent_message(number).ok_or(EventRefusal::NotSent)?;
+            alone::write_message(text, line, Some(&alone::message_text(message)));
+        }
+        Asked::Record { number } => {
+            alone::write_told_record(text, line, member.delivered(number).ok_or(EventRefusal::NotSent)?);
+        }
+        Asked::Waits => alone::write_waits(text, line, member.waits()),
+        Asked::Dump => alone::write_dump(text, line, &member.dump()),
+    }
+    Ok(())
+}
+
+/// The text of a message, where the line that brings it to another member has room for it.
+fn short_text(message: &Message) -> Result<Vec<u8>, EventRefusal> {
+    let text = alone::message_text(message);
+    if text.len() <= limits::MESSAGE_BYTES { Ok(text) } else { Err(EventRefusal::MessageTooLong) }
 }

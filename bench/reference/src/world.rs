@@ -8,6 +8,7 @@ use crate::event::Event;
 use crate::founding::Founding;
 use crate::limits;
 use crate::policy::Policy;
+pub use member::{Alone, Delivered};
 use member::{Limits, Member};
 use std::rc::Rc;
 
@@ -43,27 +44,29 @@ pub enum EventRefusal {
     NotSent,
     Repeat { expected: u32 },
     Gap { expected: u32 },
+    StampNotRising,
     ClockFull,
     SentFull,
     BadSerial { next: u32 },
+    MessageTooLong,
 }
 
 /// What a member sends to all others. Without a batch it is an acknowledgement.
 #[derive(Clone)]
-struct Message {
-    stamp: Stamp,
-    batch: Option<Rc<Batch>>,
+pub struct Message {
+    pub stamp: Stamp,
+    pub batch: Option<Rc<Batch>>,
 }
 
 /// Commands of one caller as they were submitted. The serial is that of the first, and each other one has the next.
-struct Batch {
-    caller: u32,
-    serial: u32,
-    commands: Vec<Command>,
+pub struct Batch {
+    pub caller: u32,
+    pub serial: u32,
+    pub commands: Vec<Command>,
 }
 
 impl Batch {
-    fn of_one(caller: u32, serial: u32, command: Command) -> Batch {
+    pub fn of_one(caller: u32, serial: u32, command: Command) -> Batch {
         Batch { caller, serial, commands: vec![command] }
     }
 

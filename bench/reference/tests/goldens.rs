@@ -6,7 +6,7 @@
 
 mod playing;
 
-use playing::{founding_file, played};
+use playing::{founding_file, printed};
 use std::fs;
 use std::path::{Path, PathBuf};
 use std::process::Command;
@@ -54,7 +54,7 @@ fn refused(founding: &str) -> String {
 
 fn check(path: &Path, golden: &str, founding: &str) {
     let wanted = lines_after(golden, "< ");
-    let got = played(founding, lines_after(golden, "> "));
+    let got = printed("play", founding, "-", lines_after(golden, "> "));
     for (line, (got, wanted)) in got.lines().zip(wanted.lines()).enumerate() {
         assert_eq!(got, wanted, "{} line {}", path.display(), line + 1);
     }

@@ -1,5 +1,8 @@
 //! What words, files and streams get: status, output and errors.
 
+mod holders;
+mod member_lines;
+
 use rbac_program::command::command;
 use std::io::{Error, ErrorKind, Read, Write};
 use std::process::Abort;
@@ -19,20 +22,30 @@ const ANSWERS: &[u8] = br#"{"line":1,"stamp":[1,1]}
 {"answer":"Done","caller":0,"line":2,"serial":0,"stamp":[1,1]}
 "#;
 
-/// A call with these words after the program's name, and with this input, ends with status 0 and this output, and writes no
-/// error.
+/// A call with these words after the program's name, and with this input, ends with this status and this output, and writes no error.
+fn expect_told<T: Files + AllocGlobal + Threads + Wait + Clock + Abort + Copy + Send + Sync>(
+    rt: &T,
+    words: &[&str],
+    input: &[u8],
+    status: u8,
+    told: &[u8],
+) {
+    let mut output = Vec::new(rt.alloc());
+    let mut errors = Vec::new(rt.alloc());
+    let answered = command(rt, words, input, &mut output, &mut errors);
+    assert_eq!(rt; answered, status);
+    assert!(rt; output.as_slice() == told);
+    assert!(rt; errors.is_empty());
+}
+
+/// The same with status 0.
 fn expect_answers<T: Files + AllocGlobal + Threads + Wait + Clock + Abort + Copy + Send + Sync>(
     rt: &T,
     words: &[&str],
     input: &[u8],
     answers: &[u8],
 ) {
-    let mut output = Vec::new(rt.alloc());
-    let mut errors = Vec::new(rt.alloc());
-    let answered = command(rt, words, input, &mut output, &mut errors);
-    assert_eq!(rt; answered, 0);
-    assert!(rt; output.as_slice() == answers);
-    assert!(rt; errors.is_empty());
+    expect_told(rt, words, input, 0, answers);
 }
 
 /// The same where the input is the schedule.
@@ -181,22 +194,6 @@ const MADE: &[u8] = br#"{"at":1,"command":{"name":"AddUser","user":"ann"}}
 {"at":1,"command":{"name":"CreateSession","user":"ann","session":"s1","roles":["clerk"]}}
 "#;
 
-/// A call with these words and this input ends with this status and this output, and writes no error.
-fn expect_told<T: Files + AllocGlobal + Threads + Wait + Clock + Abort + Copy + Send + Sync>(
-    rt: &T,
-    words: &[&str],
-    input: &[u8],
-    status: u8,
-    told: &[u8],
-) {
-    let mut output = Vec::new(rt.alloc());
-    let mut errors = Vec::new(rt.alloc());
-    let answered = command(rt, words, input, &mut output, &mut errors);
-    assert_eq!(rt; answered, status);
-    assert!(rt; output.as_slice() == told);
-    assert!(rt; errors.is_empty());
-}
-
 #[test]
 fn tells_the_policy_that_lines_leave(rt: HostRuntime) {
     let dump = ["rbac_monitor", "dump", "--serve", "-", "-"];
@@ -267,6 +264,66 @@ fn a_refused_line_ends_what_is_told(rt: HostRuntime) {
     assert!(rt; told.as_slice() == errors.as_slice());
     let lenient = ["rbac_monitor", "dump", "--lenient", "-", "-"];
     expect_told(&rt, &lenient, MADE, 0, b"");
+}
+
+// Ann and bob, of whom bob is the clerk.
+const BOB_IS_CLERK: &[u8] = br#"{"at":1,"command":{"name":"AddUser","user":"ann"}}
+{"at":1,"command":{"name":"AddUser","user":"bob"}}
+{"at":1,"command":{"name":"AddRole","role":"clerk"}}
+{"at":1,"command":{"name":"AssignUser","user":"bob","role":"clerk"}}
+"#;
+
+#[test]
+fn diff_tells_what_leads_from_one_policy_to_the_other_and_what_each_has_alone(
+    rt: HostRuntime,
+) -> Result<(), Fail> {
+    let between = br#"{"at":1,"command":{"name":"DeleteSession","user":"ann","session":"s1"}}
+{"at":1,"command":{"name":"RevokePermission","operation":"read","object":"ledger","role":"clerk"}}
+{"at":1,"command":{"name":"DeassignUser","user":"ann","role":"clerk"}}
+{"at":1,"command":{"name":"AddUser","user":"bob"}}
+{"at":1,"command":{"name":"AssignUser","user":"bob","role":"clerk"}}
+"#;
+    fs::write(&rt, "ann_is_clerk.jsonl", MADE)?;
+    fs::write(&rt, "bob_is_clerk.jsonl", BOB_IS_CLERK)?;
+    let words = [
+        "rbac_monitor",
+        "diff",
+        "-",
+        "ann_is_clerk.jsonl",
+        "bob_is_clerk.jsonl",
+    ];
+    expect_answers(&rt, &words, b"", between);
+    let lists = br#"- {"at":1,"command":{"name":"AssignUser","user":"ann","role":"clerk"}}
+- {"at":1,"command":{"name":"GrantPermission","operation":"read","object":"ledger","role":"clerk"}}
+- {"at":1,"command":{"name":"CreateSession","user":"ann","session":"s1","roles":["clerk"]}}
++ {"at":1,"command":{"name":"AddUser","user":"bob"}}
++ {"at":1,"command":{"name":"AssignUser","user":"bob","role":"clerk"}}
+"#;
+    let words = [
+        "rbac_monitor",
+        "diff",
+        "--lists",
+        "-",
+        "ann_is_clerk.jsonl",
+        "bob_is_clerk.jsonl",
+    ];
+    expect_answers(&rt, &words, b"", lists);
+    fs::remove_file(&rt, "ann_is_clerk.jsonl")?;
+    fs::remove_file(&rt, "bob_is_clerk.jsonl")?;
+    Ok(())
+}
+
+#[test]
+fn trace_tells_what_each_line_does(rt: HostRuntime) {
+    let traced = br#"line 1: member 1 sends message 1 at [1,1] {"name":"AddUser","user":"ann"}
+  member 1 holds [1,1]; [1,1] may be delivered
+line 2: member 1 delivers [1,1]: "Done"
+  member 1 holds nothing
+at the end:
+  member 1: clock 1, messages sent 1, commands delivered 1
+  member 1 holds nothing
+"#;
+    expect(&rt, &["rbac_monitor", "trace", "-", "-"], traced);
 }
 
 #[test]

@@ -1,8 +1,9 @@
 //! A place for one monitor: the calls that another language makes, over values.
-ghost use Rattle.std.specs.Prelude.{◌≡◌, ◌≢◌, None, length, option_map};
-ghost use Rattle.rbac_embedded.specs.Holding.{answer_buffer, answer_length, answer_status, apply_buffer, apply_kept, apply_length, apply_status, check_status, close_status, dump_buffer, dump_length, dump_status, open_status, opened, room_status, with_text, IsDumpRead};
+ghost use Rattle.std.specs.Prelude.{◌≡◌, ◌≢◌, None, option_map};
+ghost use Rattle.rbac_embedded.specs.Holding.{answer_buffer, answer_length, answer_status, apply_buffer, apply_kept, apply_length, apply_status, check_status, close_status, dump_buffer, dump_length, dump_status, open_status, opened, IsDumpRead};
 ghost use Rattle.rbac_embedded.specs.Status.{no_memory, status_number};
 
+use crate::buffer::tell;
 use crate::monitor::Monitor;
 use crate::status::Status;
 use std::alloc::Global;
@@ -21,28 +22,6 @@ impl Model for Holder {
     ghost Value = { Option Kept };
 
     ghost view = { λ h. option_map (λ b. b.value) h.monitor };
-}
-
-/// Puts a text at the front of a buffer that has room for it.
-fn put_text(text: &[u8], out: &mut [u8]) -> Status
-    ensures status { result ≡ room_status text.now out.old }
-    ensures buffer { out.new ≡ with_text text.now out.old }
-{
-    if out.len() < text.len() {
-        return Status::ShortBuffer;
-    }
-    out[..text.len()].copy_from_slice(text);
-    Status::Done
-}
-
-// A text, and its length.
-fn tell(text: &[u8], out: &mut [u8], written: &mut usize) -> Status
-    ensures status { result ≡ room_status text.now out.old }
-    ensures buffer { out.new ≡ with_text text.now out.old }
-    ensures length { written.new ≡ length text.now }
-{
-    *written = text.len();
-    put_text(text, out)
 }
 
 impl Holder {

@@ -1,12 +1,14 @@
 //! A policy for a program that calls it in its own process: opened, changed and asked by bytes, and answered by texts and numbers.
 #![tactic(auto)]
 
+pub mod buffer;
 mod dumping;
 mod holder;
 mod monitor;
 pub mod status;
 pub mod verdict;
 
+pub use dumping::dump_lines;
 pub use holder::Holder;
 pub use monitor::Monitor;
 pub use status::Status;

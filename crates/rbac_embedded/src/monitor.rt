@@ -7,13 +7,11 @@ ghost use Rattle.rbac_text.specs.AnswerText.{answer_text};
 ghost use Rattle.rbac_embedded.specs.Calls.{after, applied, founded, verdict};
 ghost use Rattle.rbac_embedded.specs.Dump.{dump_text, IsReadBack};
 
-use crate::dumping::lines_of;
-use crate::verdict::Verdict;
-use line_engine::LONGEST_LINE;
+use crate::dumping::dump_lines;
+use crate::verdict::{Verdict, check};
 use rbac_decide::Policy;
-use rbac_dump::commands_of;
 use rbac_founding::{FoundingRefusal, read_founding};
-use rbac_terms::{Answer, Command, LentName};
+use rbac_terms::{Answer, Command};
 use rbac_text::{LineRefusal, put_answer, read_command};
 use std::alloc::{AllocError, Global};
 use std::marker::Model;
@@ -98,20 +96,7 @@ impl Monitor {
         ensures told { result ≡ verdict session.now operation.now object.now self.now.state }
         ensures listed { result ≡ Verdict.Granted → IsTrue (has pair_cmp (operation.now, object.now) (session_permissions self.now.state session.now)) }
     {
-        let Some(session) = LentName::read(session) else {
-            return Verdict::BadName;
-        };
-        let Some(operation) = LentName::read(operation) else {
-            return Verdict::BadName;
-        };
-        let Some(object) = LentName::read(object) else {
-            return Verdict::BadName;
-        };
-        match self.policy.check(&session, &operation, &object) {
-            Ok(true) => Verdict::Granted,
-            Ok(false) => Verdict::Refused,
-            Err(denial) => Verdict::Denied(denial),
-        }
+        check(&self.policy, session, operation, object)
     }
 
     /// The commands of the policy's dump, each as a JSON object in a line, which reads as just that command. A policy that was just founded
@@ -123,9 +108,7 @@ impl Monitor {
         ensures text { IfOk result (λ text. text.items ≡ dump_text self.now.state) }
         ensures reads { OnOk result (IsReadBack self.now.state) }
     {
-        let commands = commands_of(alloc, &self.policy, LONGEST_LINE)?;
-        let text = lines_of(alloc, &commands)?;
-        Ok(text)
+        dump_lines(alloc, &self.policy)
     }
 
     /// The text of the answer to the last command that was applied; empty before the first one.

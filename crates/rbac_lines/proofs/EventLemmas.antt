@@ -9,7 +9,7 @@ use Rattle.rbac_text.specs.declared.refusal.LineRefusal.TheVariants.{TooLong}
 
 event_long : (line : List ℕ) → longest_line < length line → event line ≡ Err TooLong
 unfolding event
-event_long line long = rw (value_of_long line long) refl
+event_long line long = rw (value_of_long longest_line line long) refl
 
 -- what is kept of a line stands for the same event
 pub event_clip : (line : List ℕ) → event (clip line) ≡ event line
@@ -17,7 +17,7 @@ event_clip line = front_value event (Err TooLong) longest_line event_long line
 
 client_long : (line : List ℕ) → longest_line < length line → client line ≡ Err TooLong
 unfolding client
-client_long line long = rw (value_of_long line long) refl
+client_long line long = rw (value_of_long longest_line line long) refl
 
 -- and asks for the same command
 pub client_clip : (line : List ℕ) → client (clip line) ≡ client line

@@ -1,4 +1,3 @@
-pub mod BatchLemmas
 pub mod ConversationLemmas
 pub mod EventLemmas
 pub mod RunLemmas

@@ -2,15 +2,15 @@
 -- then its object is checked whole: its word, the fields that belong to that from left to right, and no other key; and
 -- only then is the command object of a submit looked into, in the same way, or those of a batch, one after the other.
 use Rattle.std.specs.Prelude.{ℕ, List, [], ◌∷◌, codes, ok_or, Ok}
-use Rattle.serde_json.specs.Data.{Data, Items, no_items, item, Members}
+use Rattle.serde_json.specs.Data.{Members}
 use Rattle.serde_json.specs.Find.{as_object}
 use Rattle.rbac_words.specs.declared.event.Event.{Event}
-use Rattle.rbac_terms.specs.declared.command.Command.{Command}
 use Rattle.rbac_words.specs.declared.event.Event.TheVariants.{Submit, SubmitBatch, Receive, Deliver}
-use Rattle.rbac_text.specs.declared.refusal.LineRefusal.TheVariants.{NotObject, WrongKind}
+use Rattle.rbac_text.specs.declared.refusal.LineRefusal.TheVariants.{NotObject}
 use Rattle.rbac_text.specs.Steps.{◌>>=◌, ◌>>◌}
 use Rattle.rbac_text.specs.Fields.{Reading, whole_in, text_in, object_in, objects_in, only_keys, by_word, unknown}
 use Rattle.rbac_text.specs.Command.{command_of}
+use Rattle.rbac_text.specs.CommandArray.{commands_of}
 use Rattle.rbac_text.specs.Value.{value_of}
 
 -- submit: at, caller, serial, and the object command
@@ -23,20 +23,6 @@ submit object = do
   only_keys (codes "do" ∷ codes "at" ∷ codes "caller" ∷ codes "serial" ∷ codes "command" ∷ []) object
   command ← command_of fields
   Ok (Submit at caller serial command)
-
--- the command that an element of an array stands for
-abbrev pub command_in : Data → Reading Command
-command_in value = do
-  fields ← ok_or (as_object value) WrongKind
-  command_of fields
-
--- the commands that the elements stand for, one after the other
-abbrev pub commands_of : Items → Reading (List Command)
-commands_of no_items = Ok []
-commands_of (item value rest) = do
-  command ← command_in value
-  commands ← commands_of rest
-  Ok (command ∷ commands)
 
 -- batch: at, caller, serial, and the array commands, of objects
 abbrev pub batch : Members → Reading Event

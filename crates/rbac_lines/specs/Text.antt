@@ -1,5 +1,5 @@
 -- What a line is answered with: compact JSON without blanks, its keys in the order of their bytes, and a line feed.
-use Rattle.std.specs.Prelude.{ℕ, ◌==◌, if◌then◌else◌, List, ◌++◌, codes, decimal, Option, Some, None, Result, Ok, Err}
+use Rattle.std.specs.Prelude.{ℕ, List, ◌++◌, codes, decimal, Option, Some, None, Result, Ok, Err}
 use Rattle.rbac_words.specs.declared.stamp.Stamp.{Stamp}
 use Rattle.rbac_words.specs.declared.record.Record.{Record}
 use Rattle.rbac_terms.specs.declared.answer.Answer.{Answer}
@@ -12,14 +12,9 @@ use Rattle.rbac_lines.specs.declared.refusal.DeskRefusal.TheVariants.{UnknownMem
 use Rattle.rbac_text.specs.declared.refusal.LineRefusal.{LineRefusal}
 use Rattle.rbac_text.specs.AnswerText.{answer_text}
 use Rattle.rbac_text.specs.Refusals.{line_refusal_word}
+use Rattle.rbac_message_text.specs.StampText.{stamp_text}
 
 -- ---- Parts of a text
-
--- [1,1]: the clock and the member; [1,1,2] where there is a place other than 0
-abbrev pub stamp_text : Stamp → List ℕ
-stamp_text stamp =
-    if stamp.place == 0 then codes "[" ++ decimal stamp.clock ++ codes "," ++ decimal stamp.member ++ codes "]"
-    else codes "[" ++ decimal stamp.clock ++ codes "," ++ decimal stamp.member ++ codes "," ++ decimal stamp.place ++ codes "]"
 
 -- a stamp, or null where there is none
 abbrev pub stamp_or_null : Option Stamp → List ℕ

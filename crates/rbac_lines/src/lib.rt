@@ -17,4 +17,5 @@ pub use rbac_founding::{Founding, FoundingRefusal, read_founding, sample_foundin
 pub use rbac_text::{LineRefusal, put_answer, read_command};
 pub use reading::{kept_line_asks_the_same, read_client, read_line};
 pub use refusal::DeskRefusal;
-pub use running::run;
+pub use running::{MOST_READS, run};
+pub use text::{put_refused, put_refused_line, refuse};

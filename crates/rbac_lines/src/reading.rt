@@ -1,19 +1,16 @@
 //! Lines as events.
-ghost use Rattle.std.specs.Prelude.{◌≡◌, ◌≢◌, ◌++◌, ◌∷◌, [], IfOk, IfErr, OnOk, Ok, Err};
-ghost use Rattle.serde_json.specs.View.{view, items_view, members_view};
+ghost use Rattle.std.specs.Prelude.{◌≡◌, ◌≢◌, IfOk, IfErr, Ok, Err};
+ghost use Rattle.serde_json.specs.View.{members_view};
 ghost use Rattle.rbac_text.specs.Fields.{Reads};
-ghost use Rattle.rbac_lines.specs.Event.{event, event_of, command_in, commands_of, submit, batch, receive, deliver};
+ghost use Rattle.rbac_lines.specs.Event.{event, event_of, submit, batch, receive, deliver};
 
 mod client;
 
 pub use client::{kept_line_asks_the_same, read_client};
 use rbac_text::LineRefusal;
-use rbac_text::reading::fields::{
-    Object, Reading, object_in, objects_in, only_keys, text_in, whole_in,
-};
-use rbac_text::reading::{command_of, value_of};
-use rbac_words::{Command, Commands, Event};
-use serde_json::Value;
+use rbac_text::reading::fields::{Object, object_in, objects_in, only_keys, text_in, whole_in};
+use rbac_text::reading::{command_of, commands_of, value_of};
+use rbac_words::{Commands, Event};
 use std::alloc::Global;
 
 /// Reads a line, without its line feed. It is refused for the first of these: it is too long, it is no JSON, it is no
@@ -64,40 +61,6 @@ fn submit(alloc: Global, object: &Object) -> Result<Event, LineRefusal>
     })
 }
 
-/// The command that an element of an array stands for.
-fn command_in(alloc: Global, value: &Value) -> Reading<Command>
-    ensures { Reads (command_in (view value.now)) result }
-{
-    let fields = value.as_object().ok_or(LineRefusal::WrongKind)?;
-    command_of(alloc, fields)
-}
-
-/// One command more.
-fn add(commands: &mut Vec<Command>, command: Command) -> Reading<()>
-    ensures added { OnOk result (commands.new.items ≡ commands.old.items ++ command ∷ []) }
-    ensures refused { IfErr result (λ refusal. refusal ≡ LineRefusal.NoMemory) }
-{
-    match commands.push(command) {
-        Ok(()) => Ok(()),
-        Err(command) => {
-            drop(command);
-            Err(LineRefusal::NoMemory)
-        }
-    }
-}
-
-/// The commands that the elements of an array stand for: the first refusal is that of the first element that is refused.
-fn commands_of(alloc: Global, array: &[Value]) -> Reading<Commands>
-    ensures { Reads (commands_of (items_view array.now)) result }
-{
-    let mut commands = Vec::new(alloc);
-    for value in array {
-        let command = command_in(alloc, value)?;
-        add(&mut commands, command)?;
-    }
-    Ok(Commands::of(commands))
-}
-
 /// As of a submit, the outer object is checked whole before its commands are looked into.
 fn batch(alloc: Global, object: &Object) -> Result<Event, LineRefusal>
     ensures { Reads (batch (members_view object.now.entries)) result }
@@ -112,7 +75,7 @@ fn batch(alloc: Global, object: &Object) -> Result<Event, LineRefusal>
         at,
         caller,
         serial,
-        commands,
+        commands: Commands::of(commands),
     })
 }
 

@@ -15,7 +15,7 @@ use std::alloc::Global;
 use std::io::{Read, Write};
 
 /// How often a run or a conversation reads at most.
-pub(crate) const MOST_READS: u32 = 268_435_456;
+pub const MOST_READS: u32 = 268_435_456;
 
 /// Plays all lines of the reader on the world, and writes each line's text right after its step. On Ok the input was read
 /// to its end, and exactly its output was written. A fault says why the run ended early; the clause `outcome` says which

@@ -4,13 +4,11 @@ ghost use Rattle.std.specs.Prelude.{◌≡◌, ◌≢◌, ◌++◌, true, codes,
 ghost use Rattle.rbac_text.specs.AnswerText.{answer_text};
 ghost use Rattle.rbac_lines.specs.Text.{stamp_or_null, answered_text, bad_serial_text, reply_text, out_of_turn_text, submitted_text, received_text, delivered_text, nothing_delivered_text, refusal_word, refused_word_text, refused_text, refusal_text, line_refusal_text};
 
-mod stamps;
-
 use crate::refusal::DeskRefusal;
+use rbac_message_text::put_stamp;
 use rbac_text::pieces::{put_number, put_piece};
 use rbac_text::{LineRefusal, put_answer};
 use rbac_words::{Answer, Record, Refusal, Stamp};
-use stamps::put_stamp;
 use std::alloc::AllocError;
 
 /// The line as the last key.
@@ -113,7 +111,10 @@ fn put_refused_word(text: &mut Vec<u8>, word: &str) -> Result<(), AllocError>
 }
 
 /// A refusal that has no more to tell than its word.
-fn put_refused_line(text: &mut Vec<u8>, line: u64, word: &str) -> Result<(), AllocError>
+///
+/// # Errors
+/// `AllocError` where there is no memory for it.
+pub fn put_refused_line(text: &mut Vec<u8>, line: u64, word: &str) -> Result<(), AllocError>
     ensures { OnOk result (text.new.items ≡ text.old.items ++ refused_text line word.now) }
 {
     put_number(text, "{\"line\":", line)?;
@@ -142,11 +143,10 @@ fn put_bad_serial(text: &mut Vec<u8>, line: u64, next: u64, word: &str) -> Resul
 }
 
 /// The event was refused.
-pub(crate) fn put_refused(
-    text: &mut Vec<u8>,
-    line: u64,
-    refusal: &Refusal,
-) -> Result<(), AllocError>
+///
+/// # Errors
+/// `AllocError` where there is no memory for it.
+pub fn put_refused(text: &mut Vec<u8>, line: u64, refusal: &Refusal) -> Result<(), AllocError>
     ensures { OnOk result (text.new.items ≡ text.old.items ++ refusal_text line refusal.now) }
 {
     let word = refusal_word(refusal);
@@ -160,11 +160,10 @@ pub(crate) fn put_refused(
 }
 
 /// The line was refused. Where that was for want of memory, there is no text. Ok says that it is refused.
-pub(crate) fn refuse(
-    text: &mut Vec<u8>,
-    line: u64,
-    refusal: LineRefusal,
-) -> Result<bool, AllocError>
+///
+/// # Errors
+/// `AllocError` where the refusal is want of memory, and where there is no memory for the text.
+pub fn refuse(text: &mut Vec<u8>, line: u64, refusal: LineRefusal) -> Result<bool, AllocError>
     ensures text { OnOk result (text.new.items ≡ text.old.items ++ line_refusal_text line refusal) }
     ensures refused { IfOk result (λ is_refused. is_refused ≡ true) }
     ensures other { OnOk result (refusal ≢ LineRefusal.NoMemory) }

@@ -1,5 +1,5 @@
 -- What can be held, and where it is put.
-use Rattle.std.proofs.Common.{ℕ, false, ◌≡◌, ◌≤◌, ◌+◌, ◌==◌, inl, List, [], ◌∷◌, ◌++◌, sym, ap, refl, subst, ◌∙◌, arith, append-nil, append_assoc, Option, None}
+use Rattle.std.proofs.Common.{ℕ, ◌≡◌, ◌≤◌, ◌+◌, ◌==◌, List, [], ◌∷◌, ◌++◌, sym, ap, refl, subst, ◌∙◌, arith, append-nil, append_assoc, Option, None}
 use Rattle.std.specs.List.{AllByRecursion as Each, filter}
 use Rattle.rbac_words.specs.Stamp.{IsBefore, IsAfter, IsRising, insert_by_stamp, insert_all}
 use Rattle.rbac_words.specs.Message.{stamp_of, submitted_at, next_place, submissions_of, commands_of, next_serial}
@@ -14,20 +14,20 @@ use Rattle.rbac_words.specs.declared.message.Message.TheVariants.{Batch, Ack}
 use Rattle.rbac_words.specs.declared.message.Submission.{Submission}
 use Rattle.rbac_words.specs.declared.stamp.Stamp.{Stamp}
 use Rattle.sorted_keys.proofs.Lists.{Each-append, Each-right, Each-weaker, Each-both}
-use Rattle.rbac_order.proofs.StampLemmas.{IsBeside, before_next, earlier, insert_above, Each-insert}
+use Rattle.rbac_order.proofs.StampLemmas.{before_next, earlier, insert_above, Each-insert}
 use Rattle.rbac_order.proofs.MessageLemmas.{Each-commands, own_rising}
 use Rattle.rbac_order.proofs.StepLemmas.{unless_none}
-use Rattle.rbac_holdback.specs.Holdback.{Holdback, CanBeHeld, CanAllBeHeld}
+use Rattle.rbac_holdback.specs.Holdback.{Holdback, CanAllBeHeld}
 use Rattle.rbac_member.specs.Serials.{counted, AreCounted}
 use Rattle.std.proofs.lemmas.Bool.{eqb-true}
 use Rattle.rbac_member.proofs.SerialLemmas.{counted-held}
 
 -- the command comes after each one of its own member
-abbrev IsAboveOwn : Submission → Submission → Type 0
+abbrev pub IsAboveOwn : Submission → Submission → Type 0
 IsAboveOwn x y = y.stamp.member ≡ x.stamp.member → IsBefore y.stamp x.stamp
 
 -- rising commands of members of the group, each above what is held of its own member, can be held one after the other
-can_all : (h : Holdback) (xs : List Submission) → IsRising submitted_at xs → Each (λ (x : Submission). (1 ≤ x.stamp.member) × (x.stamp.member ≤ h.members)) xs → Each (λ x. Each (IsAboveOwn x) h.held) xs → CanAllBeHeld h xs
+pub can_all : (h : Holdback) (xs : List Submission) → IsRising submitted_at xs → Each (λ (x : Submission). (1 ≤ x.stamp.member) × (x.stamp.member ≤ h.members)) xs → Each (λ x. Each (IsAboveOwn x) h.held) xs → CanAllBeHeld h xs
 can_all h [] r m a = tt
 can_all h (x ∷ xs) r m a = (
   record { low = m.0.0; high = m.0.1; above = a.0 },
@@ -37,7 +37,7 @@ can_all h (x ∷ xs) r m a = (
 )
 
 -- rising commands above all that is there are put last
-put_last : (xs ys : List Submission) → IsRising submitted_at xs → Each (λ (x : Submission). Each (λ (y : Submission). IsBefore y.stamp x.stamp) ys) xs → insert_all submitted_at xs ys ≡ ys ++ xs
+pub put_last : (xs ys : List Submission) → IsRising submitted_at xs → Each (λ (x : Submission). Each (λ (y : Submission). IsBefore y.stamp x.stamp) ys) xs → insert_all submitted_at xs ys ≡ ys ++ xs
 put_last [] ys r a = sym (append-nil ys)
 put_last (x ∷ xs) ys r a =
     ap (insert_all submitted_at xs) (ap (insert_by_stamp submitted_at x) (sym (append-nil ys)) ∙ insert_above submitted_at x ys [] a.0)

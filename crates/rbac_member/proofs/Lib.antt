@@ -1,5 +1,5 @@
 pub mod CommandLemmas
 pub mod DeliveryLemmas
 pub mod HoldLemmas
-pub mod ReceiveLemmas
 pub mod SerialLemmas
+pub mod OwnHoldLemmas

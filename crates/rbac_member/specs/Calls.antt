@@ -11,6 +11,8 @@ use Rattle.rbac_member.specs.declared.refusal.SubmitRefusal.{SubmitRefusal}
 use Rattle.rbac_member.specs.declared.refusal.SubmitRefusal.TheVariants as submit
 use Rattle.rbac_member.specs.declared.refusal.ReceiveRefusal.{ReceiveRefusal}
 use Rattle.rbac_member.specs.declared.refusal.ReceiveRefusal.TheVariants as receive
+use Rattle.rbac_member.specs.declared.refusal.OwnRefusal.{OwnRefusal}
+use Rattle.rbac_member.specs.declared.refusal.OwnRefusal.TheVariants as own
 
 -- a member's refusals as the world's
 abbrev pub submit_refused : SubmitRefusal → Refusal
@@ -31,6 +33,16 @@ receipt_refused receive.ClockFull = refused.ClockFull
 receipt_refused receive.SentFull = refused.SentFull
 receipt_refused (receive.BadSerial next) = refused.BadSerial next
 receipt_refused receive.NoMemory = refused.NoMemory
+
+abbrev pub own_refused : OwnRefusal → Refusal
+own_refused (own.Repeat expected) = refused.Repeat expected
+own_refused (own.Gap expected) = refused.Gap expected
+own_refused own.StampNotRising = refused.StampNotRising
+own_refused own.BadBatch = refused.BadBatch
+own_refused own.ClockFull = refused.ClockFull
+own_refused own.SentFull = refused.SentFull
+own_refused (own.BadSerial next) = refused.BadSerial next
+own_refused own.NoMemory = refused.NoMemory
 
 -- the rule that a refusal names; want of memory comes only where no rule refuses
 abbrev pub rule_of : Refusal → Option Refusal

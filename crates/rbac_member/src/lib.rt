@@ -7,4 +7,4 @@ mod refusal;
 
 pub use member::Member;
 pub use rbac_words::Record;
-pub use refusal::{FoundRefusal, ReceiveRefusal, SubmitRefusal};
+pub use refusal::{FoundRefusal, OwnRefusal, ReceiveRefusal, SubmitRefusal};

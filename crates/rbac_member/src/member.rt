@@ -3,6 +3,7 @@ ghost use Rattle.std.specs.Prelude.{◌≡◌, ◌≤◌, ◌<◌, ◌⊎◌, If
 
 mod counting;
 mod deliver;
+mod own;
 mod receive;
 mod submit;
 
@@ -10,7 +11,7 @@ use crate::refusal::FoundRefusal;
 use rbac_decide::Policy;
 use rbac_holdback::{HeldQueue, Holdback};
 use rbac_links::{Inlinks, Outbox};
-use rbac_words::{Group, Message, Record, Vocabulary};
+use rbac_words::{Group, Message, Record, Stamp, Vocabulary};
 use sorted_keys::SortedMap;
 use std::alloc::Global;
 use std::marker::Model;
@@ -43,7 +44,11 @@ impl Model for Member {
 }
 
 impl Member {
-    ghost use Rattle.rbac_words.specs.Keeping.Member.{IsMember, founded};
+    ghost use Rattle.std.specs.Prelude.{option_map};
+    ghost use Rattle.rbac_words.specs.Stamp.{has_passed};
+    ghost use Rattle.rbac_words.specs.Message.{next_serial, submissions};
+    ghost use Rattle.rbac_words.specs.World.{least};
+    ghost use Rattle.rbac_words.specs.Keeping.Member.{IsMember, founded, latest_of};
     ghost use Rattle.rbac_member.specs.Calls.{taken_of};
 
     /// The member of this number, with nothing sent, received, held or delivered. It takes no memory.
@@ -99,6 +104,38 @@ impl Member {
             return 0;
         }
         self.links.read(from)
+    }
+
+    /// The serial of the next command of a caller at this member: how many it submitted here before.
+    pub fn next_serial(&self, caller: u32) -> u64
+        ensures { result ≡ next_serial caller (submissions self.now.sent) }
+    {
+        counting::next_serial(&self.serials, self.number, caller)
+    }
+
+    /// How many members its group has.
+    pub fn members(&self) -> u32
+        ensures { result ≡ self.now.group.members }
+    {
+        self.group.members()
+    }
+
+    /// The least stamp of a command that it holds back.
+    pub fn least_held(&self) -> Option<Stamp>
+        ensures { result ≡ option_map (λ x. x.stamp) (least self.now.held) }
+    {
+        self.held.least().map(|held| held.stamp)
+    }
+
+    /// Whether the last message that it took of another member has a greater stamp than this one; false where it took none.
+    pub fn has_passed(&self, from: u32, stamp: Stamp) -> bool
+        ensures { result ≡ has_passed (latest_of self.now from) stamp }
+    {
+        let place = (from as usize).saturating_sub(1);
+        match self.links.latest().get(place) {
+            Some(Some(latest)) => stamp.is_before(*latest),
+            _ => false,
+        }
     }
 
     /// What it delivered, in order, with the answers.

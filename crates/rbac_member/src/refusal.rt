@@ -1,6 +1,6 @@
 //! Why a member takes no part in a group, no command, or no message.
 ghost use Rattle.std.specs.Prelude.{◌≡◌};
-ghost use Rattle.rbac_member.specs.Calls.{of_link, submit_refused, receipt_refused};
+ghost use Rattle.rbac_member.specs.Calls.{of_link, submit_refused, receipt_refused, own_refused};
 
 use rbac_links::LinkRefusal;
 use rbac_words::Refusal;
@@ -67,6 +67,34 @@ pub enum ReceiveRefusal {
     NoMemory,
 }
 
+/// Why a message of its own row was not taken by a member, in the order of the checks.
+#[derive(Clone, Copy, Debug, PartialEq, Eq, Drop, Error)]
+pub enum OwnRefusal {
+    /// A message that was sent or taken before.
+    #[error("the message was sent or taken before: expected message {expected}")]
+    Repeat { expected: u64 },
+    /// A message before which another one is missing.
+    #[error("a message before this one is missing: expected message {expected}")]
+    Gap { expected: u64 },
+    /// The stamp is none of a message of this member, or not above the last one that it sent.
+    #[error("the stamp is none of a message of this member, or not above the last one that it sent")]
+    StampNotRising,
+    /// No command, more than 64, or a last serial above 4,294,967,295.
+    #[error("a message has 1 to 64 commands, with serials up to 4294967295")]
+    BadBatch,
+    /// The stamp's clock is above the limit.
+    #[error("the stamp's clock is above its limit")]
+    ClockFull,
+    /// The member has sent as many messages as it may.
+    #[error("the member has sent as many messages as the founding allows")]
+    SentFull,
+    /// The serial is not the number of its caller's commands that the member sent before.
+    #[error("expected serial {next}")]
+    BadSerial { next: u64 },
+    #[error("no memory")]
+    NoMemory,
+}
+
 impl From<LinkRefusal> for ReceiveRefusal {
     ghost from_gives = { λ refusal made. made ≡ of_link refusal };
 
@@ -110,6 +138,23 @@ impl From<ReceiveRefusal> for Refusal {
             ReceiveRefusal::SentFull => Refusal::SentFull,
             ReceiveRefusal::BadSerial { next } => Refusal::BadSerial { next },
             ReceiveRefusal::NoMemory => Refusal::NoMemory,
+        }
+    }
+}
+
+impl From<OwnRefusal> for Refusal {
+    ghost from_gives = { λ refusal made. made ≡ own_refused refusal };
+
+    fn from(refusal: OwnRefusal) -> Refusal {
+        match refusal {
+            OwnRefusal::Repeat { expected } => Refusal::Repeat { expected },
+            OwnRefusal::Gap { expected } => Refusal::Gap { expected },
+            OwnRefusal::StampNotRising => Refusal::StampNotRising,
+            OwnRefusal::BadBatch => Refusal::BadBatch,
+            OwnRefusal::ClockFull => Refusal::ClockFull,
+            OwnRefusal::SentFull => Refusal::SentFull,
+            OwnRefusal::BadSerial { next } => Refusal::BadSerial { next },
+            OwnRefusal::NoMemory => Refusal::NoMemory,
         }
     }
 }

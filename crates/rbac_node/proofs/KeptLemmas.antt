@@ -14,7 +14,7 @@ use Rattle.rbac_words.specs.declared.message.Submission.{Submission}
 use Rattle.rbac_words.specs.declared.stamp.Stamp.{Stamp}
 use Rattle.rbac_member.specs.Calls.{taken_of}
 use Rattle.rbac_order.proofs.RangeLemmas.{above_range}
-use Rattle.rbac_member.proofs.ReceiveLemmas.{next_is}
+use Rattle.rbac_order.proofs.ReceiptLemmas.{next_is}
 use Rattle.rbac_board.specs.Known.{Known, IsOf}
 use Rattle.rbac_node.specs.declared.group_name.GroupName.{Ghosts}
 use Rattle.rbac_node.specs.declared.node.Node.TheInside.{Inside}

@@ -47,7 +47,7 @@ up_to_prefix t (x ∷ xs) r = go (is_before t x.stamp) refl (up_to_prefix t xs r
     )
     go false e on = (on.0, ap (λ l. x ∷ l) on.1)
 
-prefix_of_all : (xs all : List Submission) → Rising all → xs ≡ up_to submitted_at (last_stamp submitted_at xs) all → IsPrefixOf xs all
+pub prefix_of_all : (xs all : List Submission) → Rising all → xs ≡ up_to submitted_at (last_stamp submitted_at xs) all → IsPrefixOf xs all
 prefix_of_all xs all r e = go (last_stamp submitted_at xs) e
   where
     go : (o : Option Stamp) → xs ≡ up_to submitted_at o all → IsPrefixOf xs all
@@ -55,7 +55,7 @@ prefix_of_all xs all r e = go (last_stamp submitted_at xs) e
     go (Some t) f = subst (λ l. IsPrefixOf l all) (sym f) (up_to_prefix t all r)
 
 -- two first parts of one list
-prefixes_of_one : (xs ys zs : List Submission) → IsPrefixOf xs zs → IsPrefixOf ys zs → IsPrefixOf xs ys ⊎ IsPrefixOf ys xs
+pub prefixes_of_one : (xs ys zs : List Submission) → IsPrefixOf xs zs → IsPrefixOf ys zs → IsPrefixOf xs ys ⊎ IsPrefixOf ys xs
 prefixes_of_one [] ys zs a b = inl (ys, refl)
 prefixes_of_one (x ∷ xs) [] zs a b = inr (x ∷ xs, refl)
 prefixes_of_one (x ∷ xs) (y ∷ ys) [] a b = let e : x ∷ (xs ++ a.0) ≡ [] = a.1 in absurd (let no : ⊥ = cc in no)
@@ -69,11 +69,11 @@ prefixes_of_one (x ∷ xs) (y ∷ ys) (z ∷ zs) a b =
     ]
 
 -- a record is its command with its answer
-record_is : (r q : Record) → submission_of r ≡ submission_of q → r.answer ≡ q.answer → r ≡ q
+pub record_is : (r q : Record) → submission_of r ≡ submission_of q → r.answer ≡ q.answer → r ≡ q
 record_is r q e f = λ i. let x : Submission = e i in record { stamp = x.stamp; caller = x.caller; serial = x.serial; command = x.command; answer = f i }
 
 -- histories whose answers are the replies go on like their commands
-history_prefix : (s : State) (rs qs : List Record) → map (λ (r : Record). r.answer) rs ≡ replies s (map command_of (commands_of rs)) → map (λ (r : Record). r.answer) qs ≡ replies s (map command_of (commands_of qs))
+pub history_prefix : (s : State) (rs qs : List Record) → map (λ (r : Record). r.answer) rs ≡ replies s (map command_of (commands_of rs)) → map (λ (r : Record). r.answer) qs ≡ replies s (map command_of (commands_of qs))
     → IsPrefixOf (commands_of rs) (commands_of qs) → IsPrefixOf rs qs
 history_prefix s [] qs a b p = (qs, refl)
 history_prefix s (r ∷ rs) [] a b p = let e : submission_of r ∷ (commands_of rs ++ p.0) ≡ [] = p.1 in absurd (let no : ⊥ = cc in no)

@@ -4,8 +4,10 @@ pub mod GroupLemmas
 pub mod HistoryLemmas
 pub mod MemberLemmas
 pub mod MessageLemmas
+pub mod OwnLemmas
 pub mod PlayLemmas
 pub mod RangeLemmas
+pub mod ReceiptLemmas
 pub mod ReplayLemmas
 pub mod SenderLemmas
 pub mod StampLemmas

@@ -5,6 +5,7 @@
 
 mod histories;
 mod members;
+mod own;
 mod stamps;
 mod worlds;
 
@@ -16,6 +17,7 @@ pub use members::{
     each_move_keeps_a_group, each_move_keeps_a_member, what_members_keep_of_the_last_delivery,
     what_was_heard_is_known,
 };
+pub use own::a_member_takes_its_own_messages;
 pub use stamps::{sorting_by_stamp, stamps_are_totally_ordered};
 pub use worlds::{
     a_founding_is_right, a_refusal_changes_nothing, all_that_was_read_is_delivered,

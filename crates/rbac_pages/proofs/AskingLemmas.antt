@@ -67,7 +67,7 @@ of_member_1 v = v >>= (λ command. Ok (1, command))
 pub line_asks : (c : Command) → AreFields (command_fields c) → length (asking c) ≤ longest_line → client (asking c) ≡ Ok (1, c)
 unfolding client
 line_asks c h short =
-    ap (λ v. v >>= (λ value. ok_or (as_object value) NotObject >>= (λ fields. client_of fields))) (value_of_json (asking c) (object (line_members c)) short (one_line-asking c h).0 (line_reads c h))
+    ap (λ v. v >>= (λ value. ok_or (as_object value) NotObject >>= (λ fields. client_of fields))) (value_of_json longest_line (asking c) (object (line_members c)) short (one_line-asking c h).0 (line_reads c h))
     ∙ ap of_member_1 (command_back c h)
 
 pub line_is_asked : (c : Command) → AreFields (command_fields c) → length (asking c) ≤ longest_line → IsAsked c

@@ -1,4 +1,5 @@
 pub mod AskingLemmas
+pub mod DifferenceLemmas
 pub mod DumpLemmas
 pub mod HeldLemmas
 pub mod MatchLemmas

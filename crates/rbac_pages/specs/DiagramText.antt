@@ -13,7 +13,7 @@ use Rattle.rbac_words.specs.declared.event.Event.TheVariants.{Submit, SubmitBatc
 use Rattle.rbac_words.specs.declared.event.Outcome.{Outcome}
 use Rattle.rbac_words.specs.declared.event.Outcome.TheVariants.{Submitted, Received, Delivered}
 use Rattle.rbac_words.specs.declared.event.Refusal.{Refusal}
-use Rattle.rbac_lines.specs.Text.{stamp_text}
+use Rattle.rbac_message_text.specs.StampText.{stamp_text}
 use Rattle.rbac_text.specs.Command.{command_word}
 use Rattle.rbac_pages.specs.declared.diagram.marks.Place.{Place}
 use Rattle.rbac_pages.specs.declared.diagram.messages.Sent.{Sent}

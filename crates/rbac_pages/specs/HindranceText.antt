@@ -1,5 +1,5 @@
 -- What stands in the way of a command, as a sentence for people.
-use Rattle.std.specs.Prelude.{ℕ, List, ◌++◌, codes, decimal}
+use Rattle.std.specs.Prelude.{ℕ, ◌-◌, List, ◌++◌, length, codes, decimal}
 use Rattle.std.specs.List.{flat_map}
 use Rattle.rbac_terms.specs.Name.{Name}
 use Rattle.rbac_terms.specs.Denials.{denial_word}
@@ -39,6 +39,10 @@ set_named words kind set = words ++ kind_word kind ++ codes " set " ++ set
 abbrev pub inherited_text : Name → List ℕ
 inherited_text role = named (codes " inherits ") role
 
+-- how many there would be, and how many there may be: one fewer than a set's number
+unfoldable pub excess_text : ℕ → ℕ → List ℕ
+excess_text count number = numbered (codes ", ") count ++ numbered (codes " of at most ") (number - 1)
+
 -- the sentence
 abbrev pub hindrance_sentence : Hindrance → List ℕ
 hindrance_sentence (UserExists user) = named (codes "there is already a user ") user
@@ -58,10 +62,10 @@ hindrance_sentence (RoleNotActive session role) = named (codes "role ") role ++ 
 hindrance_sentence (Inherits ascendant descendant) = named (codes "role ") ascendant ++ named (codes " is already declared to inherit role ") descendant
 hindrance_sentence (NoInheritance ascendant descendant) = named (codes "role ") ascendant ++ named (codes " is not declared to inherit role ") descendant
 hindrance_sentence (Cycle chain) = named (codes "the roles would inherit each other: ") chain.first ++ flat_map inherited_text chain.rest.items
-hindrance_sentence (SsdViolated user set roles) =
-    named (codes "user ") user ++ named (codes " would be authorized for too many roles of static set ") set ++ codes ":" ++ flat_map name_text roles
-hindrance_sentence (DsdViolated session set roles) =
-    named (codes "session ") session ++ named (codes " would have too many active roles of dynamic set ") set ++ codes ":" ++ flat_map name_text roles
+hindrance_sentence (SsdViolated user set roles number) =
+    named (codes "user ") user ++ named (codes " would be authorized for too many roles of static set ") set ++ codes ":" ++ flat_map name_text roles ++ excess_text (length roles) number
+hindrance_sentence (DsdViolated session set roles number) =
+    named (codes "session ") session ++ named (codes " would have too many active roles of dynamic set ") set ++ codes ":" ++ flat_map name_text roles ++ excess_text (length roles) number
 hindrance_sentence (SetExists kind set) = set_named (codes "there is already a ") kind set
 hindrance_sentence (NoSet kind set) = set_named (codes "there is no ") kind set
 hindrance_sentence (BadCardinality kind set size number) = set_named (codes "the ") kind set ++ numbered (codes " would have the number ") number ++ numbered (codes " and this many roles: ") size

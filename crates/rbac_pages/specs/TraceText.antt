@@ -17,7 +17,7 @@ use Rattle.rbac_words.specs.declared.event.Event.TheVariants.{Submit, SubmitBatc
 use Rattle.rbac_words.specs.declared.event.Outcome.{Outcome}
 use Rattle.rbac_words.specs.declared.event.Outcome.TheVariants.{Submitted, Received, Delivered}
 use Rattle.rbac_text.specs.AnswerText.{answer_text}
-use Rattle.rbac_lines.specs.Text.{stamp_text}
+use Rattle.rbac_message_text.specs.StampText.{stamp_text}
 use Rattle.rbac_text.specs.CommandText.{command_text}
 use Rattle.rbac_pages.specs.declared.held.Awaited.{Awaited}
 

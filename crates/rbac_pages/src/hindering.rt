@@ -1,12 +1,12 @@
 //! What stands in the way of a command, as a sentence.
-ghost use Rattle.std.specs.Prelude.{◌≡◌, ◌++◌, codes, IfOk, OnOk};
+ghost use Rattle.std.specs.Prelude.{◌≡◌, ◌++◌, length, codes, IfOk, OnOk};
 ghost use Rattle.std.specs.List.{flat_map};
 ghost use Rattle.rbac_pages.specs.PageText.{name_text};
-ghost use Rattle.rbac_pages.specs.HindranceText.{named, numbered, kind_word, counted_word, set_named, hindrance_sentence, denied_text};
+ghost use Rattle.rbac_pages.specs.HindranceText.{named, numbered, kind_word, counted_word, set_named, excess_text, hindrance_sentence, denied_text};
 
 use crate::text::{NameTeller, Teller, put, put_all};
 use rbac_reasons::{Counted, Hindrance};
-use rbac_terms::{Name, Separation};
+use rbac_terms::{Name, NameSet, Separation};
 use std::alloc::{AllocError, Global};
 
 // Words, and a name behind them.
@@ -73,20 +73,31 @@ fn put_both(
     put_named(text, others, other)
 }
 
-// Two names, and then names that are listed.
-fn put_listed(
+// How many there would be, and how many there may be by a set's number.
+#[tactic(auto, unfolding(crate::specs::HindranceText::excess_text))]
+fn put_excess(text: &mut Vec<u8>, count: usize, number: u32) -> Result<(), AllocError>
+    ensures { OnOk result (text.new.items ≡ text.old.items ++ excess_text count number) }
+{
+    put_numbered(text, ", ", count as u64)?;
+    put_numbered(text, " of at most ", u64::from(number).saturating_sub(1))
+}
+
+// Who would break a set, the roles by which, and how many they are.
+fn put_breach(
     text: &mut Vec<u8>,
     words: &str,
-    name: &Name,
+    holder: &Name,
     others: &str,
-    other: &Name,
-    roles: &[Name],
+    set: &Name,
+    roles: &NameSet,
+    number: u32,
 ) -> Result<(), AllocError>
-    ensures { OnOk result (text.new.items ≡ text.old.items ++ (named words.now name.now ++ named others.now other.now ++ codes ":" ++ flat_map name_text roles.now)) }
+    ensures { OnOk result (text.new.items ≡ text.old.items ++ (named words.now holder.now ++ named others.now set.now ++ codes ":" ++ flat_map name_text roles.now ++ excess_text (length roles.now) number)) }
 {
-    put_both(text, words, name, others, other)?;
+    put_both(text, words, holder, others, set)?;
     text.extend_from_slice(b":")?;
-    put_all(text, &NameTeller, roles)
+    put_all(text, &NameTeller, roles.names())?;
+    put_excess(text, roles.len(), number)
 }
 
 /// The next role that is inherited.
@@ -179,17 +190,23 @@ pub(crate) fn put_hindrance(text: &mut Vec<u8>, hindrance: &Hindrance) -> Result
             put_named(text, "the roles would inherit each other: ", &chain.first)?;
             put_all(text, &InheritedTeller, &chain.rest)
         }
-        Hindrance::SsdViolated { user, set, roles } => {
+        Hindrance::SsdViolated {
+            user,
+            set,
+            roles,
+            number,
+        } => {
             let words = " would be authorized for too many roles of static set ";
-            put_listed(text, "user ", user, words, set, roles.names())
+            put_breach(text, "user ", user, words, set, roles, *number)
         }
         Hindrance::DsdViolated {
             session,
             set,
             roles,
+            number,
         } => {
             let words = " would have too many active roles of dynamic set ";
-            put_listed(text, "session ", session, words, set, roles.names())
+            put_breach(text, "session ", session, words, set, roles, *number)
         }
         Hindrance::SetExists { kind, set } => put_set(text, "there is already a ", *kind, set),
         Hindrance::NoSet { kind, set } => put_set(text, "there is no ", *kind, set),

@@ -3,6 +3,7 @@
 #![tactic(auto)]
 
 mod diagram;
+mod difference;
 mod dump_text;
 mod explanation;
 mod grantees;
@@ -16,6 +17,7 @@ mod text;
 mod trace;
 
 pub use diagram::Diagram;
+pub use difference::difference_lines;
 pub use dump_text::{COMMAND_ROOM, client_lines, dump_lines};
 pub use explanation::{Explanation, Verdict};
 pub use grantees::who;

@@ -25,7 +25,7 @@ pub(crate) struct Shown {
 
 impl Display for Shown {
     ghost use Rattle.std.specs.Prelude.{Some};
-    ghost use Rattle.rbac_lines.specs.Text.{stamp_text};
+    ghost use Rattle.rbac_message_text.specs.StampText.{stamp_text};
 
     ghost output = { λ shown. Some (stamp_text shown.stamp) };
 

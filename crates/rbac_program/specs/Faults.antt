@@ -6,7 +6,7 @@ use Rattle.rbac_text.specs.Refusals.{line_refusal_word}
 use Rattle.rbac_program.specs.declared.fault.Fault.{Fault}
 use Rattle.rbac_node.specs.declared.report.AuditRefusal.{AuditRefusal}
 use Rattle.rbac_node.specs.declared.report.AuditRefusal.TheVariants.{NotAGroup, NoMemory as AuditNoMemory}
-use Rattle.rbac_program.specs.declared.fault.Fault.TheVariants.{File, Founding, Run, NoThread, Audit, NotConfirmed, Lines, BadName, Command, NotMade}
+use Rattle.rbac_program.specs.declared.fault.Fault.TheVariants.{File, Founding, Run, NoThread, Audit, NotConfirmed, Lines, BadName, Command, NotMade, NoMember}
 
 -- the word of an audit's refusal
 abbrev pub audit_word : AuditRefusal → List ℕ
@@ -14,7 +14,7 @@ audit_word NotAGroup = codes "NotAGroup"
 audit_word AuditNoMemory = codes "NoMemory"
 
 -- the path of a file that cannot be read or written, or the word of what is refused or fails: the founding, the run, the audit; how many
--- lines were refused; the text that is no name; the word of what a command is refused by
+-- lines were refused; the text that is no name; the word of what a command is refused by; the number of which the group has no member
 abbrev pub fault_text : Fault → List ℕ
 fault_text (File path) = codes "rbac_monitor: file: " ++ path.now
 fault_text (Founding refusal) = codes "rbac_monitor: founding: " ++ founding_refusal_word refusal
@@ -26,3 +26,4 @@ fault_text (Lines summary) = codes "rbac_monitor: lines: " ++ decimal summary.re
 fault_text (BadName text) = codes "rbac_monitor: name: " ++ text.now
 fault_text (Command refusal) = codes "rbac_monitor: command: " ++ line_refusal_word refusal
 fault_text NotMade = codes "rbac_monitor: diff: NotMade"
+fault_text (NoMember number) = codes "rbac_monitor: member: " ++ number.now

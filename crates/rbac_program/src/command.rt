@@ -4,11 +4,13 @@ ghost use Rattle.std.specs.IoError.{error_kind};
 ghost use Rattle.std.specs.Io.KnownBytes.{Appends};
 ghost use Rattle.line_engine.specs.Watched.{failed_of, inner_of};
 ghost use Rattle.rbac_lines.specs.Output.{output};
-ghost use Rattle.rbac_program.specs.Sample.{sample_world};
-ghost use Rattle.rbac_program.specs.Telling.{status_of};
+ghost use Rattle.rbac_pages.specs.declared.explanation.Verdict.TheVariants.{Allowed};
+ghost use Rattle.rbac_program.specs.Sample.{PlaysSample, sample_world};
+ghost use Rattle.rbac_program.specs.Telling.{asks_verdict, status_of};
 
 use crate::fault::Fault;
 use crate::linting::lint;
+use crate::member::be_member;
 use crate::play::play;
 use crate::serving::serve;
 use crate::telling::{differ, draw, dump_to, tell, trace};
@@ -42,9 +44,9 @@ const CHECK_REFUSED: u8 = 3;
 const COMMAND_DENIED: u8 = 4;
 
 /// Does what the words say, of which the first is the program's name, and answers the status: 0 where the input was read
-/// to its end or help was asked for, 1 after a fault, 2 where the words are refused, and where they ask what a check or a
-/// command would be answered, 3 and 4 where that is a refusal and a denial. Without other words the sample is played, as
-/// `watched_command` says.
+/// to its end or help was asked for, 1 after a fault, 2 where the words are refused, and where they ask why or who, 3 and 4
+/// where the verdict is a refusal and a denial: by nothing else, as `carry_out` says. Without other words the sample is
+/// played, as `watched_command` says.
 pub fn command<
     T: Files + AllocGlobal + Threads + Wait + Clock + Copy + Send + Sync,
     S: AsStr,
@@ -58,7 +60,42 @@ pub fn command<
     watched_command(rt, words, reader, &mut watch(writer), errors)
 }
 
-// The same over a writer under watch, which tells what was written.
+// Does what was asked for. Only a question, why or who, has a verdict.
+fn carry_out<
+    T: Files + AllocGlobal + Threads + Wait + Clock + Copy + Send + Sync,
+    R: Read + Drop,
+    W: Write,
+    E: Write,
+>(rt: &T, asked: Asked<'_>, reader: R, writer: &mut Watched<W>, errors: &mut E) -> u8
+    requires { failed_of writer.old ≡ false }
+    ensures status { result ≤ 4 }
+    ensures no_verdict { asks_verdict asked.entry ≡ false → result ≤ 1 }
+    ensures sample_played { PlaysSample asked.entry → result ≡ 0 →
+        IfSome (R.remaining reader) (λ input. Appends (W.contents (inner_of writer.old)) (W.contents (inner_of writer.new)) (output input sample_world)) }
+{
+    match asked {
+        Asked::Play(asked) => status_of(play(rt, asked, reader, writer), errors),
+        Asked::Serve(founding) => {
+            let served = serve(rt, founding, reader, writer, errors);
+            status_of(served, errors)
+        }
+        Asked::Member(asked) => status_of(be_member(rt, asked, reader, writer), errors),
+        Asked::Tell(lines, question) => {
+            let told = tell(rt, lines, question, reader, writer, errors);
+            status_of_told(told, errors)
+        }
+        Asked::DumpTo(lines, folder) => {
+            let written = dump_to(rt, lines, folder, reader, errors);
+            status_of(written, errors)
+        }
+        Asked::Trace(lines) => status_of(trace(rt, lines, reader, writer), errors),
+        Asked::Diagram(lines) => status_of(draw(rt, lines, reader, writer), errors),
+        Asked::Lint(asked) => status_of_lint(lint(rt, asked, reader, writer), errors),
+        Asked::Differ(asked) => status_of(differ(rt, asked, writer, errors), errors),
+    }
+}
+
+// The same of the words, over a writer under watch, which tells what was written.
 fn watched_command<
     T: Files + AllocGlobal + Threads + Wait + Clock + Copy + Send + Sync,
     S: AsStr,
@@ -73,23 +110,7 @@ fn watched_command<
         IfSome (R.remaining reader) (λ input. Appends (W.contents (inner_of writer.old)) (W.contents (inner_of writer.new)) (output input sample_world)) }
 {
     match read_words(rt.alloc(), words) {
-        Ok(Asked::Play(asked)) => status_of(play(rt, asked, reader, writer), errors),
-        Ok(Asked::Serve(founding)) => {
-            let served = serve(rt, founding, reader, writer, errors);
-            status_of(served, errors)
-        }
-        Ok(Asked::Tell(lines, question)) => {
-            let told = tell(rt, lines, question, reader, writer, errors);
-            status_of_told(told, errors)
-        }
-        Ok(Asked::DumpTo(lines, folder)) => {
-            let written = dump_to(rt, lines, folder, reader, errors);
-            status_of(written, errors)
-        }
-        Ok(Asked::Trace(lines)) => status_of(trace(rt, lines, reader, writer), errors),
-        Ok(Asked::Diagram(lines)) => status_of(draw(rt, lines, reader, writer), errors),
-        Ok(Asked::Lint(asked)) => status_of_lint(lint(rt, asked, reader, writer), errors),
-        Ok(Asked::Differ(asked)) => status_of(differ(rt, asked, writer, errors), errors),
+        Ok(asked) => carry_out(rt, asked, reader, writer, errors),
         Err(error) if error.kind() == clap::error::ErrorKind::OutOfMemory => {
             tell_fault(errors, Fault::from(AllocError))
         }
@@ -127,6 +148,7 @@ fn status_of_lint<E: Write>(found: Result<bool, Fault<'_>>, errors: &mut E) -> u
 fn status_of_told<E: Write>(told: Result<Verdict, Fault<'_>>, errors: &mut E) -> u8
     ensures fault { IsErr told.entry → result ≡ 1 }
     ensures told { IfOk told.entry (λ verdict. result ≡ status_of verdict) }
+    ensures no_verdict { IfOk told.entry (λ verdict. verdict ≡ Allowed) → result ≤ 1 }
 {
     match told {
         Ok(Verdict::Allowed) => DONE,

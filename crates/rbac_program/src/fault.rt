@@ -32,6 +32,8 @@ pub(crate) enum Fault<'w> {
     Command(LineRefusal),
     /// No commands were found that lead from one policy to the other.
     NotMade,
+    /// The group has no member of this number, or the word is no number.
+    NoMember(&'w str),
 }
 
 impl From<AllocError> for Fault<'_> {
@@ -95,6 +97,7 @@ impl Display for Fault<'_> {
             Fault::BadName(text) => write!(f, "rbac_monitor: name: {text}"),
             Fault::Command(refusal) => write!(f, "rbac_monitor: command: {}", refusal.word()),
             Fault::NotMade => write!(f, "rbac_monitor: diff: NotMade"),
+            Fault::NoMember(number) => write!(f, "rbac_monitor: member: {number}"),
         }
     }
 }

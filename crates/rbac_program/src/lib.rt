@@ -6,6 +6,7 @@ pub mod command;
 mod fault;
 mod founding_file;
 mod linting;
+mod member;
 mod play;
 mod serving;
 mod telling;

@@ -9,6 +9,8 @@ ghost use Rattle.rbac_program.specs.Serving.{AreConfirmed};
 mod answering;
 mod confirming;
 mod desk;
+#[cfg(test)]
+mod tests;
 
 use crate::fault::Fault;
 use crate::founding_file::founding_of;

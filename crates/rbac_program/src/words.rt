@@ -52,13 +52,16 @@ pub(crate) enum Question<'w> {
     },
 }
 
-/// Two inputs of client lines on one founding: what leads from the policy of the first to that of the second is told.
+/// Two inputs of client lines on one founding: what leads from the policy of the first to that of the second is told, or what each has
+/// that the other has not.
 #[derive(Clone, Copy, Drop)]
 pub(crate) struct Difference<'w> {
     pub(crate) founding: &'w str,
     pub(crate) from: &'w str,
     pub(crate) to: &'w str,
     pub(crate) is_lenient: bool,
+    /// What each has that the other has not is told.
+    pub(crate) are_lists: bool,
 }
 
 /// A founding file that is looked at, and lines.
@@ -69,12 +72,21 @@ pub(crate) struct Lint<'w> {
     pub(crate) are_client_lines: bool,
 }
 
+/// One member of a founding.
+#[derive(Clone, Copy, Drop)]
+pub(crate) struct OneMember<'w> {
+    pub(crate) founding: &'w str,
+    pub(crate) number: &'w str,
+}
+
 /// What the words ask for.
 #[derive(Clone, Copy, Drop)]
 pub(crate) enum Asked<'w> {
     Play(Play<'w>),
     /// Callers are served by the members of this founding.
     Serve(&'w str),
+    /// One member takes lines.
+    Member(OneMember<'w>),
     /// Something is told of the policy that lines leave.
     Tell(Lines<'w>, Question<'w>),
     /// The policy is written into a new folder of this path, with its founding.
@@ -156,6 +168,7 @@ fn difference_of<'w>(matches: &ArgMatches<'w>) -> Asked<'w> {
         from: word_of(matches, "FROM"),
         to: word_of(matches, "TO"),
         is_lenient: matches.get_flag("lenient"),
+        are_lists: matches.get_flag("lists"),
     })
 }
 
@@ -170,6 +183,10 @@ fn lint_of<'w>(matches: &ArgMatches<'w>) -> Asked<'w> {
 fn asked_of<'w>(matches: &ArgMatches<'w>) -> Asked<'w> {
     match matches.subcommand() {
         Some(("serve", words)) => Asked::Serve(word_of(words, "FOUNDING")),
+        Some(("member", words)) => Asked::Member(OneMember {
+            founding: word_of(words, "FOUNDING"),
+            number: word_of(words, "NUMBER"),
+        }),
         Some(("dump", words)) => dump_of(words),
         Some(("show", words)) => Asked::Tell(lines_of(words), shown_of(words)),
         Some(("why", words)) => Asked::Tell(lines_of(words), question_of(words)),

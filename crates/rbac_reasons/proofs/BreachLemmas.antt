@@ -4,13 +4,14 @@ use Rattle.std.proofs.lemmas.Bool.{false≢true, or_left, or_right, or_cases}
 use Rattle.std.proofs.lemmas.List.{take_more}
 use Rattle.std.proofs.lemmas.List.Folds.{list_any-append}
 use Rattle.std.specs.declared.cmp.Ordering.{Ordering}
-use Rattle.std.specs.List.{list_any, find as first_where}
+use Rattle.std.proofs.lemmas.List.Kept.{IsStrictlySortedBy-filter}
+use Rattle.std.specs.List.{filter, list_any, find as first_where}
 use Rattle.std.specs.List.Sorted.{IsStrictlySortedBy}
 use Rattle.std.specs.FinMap.Entries.{find, put, find-put}
 use Rattle.std.specs.Ordering.{eq_by_cmp, is_eq}
 use Rattle.std.specs.Cmp.{IsTotalOrder}
 use Rattle.sorted_keys.specs.Keys.{has, with_key, by_key}
-use Rattle.sorted_keys.proofs.Members.{has-with_key}
+use Rattle.sorted_keys.proofs.Members.{has-with_key, has-filter}
 use Rattle.sorted_keys.proofs.Order.{IsBelowAll, greater}
 use Rattle.sorted_keys.proofs.Ties.{one_key, ties_itself, same_bits, member_any}
 use Rattle.sorted_keys.proofs.KeyPlace.{sorted_with_key}
@@ -84,6 +85,13 @@ common_more others names i x both then within is made q before =
         ∙ ap (λ z. has name_cmp q (take i names ++ z ∷ [])) (sym is)
         ∙ list_any-append (eq_by_cmp name_cmp q) (take i names) (x ∷ [])
 
+-- what is in both is what is kept of the one
+pub common_whole : (others names both : List Name) → IsStrictlySortedBy name_cmp names → IsStrictlySortedBy name_cmp both → ((q : Name) → has name_cmp q both ≡ (has name_cmp q others && has name_cmp q names))
+    → both ≡ filter (λ name. has name_cmp name others) names
+common_whole others names both sorted sorted_both members =
+    let among : Name → Bool = λ name. has name_cmp name others in
+    same_keys names_exact names_total both (filter among names) sorted_both (IsStrictlySortedBy-filter name_cmp among names sorted) (λ q. members q ∙ sym (has-filter names_exact among names q))
+
 -- ---- The first that passes
 
 module _ {X : Type 0} (p : X → Bool) where
@@ -156,7 +164,7 @@ none_more p xs i x within is before here =
 
 -- what is told of a breach
 abbrev pub IsBreachOf : Breach → Name → Name × RoleSet → List Name → Type 0
-IsBreachOf breach holder e roles = (breach.holder ≡ holder) × (breach.set ≡ e.0) × ((role : Name) → has name_cmp role breach.roles ≡ (has name_cmp role roles && has name_cmp role e.1.roles))
+IsBreachOf breach holder e roles = (breach.holder ≡ holder) × (breach.set ≡ e.0) × (breach.roles ≡ filter (λ role. has name_cmp role roles) e.1.roles) × (breach.number ≡ e.1.cardinality)
 
 pub static_broken : (s : State) → IsStrictlySortedBy (by_key name_cmp) s.static_sets → (user : Name) → has name_cmp user s.users ≡ true → (roles : List Name) → ((role : Name) → has name_cmp role roles ≡ is_authorized s user role)
     → (sets : List (Name × RoleSet)) → s.static_sets ≡ sets → (e : Name × RoleSet) → first_where (λ (e : Name × RoleSet). is_broken roles e.1) sets ≡ Some e → (breach : Breach) → IsBreachOf breach user e roles → TellsBreach Static s (Some breach)
@@ -166,9 +174,10 @@ static_broken s sorted user is roles are sets same e some breach of =
       (
         e.1,
         subst (λ set. find name_cmp set s.static_sets ≡ Some e.1) (sym of.1) told.1,
+        sym of.3,
         subst (λ u. has name_cmp u s.users ≡ true) (sym of.0) is,
         subst (λ u. is_broken_by (is_authorized s u) e.1 ≡ true) (sym of.0) told.2,
-        λ role. of.2 role ∙ ap (λ b. b && has name_cmp role e.1.roles) (are role) ∙ ap (λ u. is_authorized s u role && has name_cmp role e.1.roles) (sym of.0),
+        of.2 ∙ ap (λ p. filter p e.1.roles) (λ i role. are role i) ∙ ap (λ u. filter (is_authorized s u) e.1.roles) (sym of.0),
       ),
     )
 
@@ -186,6 +195,7 @@ dynamic_broken s h set new x some breach of =
         new,
         x.1,
         subst (λ z. find name_cmp z (put name_cmp set new s.dynamic_sets) ≡ Some new) (sym of.1) (put_there set new s.dynamic_sets),
+        sym of.3,
         subst (λ z. find name_cmp z s.sessions ≡ Some x.1) (sym of.0) (first_found names_total _ s.sessions h.in_order.sessions x some),
         first.0,
         of.2,
@@ -224,7 +234,7 @@ module _ (s : State) (h : IsSound s) (set : Name) (new : RoleSet) where
     where
       go : (found : Option Breach) → TellsBreach Static (with_sets Static ((set, new) ∷ []) s) found → TellsBreach Static (with_sets Static (put name_cmp set new s.static_sets) s) found
       go None e = sym same_alone ∙ e
-      go (Some b) e = (sym same_alone ∙ e.0, (e.1.0, found_alone b.set e.1.0 e.1.1, e.1.2, e.1.3, e.1.4))
+      go (Some b) e = (sym same_alone ∙ e.0, (e.1.0, found_alone b.set e.1.0 e.1.1, e.1.2, e.1.3, e.1.4, e.1.5))
 
 -- ---- One pair more
 
@@ -283,6 +293,7 @@ session_broken s h t session owner active same found violated e some breach of =
         e.1,
         record { owner = owner; active = active },
         subst (λ z. find name_cmp z t.dynamic_sets ≡ Some e.1) (sym of.1) (ap (find name_cmp e.0) same ∙ first_found names_total _ s.dynamic_sets h.separation.dynamic_sets.in_order e some),
+        sym of.3,
         subst (λ z. find name_cmp z t.sessions ≡ Some (record { owner = owner; active = active })) (sym of.0) found,
         first.0,
         of.2,

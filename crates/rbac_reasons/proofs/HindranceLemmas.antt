@@ -1,5 +1,5 @@
 -- What is told of a command that is denied.
-use Rattle.std.proofs.Common.{ℕ, ◌≡◌, slice_get, Bool, true, false, cond, ◌&&◌, List, [], ◌∷◌, Option, Some, None, IfSome, IsNone, Result, Ok, Err, IfOk, is_some, not, length, refl, sym, ap, ◌∙◌, subst, rules}
+use Rattle.std.proofs.Common.{ℕ, ◌≡◌, slice_get, Bool, true, false, cond, ◌&&◌, List, [], ◌∷◌, Option, Some, None, IfSome, IsNone, Result, Ok, Err, IfOk, not, length, refl, sym, ap, ◌∙◌, subst, rules}
 use Rattle.std.proofs.lemmas.Bool.{false≢true, or_left, or_cases}
 use Rattle.std.proofs.Common.{⊎_elim}
 use Rattle.std.specs.Option.{option_map}

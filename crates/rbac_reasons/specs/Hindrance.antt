@@ -1,6 +1,6 @@
 -- What stands in the way of a command that is denied.
-use Rattle.std.specs.Prelude.{ℕ, ◌≡◌, List, false, not, ◌&&◌, nat_le, length, Option, Some, None, IsTrue}
-use Rattle.std.specs.List.{find as first_where}
+use Rattle.std.specs.Prelude.{ℕ, ◌≡◌, List, false, not, nat_le, length, Option, Some, None, IsTrue}
+use Rattle.std.specs.List.{filter, find as first_where}
 use Rattle.std.specs.FinMap.Entries.{find}
 use Rattle.sorted_keys.specs.Keys.{has}
 use Rattle.rbac_terms.specs.Name.{Name, name_cmp, pair_cmp, grant_cmp}
@@ -43,8 +43,8 @@ denial_of (RoleNotActive session role) = denial.RoleNotActive
 denial_of (Inherits ascendant descendant) = denial.Inherits
 denial_of (NoInheritance ascendant descendant) = denial.NoInheritance
 denial_of (Cycle chain) = denial.Cycle
-denial_of (SsdViolated user set roles) = denial.SsdViolated
-denial_of (DsdViolated session set roles) = denial.DsdViolated
+denial_of (SsdViolated user set roles number) = denial.SsdViolated
+denial_of (DsdViolated session set roles number) = denial.DsdViolated
 denial_of (SetExists kind set) = denial.SetExists
 denial_of (NoSet kind set) = denial.NoSet
 denial_of (BadCardinality kind set size number) = denial.BadCardinality
@@ -69,17 +69,19 @@ count Roles s = length s.roles
 count Sessions s = length s.sessions
 count (Sets kind) s = length (sets_of kind s)
 
--- in this state the user is authorized for these roles of a static set, and they are as many as its number
-abbrev pub BreaksStatic : State → Name → Name → List Name → Type 0
-BreaksStatic s user set roles =
-    (x : RoleSet) × (find name_cmp set s.static_sets ≡ Some x) × IsTrue (has name_cmp user s.users) × IsTrue (is_broken_by (is_authorized s user) x)
-    × ((role : Name) → has name_cmp role roles ≡ (is_authorized s user role && has name_cmp role x.roles))
+-- in this state these are the roles of a static set that the user is authorized for, this is the set's number, and they are as many or
+-- more
+abbrev pub BreaksStatic : State → Name → Name → List Name → ℕ → Type 0
+BreaksStatic s user set roles number =
+    (x : RoleSet) × (find name_cmp set s.static_sets ≡ Some x) × (x.cardinality ≡ number) × IsTrue (has name_cmp user s.users) × IsTrue (is_broken_by (is_authorized s user) x)
+    × (roles ≡ filter (is_authorized s user) x.roles)
 
--- in this state these roles of a dynamic set are active in the session, and they are as many as its number
-abbrev pub BreaksDynamic : State → Name → Name → List Name → Type 0
-BreaksDynamic s session set roles =
-    (x : RoleSet) × (y : Session) × (find name_cmp set s.dynamic_sets ≡ Some x) × (find name_cmp session s.sessions ≡ Some y) × IsTrue (is_broken y.active x)
-    × ((role : Name) → has name_cmp role roles ≡ (has name_cmp role y.active && has name_cmp role x.roles))
+-- in this state these are the roles of a dynamic set that are active in the session, this is the set's number, and they are as many or
+-- more
+abbrev pub BreaksDynamic : State → Name → Name → List Name → ℕ → Type 0
+BreaksDynamic s session set roles number =
+    (x : RoleSet) × (y : Session) × (find name_cmp set s.dynamic_sets ≡ Some x) × (x.cardinality ≡ number) × (find name_cmp session s.sessions ≡ Some y) × IsTrue (is_broken y.active x)
+    × (roles ≡ filter (λ role. has name_cmp role y.active) x.roles)
 
 -- in this state the set has this many roles and this number, and 2 ≤ n ≤ |rs| does not hold
 abbrev pub IsBadlySized : Separation → State → Name → ℕ → ℕ → Type 0
@@ -106,8 +108,8 @@ Hinders c s (RoleNotActive session role) = ((user : Name) × (c ≡ DropActiveRo
 Hinders c s (Inherits ascendant descendant) = (c ≡ AddInheritance ascendant descendant) × IsTrue (has pair_cmp (ascendant, descendant) s.declared)
 Hinders c s (NoInheritance ascendant descendant) = (c ≡ DeleteInheritance ascendant descendant) × (has pair_cmp (ascendant, descendant) s.declared ≡ false)
 Hinders c s (Cycle chain) = (c ≡ AddInheritance chain.last chain.first) × IsChain s.roles s.declared chain.first chain.rest.items chain.last
-Hinders c s (SsdViolated user set roles) = BreaksStatic (change c s) user set roles
-Hinders c s (DsdViolated session set roles) = BreaksDynamic (change c s) session set roles
+Hinders c s (SsdViolated user set roles number) = BreaksStatic (change c s) user set roles number
+Hinders c s (DsdViolated session set roles number) = BreaksDynamic (change c s) session set roles number
 Hinders c s (SetExists kind set) = ((roles : List Name) × (n : ℕ) × (c ≡ CreateSet kind set roles n)) × IsTrue (is_set kind s set)
 Hinders c s (NoSet kind set) = (set_of c ≡ Some (kind, set)) × (is_set kind s set ≡ false)
 Hinders c s (BadCardinality kind set size number) = IsBadlySized kind (change c s) set size number

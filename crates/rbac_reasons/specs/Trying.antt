@@ -28,8 +28,8 @@ TellsLimited s role None = is_limited_at s role ≡ false
 TellsLimited s role (Some pair) = (is_limited_at s role ≡ true) × IsTrue (is_limited s.vocabulary.hierarchy) × IsTrue (has pair_cmp (role, pair.1) s.declared)
 
 abbrev pub Breaks : Separation → State → Breach → Type 0
-Breaks Static s breach = BreaksStatic s breach.holder breach.set breach.roles
-Breaks Dynamic s breach = BreaksDynamic s breach.holder breach.set breach.roles
+Breaks Static s breach = BreaksStatic s breach.holder breach.set breach.roles breach.number
+Breaks Dynamic s breach = BreaksDynamic s breach.holder breach.set breach.roles breach.number
 
 -- whether some user, or some session, breaks a set of the kind, and which
 abbrev pub TellsBreach : Separation → State → Option Breach → Type 0
@@ -37,5 +37,5 @@ TellsBreach kind s None = is_violated kind s ≡ false
 TellsBreach kind s (Some breach) = (is_violated kind s ≡ true) × Breaks kind s breach
 
 abbrev pub hindrance_by : Separation → Breach → Hindrance
-hindrance_by Static breach = SsdViolated breach.holder breach.set breach.roles
-hindrance_by Dynamic breach = DsdViolated breach.holder breach.set breach.roles
+hindrance_by Static breach = SsdViolated breach.holder breach.set breach.roles breach.number
+hindrance_by Dynamic breach = DsdViolated breach.holder breach.set breach.roles breach.number

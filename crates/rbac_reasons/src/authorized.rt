@@ -1,5 +1,6 @@
 //! Who is authorized for which roles.
-ghost use Rattle.std.specs.Prelude.{◌≡◌, ◌&&◌, IfOk};
+ghost use Rattle.std.specs.Prelude.{◌≡◌, IfOk};
+ghost use Rattle.std.specs.List.{filter};
 ghost use Rattle.std.specs.List.Sorted.{IsStrictlySortedBy};
 ghost use Rattle.sorted_keys.specs.Keys.{has};
 ghost use Rattle.rbac_terms.specs.Name.{Name as NameValue, name_cmp, pair_cmp};
@@ -39,13 +40,13 @@ pub fn authorized_roles(alloc: Global, policy: &Policy, user: &Name) -> Result<N
     authorized_by(alloc, policy.assignments(), policy.declarations(), user)
 }
 
-/// The names that are in both sets.
+/// Those of the names that are among the others.
 pub(crate) fn common(
     alloc: Global,
     names: &NameSet,
     others: &NameSet,
 ) -> Result<NameSet, AllocError>
-    ensures { IfOk result (λ both. (name : NameValue) → has name_cmp name both ≡ (has name_cmp name others.now && has name_cmp name names.now)) }
+    ensures { IfOk result (λ both. both ≡ filter (λ name. has name_cmp name others.now) names.now) }
 {
     let mut both = NameSet::new(alloc);
     for name in names.names() {
@@ -53,5 +54,6 @@ pub(crate) fn common(
             both.add_copy(name)?;
         }
     }
+    let _in_order = both.names();
     Ok(both)
 }

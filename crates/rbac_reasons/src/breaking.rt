@@ -1,7 +1,7 @@
 //! Who would break separation of duty.
-ghost use Rattle.std.specs.Prelude.{◌≡◌, ◌&&◌, ◌∷◌, [], IfOk, IsTrue, Some};
+ghost use Rattle.std.specs.Prelude.{◌≡◌, ◌∷◌, [], IfOk, IsTrue, Some};
 ghost use Rattle.std.specs.FinMap.Entries.{find, put};
-ghost use Rattle.std.specs.List.{find as first_where};
+ghost use Rattle.std.specs.List.{filter, find as first_where};
 ghost use Rattle.std.specs.List.Sorted.{IsStrictlySortedBy};
 ghost use Rattle.std.specs.Option.{option_copied, option_map};
 ghost use Rattle.sorted_keys.specs.Keys.{has, by_key, with_key};
@@ -33,11 +33,13 @@ pub(crate) fn violated(kind: Separation, breach: Option<Breach>) -> Option<Hindr
             user: breach.holder,
             set: breach.set,
             roles: breach.roles,
+            number: breach.number,
         },
         Separation::Dynamic => Hindrance::DsdViolated {
             session: breach.holder,
             set: breach.set,
             roles: breach.roles,
+            number: breach.number,
         },
     })
 }
@@ -63,12 +65,13 @@ fn breach_of(
     entry: &(Name, RoleSet),
     roles: &NameSet,
 ) -> Result<Breach, AllocError>
-    ensures { IfOk result (λ breach. (breach.holder ≡ holder.now) × (breach.set ≡ entry.now.0) × ((role : NameValue) → has name_cmp role breach.roles ≡ (has name_cmp role roles.now && has name_cmp role entry.now.1.roles))) }
+    ensures { IfOk result (λ breach. (breach.holder ≡ holder.now) × (breach.set ≡ entry.now.0) × (breach.roles ≡ filter (λ role. has name_cmp role roles.now) entry.now.1.roles) × (breach.number ≡ entry.now.1.cardinality)) }
 {
     Ok(Breach {
         holder: holder.copy()?,
         set: entry.0.copy()?,
         roles: common(alloc, &entry.1.roles, roles)?,
+        number: entry.1.cardinality,
     })
 }
 

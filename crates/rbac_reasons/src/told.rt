@@ -93,17 +93,19 @@ pub enum Hindrance {
     Cycle {
         chain: Chain,
     },
-    /// A user, a set, and the roles of the set that the user would be authorized for.
+    /// A user, a set, the roles of the set that the user would be authorized for, and the set's number: as many are too many.
     SsdViolated {
         user: Name,
         set: Name,
         roles: NameSet,
+        number: u32,
     },
-    /// A session, a set, and the roles of the set that would be active in the session.
+    /// A session, a set, the roles of the set that would be active in the session, and the set's number: as many are too many.
     DsdViolated {
         session: Name,
         set: Name,
         roles: NameSet,
+        number: u32,
     },
     SetExists {
         kind: Separation,

@@ -227,7 +227,7 @@ fn expect_refusal<G: GroupName, K: Gate + Drop, C: Courier + Drop, R: Wait + Abo
 }
 
 // Awaits the answer, and compares it and its place. All commands are member 1's here, so the clock of each is one more.
-fn expect_receipt<G: GroupName, K: Gate + Drop, C: Courier + Drop, R: Wait + Abort>(
+pub(crate) fn expect_receipt<G: GroupName, K: Gate + Drop, C: Courier + Drop, R: Wait + Abort>(
     rt: &R,
     service: &Service<G, K, C>,
     pass: &mut Pass<G>,

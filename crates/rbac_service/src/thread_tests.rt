@@ -1,6 +1,7 @@
 //! A service whose members run in threads, beside callers in threads of their own.
 ghost use Rattle.std.specs.Prelude.{◌≡◌, length};
 
+mod pumping;
 mod serving;
 mod silent;
 mod stopping;

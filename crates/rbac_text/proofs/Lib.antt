@@ -3,6 +3,7 @@ pub mod ReadingLemmas
 pub mod ValueLemmas
 pub mod FieldLemmas
 pub mod ArrayLemmas
+pub mod CommandArrayLemmas
 pub mod TextLemmas
 pub mod ObjectLemmas
 pub mod CommandBack

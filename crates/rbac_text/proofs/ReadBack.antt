@@ -19,5 +19,5 @@ use Rattle.rbac_text.proofs.CommandBack.{command_back}
 pub read_back : (c : Command) → AreFields (command_fields c) → length (command_text c) ≤ longest_line → command (command_text c) ≡ Ok c
 unfolding command
 read_back c h short =
-    ap (λ v. v >>= (λ value. ok_or (as_object value) NotObject >>= (λ fields. command_of fields))) (value_of_json (command_text c) (object (command_object c)) short (one_line-command c h).0 (command_reads c h))
+    ap (λ v. v >>= (λ value. ok_or (as_object value) NotObject >>= (λ fields. command_of fields))) (value_of_json longest_line (command_text c) (object (command_object c)) short (one_line-command c h).0 (command_reads c h))
     ∙ command_back c h

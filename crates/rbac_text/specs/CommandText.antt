@@ -24,6 +24,10 @@ object_text word fields = codes "{\"name\":\"" ++ word ++ codes "\"" ++ flat_map
 abbrev pub command_text : Command → List ℕ
 command_text command = object_text (command_word command) (command_fields command)
 
+-- [{"name":"AddUser","user":"ann"}]
+abbrev pub commands_text : List Command → List ℕ
+commands_text commands = array_text command_text commands
+
 -- ---- What a field has to be, so that a reader takes it: names, a set of names, a number of 32 bits
 
 abbrev pub IsField : List ℕ × Field → Type 0

@@ -4,6 +4,7 @@ pub mod Refusals
 pub mod Fields
 pub mod Value
 pub mod Command
+pub mod CommandArray
 pub mod ReadCommand
 pub mod Pieces
 pub mod AnswerText

@@ -11,6 +11,10 @@ use Rattle.rbac_text.specs.Fields.{Reading}
 abbrev pub json_of : List ℕ → Option Data
 json_of text = if is_utf8 text then read text else None
 
+-- the value of a text that may have so many bytes
+abbrev pub value_within : ℕ → List ℕ → Reading Data
+value_within longest text = if nat_lt longest (length text) then Err TooLong else ok_or (json_of text) NotJson
+
 -- the value of a line
 abbrev pub value_of : List ℕ → Reading Data
-value_of line = if nat_lt longest_line (length line) then Err TooLong else ok_or (json_of line) NotJson
+value_of line = value_within longest_line line

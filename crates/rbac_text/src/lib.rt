@@ -2,6 +2,7 @@
 #![tactic(auto)]
 
 mod answer;
+mod arrays;
 pub mod keys;
 mod law;
 mod lines;
@@ -16,4 +17,4 @@ pub use law::written_command_is_read;
 pub use lines::put_lines;
 pub use reading::read_command;
 pub use refusal::LineRefusal;
-pub use writing::{command_word, put_command};
+pub use writing::{command_word, put_command, put_commands};

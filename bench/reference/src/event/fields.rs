@@ -15,6 +15,10 @@ impl<'a> Fields<'a> {
         Fields { object, taken: Vec::with_capacity(5) }
     }
 
+    pub fn has(&self, key: &str) -> bool {
+        self.object.iter().any(|(other, _)| other == key)
+    }
+
     fn value(&mut self, key: &'static str) -> Result<&'a Value<'a>, LineRefusal> {
         self.taken.push(key);
         // Of a key that stands twice the last value counts.
@@ -32,6 +36,20 @@ impl<'a> Fields<'a> {
     pub fn number(&mut self, key: &'static str) -> Result<u32, LineRefusal> {
         match self.value(key)? {
             Value::Whole(number) => u32::try_from(*number).map_err(|_| LineRefusal::WrongKind),
+            _ => Err(LineRefusal::WrongKind),
+        }
+    }
+
+    /// An array of a number of 64 bits and one of 32.
+    pub fn two_numbers(&mut self, key: &'static str) -> Result<(u64, u32), LineRefusal> {
+        let Value::List(items) = self.value(key)? else {
+            return Err(LineRefusal::WrongKind);
+        };
+        match items[..] {
+            [Value::Whole(first), Value::Whole(second)] => {
+                let second = u32::try_from(second).map_err(|_| LineRefusal::WrongKind)?;
+                Ok((first, second))
+            }
             _ => Err(LineRefusal::WrongKind),
         }
     }

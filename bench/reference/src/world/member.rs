@@ -1,10 +1,15 @@
 //! One member: its clock, what it sent and has taken of the others, the commands that it holds, and its policy.
 
+mod alone;
+
 use super::{Batch, EventRefusal, Message, Record, Stamp};
 use crate::limits;
 use crate::policy::Policy;
+use std::cmp::Ordering;
 use std::collections::{BTreeMap, HashMap};
 use std::rc::Rc;
+
+pub use alone::{Alone, Delivered};
 
 pub struct Member {
     number: u32,
@@ -85,28 +90,42 @@ impl Member {
     /// Takes a message, which has to be the sender's next one. Its commands are held, and acknowledged together where nothing that
     /// was sent from here comes after them.
     pub fn receive(&mut self, sender: usize, number: u32, message: Message) -> Result<Option<Stamp>, EventRefusal> {
-        let expected = self.links[sender].taken + 1;
-        if number < expected {
-            return Err(EventRefusal::Repeat { expected });
-        }
-        if number > expected {
-            return Err(EventRefusal::Gap { expected });
-        }
-        let moved = self.clock.max(message.stamp.clock) + 1;
-        // What is sent here has greater and greater stamps, so the last one tells.
-        let has_sent_later = self.sent.last().is_some_and(|last| last.stamp > message.stamp);
-        if message.batch.is_none() || has_sent_later {
-            self.require_clock(moved)?;
+        require_turn(number, self.links[sender].taken + 1)?;
+        let moved = self.moved_by(&message);
+        let acknowledges = self.must_acknowledge(&message);
+        self.require_room_to_take(moved, acknowledges)?;
+        if !acknowledges {
             self.take(sender, moved, message);
             return Ok(None);
         }
         // The acknowledgement is one more step of the clock.
-        self.require_clock(moved + 1)?;
-        self.require_room()?;
         self.take(sender, moved + 1, message);
         let stamp = self.stamp();
         self.sent.push(Message { stamp, batch: None });
         Ok(Some(stamp))
+    }
+
+    /// The clock above its own and the message's.
+    fn moved_by(&self, message: &Message) -> u64 {
+        self.clock.max(message.stamp.clock).saturating_add(1)
+    }
+
+    /// Whether a message has commands, and nothing was sent from here that comes after them.
+    fn must_acknowledge(&self, message: &Message) -> bool {
+        // What is sent here has greater and greater stamps, so the last one tells.
+        message.batch.is_some() && self.last_sent().is_none_or(|last| last < message.stamp)
+    }
+
+    fn last_sent(&self) -> Option<Stamp> {
+        self.sent.last().map(|last| last.stamp)
+    }
+
+    fn require_room_to_take(&self, moved: u64, acknowledges: bool) -> Result<(), EventRefusal> {
+        if !acknowledges {
+            return self.require_clock(moved);
+        }
+        self.require_clock(moved.saturating_add(1))?;
+        self.require_room()
     }
 
     fn take(&mut self, sender: usize, clock: u64, message: Message) {
@@ -123,12 +142,7 @@ impl Member {
     pub fn deliver(&mut self) -> Option<Record> {
         let least = self.held.first_entry()?;
         let stamp = *least.key();
-        // The member itself and the command's sender send nothing smaller from now on. Of each other one a greater stamp has
-        // to have come.
-        let is_passed = |(number, link): (u32, &Link)| {
-            number == self.number || number == stamp.member || link.latest.is_some_and(|latest| latest > stamp)
-        };
-        if !(1..).zip(&self.links).all(is_passed) {
+        if awaited(self.number, &self.links, stamp).next().is_some() {
             return None;
         }
         let batch = least.remove();
@@ -146,5 +160,20 @@ impl Member {
 
     fn require_room(&self) -> Result<(), EventRefusal> {
         if self.sent.len() < self.sent_limit as usize { Ok(()) } else { Err(EventRefusal::SentFull) }
+    }
+}
+
+/// The members that a command waits for. Its sender and the member itself send nothing smaller from now on; of each other one a
+/// greater stamp has to have come.
+fn awaited(me: u32, links: &[Link], stamp: Stamp) -> impl Iterator<Item = u32> {
+    let others = (1..).zip(links).filter(move |(number, _)| *number != me && *number != stamp.member);
+    others.filter(move |(_, link)| link.latest.is_none_or(|latest| latest <= stamp)).map(|(number, _)| number)
+}
+
+fn require_turn(number: u32, expected: u32) -> Result<(), EventRefusal> {
+    match number.cmp(&expected) {
+        Ordering::Less => Err(EventRefusal::Repeat { expected }),
+        Ordering::Equal => Ok(()),
+        Ordering::Greater => Err(EventRefusal::Gap { expected }),
     }
 }

@@ -1,6 +1,6 @@
 //! Commands to one member, each delivered at once, and the answers that the rules give them.
 
-use crate::playing::played;
+use crate::playing::printed;
 
 /// Submits and delivers each command to member 1 of a founding, and gives the answers.
 fn answers(founding: &str, commands: &[String]) -> Vec<String> {
@@ -9,7 +9,7 @@ fn answers(founding: &str, commands: &[String]) -> Vec<String> {
         let submit = format!(r#"{{"do":"submit","at":1,"caller":0,"serial":{serial},"command":{command}}}"#);
         format!("{submit}\n{deliver}\n")
     };
-    let text = played(founding, commands.iter().enumerate().map(line).collect());
+    let text = printed("play", founding, "-", commands.iter().enumerate().map(line).collect());
     let answer = |line: &str| line.strip_prefix(r#"{"answer":"#)?.split(r#","caller""#).next().map(str::to_owned);
     text.lines().filter_map(answer).collect()
 }

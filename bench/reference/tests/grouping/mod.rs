@@ -1,6 +1,6 @@
 //! Lines of groups, and what each of them is answered.
 
-use crate::playing::played;
+use crate::playing::printed;
 
 /// A founding without a vocabulary.
 pub fn founding(members: u32, more: &str) -> String {
@@ -25,7 +25,7 @@ pub fn deliver(at: u32) -> String {
 
 pub fn played_lines(founding: &str, lines: &[String]) -> Vec<String> {
     let input = lines.iter().map(|line| format!("{line}\n")).collect();
-    played(founding, input).lines().map(str::to_owned).collect()
+    printed("play", founding, "-", input).lines().map(str::to_owned).collect()
 }
 
 /// Plays the lines and compares each answer, which is wanted without the number of its line.

@@ -1,16 +1,16 @@
-//! Plays a schedule by the program.
+//! Gives lines to the program.
 
 use std::io::Write;
 use std::path::PathBuf;
 use std::process::{Command, Stdio};
 use std::sync::atomic::{AtomicU32, Ordering};
 
-/// What is printed for a schedule that is played on a founding file, or on the sample founding where the text is empty.
-pub fn played(founding: &str, input: String) -> String {
+/// What is printed for lines by the words `WORD FOUNDING LAST`, as `play FOUNDING -`. A founding without a text is the sample founding.
+pub fn printed(word: &str, founding: &str, last: &str, input: String) -> String {
     let file = (!founding.is_empty()).then(|| founding_file(founding));
-    let word = file.as_ref().map_or("-", |file| file.to_str().expect("a path that is a text"));
+    let path = file.as_ref().map_or("-", |file| file.to_str().expect("a path that is a text"));
     let mut process = Command::new(env!("CARGO_BIN_EXE_reference"))
-        .args(["play", word, "-"])
+        .args([word, path, last])
         .stdin(Stdio::piped())
         .stdout(Stdio::piped())
         .spawn()

@@ -194,7 +194,8 @@ fn a_file_that_is_too_long_and_no_toml(rt: HostRuntime) {
     drop(file);
 }
 
-// Each row is the word of a refusal and a file, with semicolons between its lines. Most files would be refused by the next check too.
+// Each row is the word of a refusal and a file, with semicolons between its lines. Most files would be refused by the next check too; some are
+// the sample with one thing changed.
 const REFUSED: &str =
     r#"BadVersion: version = 3; other = 1; operations = []; objects = []; permissions = []
 BadVersion: version = 1.0; other = 1; operations = []; objects = []; permissions = []
@@ -247,6 +248,10 @@ BadName: version = 1; members = 1; operations = ["a", "a"]; objects = []; permis
 Repeated: version = 1; members = 1; operations = ["a", "a"]; objects = []; permissions = [["a", "b"]]
 Repeated: version = 1; members = 1; operations = []; objects = ["a", "a"]; permissions = [["a", "b"]]
 Repeated: version = 1; members = 1; operations = []; objects = []; permissions = [["a", "b"], ["a", "b"]]
+MissingKey: version = 2; members = 1; operations = ["approve", "pay", "read"]; objects = ["invoice", "ledger"]; permissions = [["approve", "invoice"], ["pay", "invoice"], ["read", "ledger"]]
+BadVersion: version = 3; members = 1; operations = ["approve", "pay", "read"]; objects = ["invoice", "ledger"]; permissions = [["approve", "invoice"], ["pay", "invoice"], ["read", "ledger"]]
+WrongKind: version = 1; members = "1"; operations = ["approve", "pay", "read"]; objects = ["invoice", "ledger"]; permissions = [["approve", "invoice"], ["pay", "invoice"], ["read", "ledger"]]
+OutOfRange: version = 1; members = 9; operations = ["approve", "pay", "read"]; objects = ["invoice", "ledger"]; permissions = [["approve", "invoice"], ["pay", "invoice"], ["read", "ledger"]]
 UnknownName: version = 1; members = 1; operations = ["approve", "pay", "read"]; objects = ["invoice", "ledger"]; permissions = [["approve", "invoice"], ["pay", "invoice"], ["read", "ledger"], ["read", "moon"]]
 UnknownName: version = 1; members = 1; operations = ["approve", "pay", "read"]; objects = ["invoice", "ledger"]; permissions = [["approve", "invoice"], ["fly", "ledger"]]"#;
 

@@ -48,12 +48,18 @@ fn found<G: GroupName>(rt: &impl Abort, alloc: Global, founding: &Founding, numb
     node.expect(rt, "memory")
 }
 
-// A new caller adds a role.
-fn expect_submit<G: GroupName>(rt: &impl Abort, alloc: Global, node: &mut Node<G>, wanted: Stamp) {
+// A new caller, whose number is this one, adds a role.
+fn expect_submit<G: GroupName>(
+    rt: &impl Abort,
+    alloc: Global,
+    node: &mut Node<G>,
+    number: u32,
+    wanted: Stamp,
+) {
     let role = Name::read(alloc, b"r").expect(rt, "a name");
     let caller = node.new_caller().expect(rt, "a caller");
     let answer = node.submit(caller, 0, Command::AddRole { role });
-    assert_eq!(rt; answer, Ok(wanted));
+    assert_eq!(rt; (caller, answer), (number, Ok(wanted)));
 }
 
 // A node publishes on its member's rows.
@@ -135,7 +141,7 @@ fn exchange<G: GroupName>(
     requires rows { (rows.now ≡ G.cells) × (length rows.now.sent ≡ G.group.members) }
     requires two { G.group.members ≡ 2 }
 {
-    expect_submit(rt, alloc, one, stamp(1, 1));
+    expect_submit(rt, alloc, one, 0, stamp(1, 1));
     expect_receipt(rt, rows, two, 1, Err(NodeRefusal::NotShown));
     expect_publish(rt, alloc, rows, one, Ok(()));
     expect_receipt(rt, rows, two, 1, Ok(Some(stamp(3, 2))));
@@ -160,7 +166,7 @@ fn exchange_again<G: GroupName>(
     requires rows { (rows.now ≡ G.cells) × (length rows.now.sent ≡ G.group.members) }
     requires two { G.group.members ≡ 2 }
 {
-    expect_submit(rt, alloc, one, stamp(5, 1));
+    expect_submit(rt, alloc, one, 1, stamp(5, 1));
     expect_publish(rt, alloc, rows, one, Ok(()));
     expect_receipt(rt, rows, two, 1, Ok(Some(stamp(7, 2))));
     expect_delivery(rt, alloc, two, 1);
@@ -177,16 +183,34 @@ fn is_no_group<G: GroupName>(alloc: Global, mut nodes: [Node<G>; 2]) -> bool {
     is
 }
 
-// Two nodes in order of number are a group, which has delivered two commands, and in the other order they are none.
-fn audits<G: GroupName>(rt: &impl Abort, alloc: Global, mut nodes: [Node<G>; 2]) {
+// Two nodes in order of number are a group, whose members have each delivered so many commands, and in the other order they are none.
+fn audits<G: GroupName>(rt: &impl Abort, alloc: Global, mut nodes: [Node<G>; 2], count: usize) {
     let audited = audit(alloc, &mut nodes).expect(rt, "a group");
-    assert_eq!(rt; audited.delivered.as_slice(), [2, 2].as_slice());
+    assert_eq!(rt; audited.delivered.as_slice(), [count, count].as_slice());
     drop(audited);
     nodes.reverse();
     assert!(rt; is_no_group(alloc, nodes));
 }
 
-// What two nodes say to each other.
+// What two nodes say to each other of one command.
+fn talk_once<G: GroupName, R: Abort>(rt: &R, alloc: Global, founding: &Founding)
+    requires names { (founding.now.group ≡ G.group) × (founding.now.vocabulary ≡ G.vocabulary) × (founding.now.rows ≡ G.cells) }
+    requires two { (G.group.members ≡ 2) × (length founding.now.rows.sent ≡ 2) }
+{
+    let mut one: Node<G> = found(rt, alloc, founding, 1);
+    let mut two: Node<G> = found(rt, alloc, founding, 2);
+    exchange(rt, alloc, &founding.rows, &mut one, &mut two);
+    audits(rt, alloc, [one, two], 1);
+}
+
+#[test]
+fn two_nodes_deliver_a_command(rt: HostRuntime) {
+    let founding = founding_of(&rt, rt.alloc(), group_of(&rt, 2, 4), 4);
+    talk_once::<Brand, _>(&rt, rt.alloc(), &founding);
+    drop(founding);
+}
+
+// What two nodes say to each other of two commands.
 fn talk<G: GroupName, R: Abort>(rt: &R, alloc: Global, founding: &Founding)
     requires names { (founding.now.group ≡ G.group) × (founding.now.vocabulary ≡ G.vocabulary) × (founding.now.rows ≡ G.cells) }
     requires two { (G.group.members ≡ 2) × (length founding.now.rows.sent ≡ 2) }
@@ -199,7 +223,7 @@ fn talk<G: GroupName, R: Abort>(rt: &R, alloc: Global, founding: &Founding)
     exchange_again(rt, alloc, &founding.rows, &mut one, &mut two);
     expect_published(rt, &one, (2, 1));
     expect_published(rt, &two, (2, 2));
-    audits(rt, alloc, [one, two]);
+    audits(rt, alloc, [one, two], 2);
 }
 
 #[test]
@@ -215,8 +239,8 @@ fn fill<G: GroupName, R: Abort>(rt: &R, alloc: Global, founding: &Founding)
     requires one { (G.group.members ≡ 1) × (length founding.now.rows.sent ≡ 1) }
 {
     let mut node: Node<G> = found(rt, alloc, founding, 1);
-    expect_submit(rt, alloc, &mut node, stamp(1, 1));
-    expect_submit(rt, alloc, &mut node, stamp(2, 1));
+    expect_submit(rt, alloc, &mut node, 0, stamp(1, 1));
+    expect_submit(rt, alloc, &mut node, 1, stamp(2, 1));
     let full = Err(PublishRefusal::RowFull);
     expect_publish(rt, alloc, &founding.rows, &mut node, full);
     expect_published(rt, &node, (1, 0));
@@ -239,8 +263,8 @@ fn read_too_much<G: GroupName, R: Abort>(rt: &R, alloc: Global, founding: &Found
     let mut one: Node<G> = found(rt, alloc, founding, 1);
     let mut twin: Node<G> = found(rt, alloc, founding, 1);
     let mut two: Node<G> = found(rt, alloc, founding, 2);
-    expect_submit(rt, alloc, &mut one, stamp(1, 1));
-    expect_submit(rt, alloc, &mut twin, stamp(1, 1));
+    expect_submit(rt, alloc, &mut one, 0, stamp(1, 1));
+    expect_submit(rt, alloc, &mut twin, 0, stamp(1, 1));
     expect_publish(rt, alloc, &founding.rows, &mut twin, Ok(()));
     drop(twin);
     expect_receipt(rt, &founding.rows, &mut two, 1, Ok(Some(stamp(3, 2))));

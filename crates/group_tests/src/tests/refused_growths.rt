@@ -1,8 +1,10 @@
 //! Calls of a member, of a world and of what reads and plays lines, made again where a growth is refused, and what a refusal leaves.
 //! With ample memory each goes well at once; `bench/hostile/refuse_each_growth` runs these tests with each growth refused in turn.
 
+use crate::tests::sample::{DAY, DAY_TOLD, sample_world};
+use crate::tests::shown::Shown;
 use crate::tests::stamps::stamp;
-use rbac_founding::{Founding, FoundingRefusal, read_founding, sample_founding};
+use rbac_founding::{Founding, FoundingRefusal, read_founding};
 use rbac_lines::{LineRefusal, RunFault, Summary, read_client, read_line, run, watch};
 use rbac_member::{Member, ReceiveRefusal, SubmitRefusal};
 use rbac_words::{Answer, Command, Commands, Group, Message, Name, Stamp, Vocabulary};
@@ -30,19 +32,15 @@ fn first_of_two(rt: &impl Abort, alloc: Global) -> Member {
     Member::found(alloc, group, 1, no_words(rt, alloc)).expect(rt, "a member")
 }
 
-// The clock, how many messages were sent, and how many taken of member 2.
-fn seen(member: &Member) -> (u64, usize, u32) {
-    (member.clock(), member.sent().len(), member.read(2))
-}
-
 // A refused submit leaves the member as it was, and is made again.
 fn submitted(rt: &impl Abort, alloc: Global, member: &mut Member, serial: u32) -> Stamp {
-    let before = seen(member);
-    match member.submit(0, serial, add_user(rt, alloc, "ann")) {
+    let before = Shown::of(rt, alloc, member);
+    let answer = member.submit(0, serial, add_user(rt, alloc, "ann"));
+    before.expect_left(rt, alloc, member, answer.is_err());
+    match answer {
         Ok(stamp) => stamp,
         Err(refusal) => {
             assert_eq!(rt; refusal, SubmitRefusal::NoMemory);
-            assert_eq!(rt; seen(member), before);
             let again = member.submit(0, serial, add_user(rt, alloc, "ann"));
             again.expect(rt, "memory")
         }
@@ -50,13 +48,20 @@ fn submitted(rt: &impl Abort, alloc: Global, member: &mut Member, serial: u32) -
 }
 
 // The same of a submit that copies its command.
-fn submitted_copy(rt: &impl Abort, member: &mut Member, serial: u32, command: &Command) -> Stamp {
-    let before = seen(member);
-    match member.submit_copy(0, serial, command) {
+fn submitted_copy(
+    rt: &impl Abort,
+    alloc: Global,
+    member: &mut Member,
+    serial: u32,
+    command: &Command,
+) -> Stamp {
+    let before = Shown::of(rt, alloc, member);
+    let answer = member.submit_copy(0, serial, command);
+    before.expect_left(rt, alloc, member, answer.is_err());
+    match answer {
         Ok(stamp) => stamp,
         Err(refusal) => {
             assert_eq!(rt; refusal, SubmitRefusal::NoMemory);
-            assert_eq!(rt; seen(member), before);
             let again = member.submit_copy(0, serial, command);
             again.expect(rt, "memory")
         }
@@ -64,13 +69,20 @@ fn submitted_copy(rt: &impl Abort, member: &mut Member, serial: u32, command: &C
 }
 
 // A refused receipt leaves the member as it was, and is made again.
-fn received(rt: &impl Abort, member: &mut Member, number: u32, message: &Message) -> Option<Stamp> {
-    let before = seen(member);
-    match member.receive(2, number, message) {
+fn received(
+    rt: &impl Abort,
+    alloc: Global,
+    member: &mut Member,
+    number: u32,
+    message: &Message,
+) -> Option<Stamp> {
+    let before = Shown::of(rt, alloc, member);
+    let answer = member.receive(2, number, message);
+    before.expect_left(rt, alloc, member, answer.is_err());
+    match answer {
         Ok(acknowledged) => acknowledged,
         Err(refusal) => {
             assert_eq!(rt; refusal, ReceiveRefusal::NoMemory);
-            assert_eq!(rt; seen(member), before);
             member.receive(2, number, message).expect(rt, "memory")
         }
     }
@@ -78,13 +90,12 @@ fn received(rt: &impl Abort, member: &mut Member, number: u32, message: &Message
 
 // A refused delivery leaves the member as it was, and is made again.
 fn delivered(rt: &impl Abort, alloc: Global, member: &mut Member) -> Option<usize> {
-    let before = member.history().len();
-    match member.deliver(alloc) {
+    let before = Shown::of(rt, alloc, member);
+    let answer = member.deliver(alloc);
+    before.expect_left(rt, alloc, member, !matches!(answer, Ok(Some(_))));
+    match answer {
         Ok(place) => place,
-        Err(_) => {
-            assert_eq!(rt; member.history().len(), before);
-            member.deliver(alloc).expect(rt, "memory")
-        }
+        Err(_) => member.deliver(alloc).expect(rt, "memory"),
     }
 }
 
@@ -96,11 +107,11 @@ fn take_of_second(rt: &impl Abort, alloc: Global, member: &mut Member) {
         serial: 0,
         commands: Commands::one(add_user(rt, alloc, "bob")),
     };
-    let acknowledged = received(rt, member, 1, &message);
+    let acknowledged = received(rt, alloc, member, 1, &message);
     drop(message);
     assert_eq!(rt; acknowledged, Some(stamp(4, 1)));
     let message = Message::Ack { stamp: stamp(6, 2) };
-    let acknowledged = received(rt, member, 2, &message);
+    let acknowledged = received(rt, alloc, member, 2, &message);
     drop(message);
     assert_eq!(rt; acknowledged, None);
 }
@@ -110,7 +121,7 @@ fn a_member_that_is_asked_again(rt: HostRuntime) {
     let alloc = rt.alloc();
     let mut member = first_of_two(&rt, alloc);
     let command = add_user(&rt, alloc, "ann");
-    let copied = submitted_copy(&rt, &mut member, 0, &command);
+    let copied = submitted_copy(&rt, alloc, &mut member, 0, &command);
     drop(command);
     assert_eq!(rt; copied, stamp(1, 1));
     take_of_second(&rt, alloc, &mut member);
@@ -135,12 +146,13 @@ fn three(rt: &impl Abort, alloc: Global) -> Vec<Command> {
 
 // A refused submit of three commands leaves the member as it was, and is made again.
 fn submitted_batch(rt: &impl Abort, alloc: Global, member: &mut Member) -> Stamp {
-    let before = seen(member);
-    match member.submit_batch(0, 0, three(rt, alloc)) {
+    let before = Shown::of(rt, alloc, member);
+    let answer = member.submit_batch(0, 0, three(rt, alloc));
+    before.expect_left(rt, alloc, member, answer.is_err());
+    match answer {
         Ok(stamp) => stamp,
         Err(refusal) => {
             assert_eq!(rt; refusal, SubmitRefusal::NoMemory);
-            assert_eq!(rt; seen(member), before);
             let again = member.submit_batch(0, 0, three(rt, alloc));
             again.expect(rt, "memory")
         }
@@ -150,12 +162,13 @@ fn submitted_batch(rt: &impl Abort, alloc: Global, member: &mut Member) -> Stamp
 // The same of a submit that copies its commands.
 fn submitted_batch_copy(rt: &impl Abort, alloc: Global, member: &mut Member) -> Stamp {
     let commands = Commands::of(three(rt, alloc));
-    let before = seen(member);
-    let stamp = match member.submit_batch_copy(1, 0, &commands) {
+    let before = Shown::of(rt, alloc, member);
+    let answer = member.submit_batch_copy(1, 0, &commands);
+    before.expect_left(rt, alloc, member, answer.is_err());
+    let stamp = match answer {
         Ok(stamp) => stamp,
         Err(refusal) => {
             assert_eq!(rt; refusal, SubmitRefusal::NoMemory);
-            assert_eq!(rt; seen(member), before);
             let again = member.submit_batch_copy(1, 0, &commands);
             again.expect(rt, "memory")
         }
@@ -172,11 +185,11 @@ fn take_batch_of_second(rt: &impl Abort, alloc: Global, member: &mut Member) {
         serial: 0,
         commands: Commands::of(three(rt, alloc)),
     };
-    let acknowledged = received(rt, member, 1, &message);
+    let acknowledged = received(rt, alloc, member, 1, &message);
     drop(message);
     assert_eq!(rt; acknowledged, Some(stamp(5, 1)));
     let message = Message::Ack { stamp: stamp(6, 2) };
-    let acknowledged = received(rt, member, 2, &message);
+    let acknowledged = received(rt, alloc, member, 2, &message);
     drop(message);
     assert_eq!(rt; acknowledged, None);
 }
@@ -241,7 +254,7 @@ fn a_day(rt: &impl Abort, alloc: Global) -> [Event; 8] {
 }
 
 // What the day's events answer.
-const DAY: &[Result<Outcome, Refusal>] = &[
+const TOLD: &[Result<Outcome, Refusal>] = &[
     Ok(Outcome::Submitted(Stamp {
         clock: 1,
         member: 1,
@@ -267,12 +280,12 @@ const DAY: &[Result<Outcome, Refusal>] = &[
 // Plays the day, and goes on after the events that were played where a growth is refused.
 fn expect_day(rt: &impl Abort, alloc: Global, world: &mut World, events: &[Event]) {
     match play(world, alloc, events) {
-        Ok(outcomes) => assert!(rt; outcomes.as_slice() == DAY),
+        Ok(outcomes) => assert!(rt; outcomes.as_slice() == TOLD),
         Err(Stopped { done }) => {
             assert!(rt; done <= events.len());
-            assert!(rt; done <= DAY.len());
+            assert!(rt; done <= TOLD.len());
             let rest = play(world, alloc, &events[done..]).expect(rt, "memory");
-            assert!(rt; rest.as_slice() == &DAY[done..]);
+            assert!(rt; rest.as_slice() == &TOLD[done..]);
         }
     }
 }
@@ -295,16 +308,6 @@ fn a_day_that_is_gone_on_with(rt: HostRuntime) {
     drop(world);
 }
 
-// The commands of the first day, as lines.
-const FIRST_DAY: [&str; 6] = [
-    r#"{"do":"submit","at":1,"caller":0,"serial":0,"command":{"name":"AddUser","user":"ann"}}"#,
-    r#"{"do":"submit","at":1,"caller":0,"serial":1,"command":{"name":"AddRole","role":"clerk"}}"#,
-    r#"{"do":"submit","at":1,"caller":0,"serial":2,"command":{"name":"AssignUser","user":"ann","role":"clerk"}}"#,
-    r#"{"do":"submit","at":1,"caller":0,"serial":3,"command":{"name":"GrantPermission","operation":"read","object":"ledger","role":"clerk"}}"#,
-    r#"{"do":"submit","at":1,"caller":0,"serial":4,"command":{"name":"CreateSession","user":"ann","session":"s1","roles":["clerk"]}}"#,
-    r#"{"do":"submit","at":1,"caller":0,"serial":5,"command":{"name":"CheckAccess","session":"s1","operation":"read","object":"ledger"}}"#,
-];
-
 fn event(rt: &impl Abort, alloc: Global, line: &str) -> Event {
     let event = match read_line(alloc, line.as_bytes()) {
         Ok(event) => Ok(event),
@@ -313,16 +316,14 @@ fn event(rt: &impl Abort, alloc: Global, line: &str) -> Event {
     event.ok().expect(rt, "an event")
 }
 
-// The day's twelve events: each command is submitted and delivered.
+// The twelve events of the first day: each command is submitted and delivered.
 fn first_day(rt: &impl Abort, alloc: Global) -> Vec<Event> {
     let mut events = match Vec::with_capacity(alloc, 12) {
         Ok(room) => room,
         Err(_) => Vec::with_capacity(alloc, 12).expect(rt, "memory"),
     };
-    for line in FIRST_DAY {
+    for line in DAY.lines() {
         events.push(event(rt, alloc, line)).expect(rt, "memory");
-        let deliver = Event::Deliver { at: 1 };
-        events.push(deliver).expect(rt, "memory");
     }
     events
 }
@@ -350,7 +351,7 @@ fn are_of_the_day(outcomes: &[Result<Outcome, Refusal>], from: usize) -> bool {
 
 // The world of the sample founding after the day, which is gone on with where a growth is refused.
 fn after_the_day(rt: &impl Abort, alloc: Global, events: &[Event]) -> World {
-    let mut world = sample_world(rt, alloc);
+    let mut world = sample_world(rt, alloc, 1);
     match play(&mut world, alloc, events) {
         Ok(outcomes) => assert!(rt; are_of_the_day(outcomes.as_slice(), 0)),
         Err(Stopped { done }) => {
@@ -360,20 +361,6 @@ fn after_the_day(rt: &impl Abort, alloc: Global, events: &[Event]) -> World {
         }
     }
     world
-}
-
-fn sample_world(rt: &impl Abort, alloc: Global) -> World {
-    let founded = match sample_founding(alloc) {
-        Ok(founding) => World::found(alloc, founding.group, founding.vocabulary).ok(),
-        Err(_) => None,
-    };
-    match founded {
-        Some(world) => world,
-        None => {
-            let founding = sample_founding(alloc).ok().expect(rt, "a founding");
-            World::found(alloc, founding.group, founding.vocabulary).expect(rt, "memory")
-        }
-    }
 }
 
 fn have_the_same_policy(rt: &impl Abort, world: &World, other: &World) -> bool {
@@ -482,36 +469,51 @@ const OUTPUT: &[u8] = br#"{"line":1,"stamp":[1,1]}
 {"acknowledged":[3,2],"line":4}
 "#;
 
-// How the run ended, and how much it wrote: the first texts, each of them whole.
-fn ran(rt: &impl Abort, alloc: Global) -> (Result<Summary, RunFault>, usize) {
-    let mut world = founded(rt, alloc);
-    let mut written = match Vec::with_capacity(alloc, 200) {
+// How a run of an input on the sample of so many members ended, and how much it wrote: the first of these texts, each of them whole.
+fn ran(
+    rt: &impl Abort,
+    alloc: Global,
+    members: u32,
+    input: &[u8],
+    texts: &[u8],
+) -> (Result<Summary, RunFault>, usize) {
+    let mut world = sample_world(rt, alloc, members);
+    let mut written = match Vec::with_capacity(alloc, texts.len()) {
         Ok(room) => room,
-        Err(_) => Vec::with_capacity(alloc, 200).expect(rt, "memory"),
+        Err(_) => Vec::with_capacity(alloc, texts.len()).expect(rt, "memory"),
     };
     let ended = run(
         alloc,
-        &mut watch(INPUT),
+        &mut watch(input),
         &mut watch(&mut written),
         &mut world,
     );
     drop(world);
-    assert!(rt; OUTPUT.starts_with(&written));
+    assert!(rt; texts.starts_with(&written));
     assert!(rt; written.is_empty() || written.ends_with(b"\n"));
     let length = written.len();
     drop(written);
     (ended, length)
 }
 
-#[test]
-fn a_run_that_ends_without_memory(rt: HostRuntime) {
-    let (ended, length) = ran(&rt, rt.alloc());
+// The run goes well, or it ends without memory and goes well all over again.
+fn expect_run(rt: &impl Abort, alloc: Global, members: u32, input: &[u8], texts: &[u8]) {
+    let (ended, length) = ran(rt, alloc, members, input, texts);
     if ended.is_ok() {
-        assert_eq!(rt; length, OUTPUT.len());
+        assert_eq!(rt; length, texts.len());
         return;
     }
     assert!(rt; ended == Err(RunFault::NoMemory));
-    // All over again.
-    let (ended, length) = ran(&rt, rt.alloc());
-    assert!(rt; ended.is_ok() && length == OUTPUT.len());
+    let (ended, length) = ran(rt, alloc, members, input, texts);
+    assert!(rt; ended.is_ok() && length == texts.len());
+}
+
+#[test]
+fn a_run_that_ends_without_memory(rt: HostRuntime) {
+    expect_run(&rt, rt.alloc(), 2, INPUT, OUTPUT);
+}
+
+#[test]
+fn a_first_day_that_ends_without_memory(rt: HostRuntime) {
+    expect_run(&rt, rt.alloc(), 1, DAY.as_bytes(), DAY_TOLD);
 }

@@ -1,15 +1,10 @@
-//! The limit of users, reached at each of two members. What whole schedules answer is played by the goldens.
+//! The limit of users, reached at each of two members of the sample founding. What whole schedules answer is played by the goldens.
 
-use rbac_words::{Answer, Command, Denial, Group, Name, Vocabulary};
+use crate::tests::sample::sample_world;
+use rbac_words::{Answer, Command, Denial, Name};
 use rbac_world::{Event, World};
 use std::alloc::Global;
 use std::process::Abort;
-
-fn two_members(rt: &impl Abort, alloc: Global) -> World {
-    let group = Group::build(2, 0, 65_536).expect(rt, "a group");
-    let vocabulary = Vocabulary::build(Vec::new(alloc), Vec::new(alloc), Vec::new(alloc));
-    World::found(alloc, group, vocabulary.expect(rt, "a vocabulary")).expect(rt, "a world")
-}
 
 fn add_user(rt: &impl Abort, alloc: Global, text: &str) -> Command {
     Command::AddUser {
@@ -64,7 +59,7 @@ fn expect_last(rt: &impl Abort, world: &World, at: u32, count: usize, answer: An
 #[test]
 fn the_user_past_the_limit_is_denied_at_each_member(rt: HostRuntime) {
     let alloc = rt.alloc();
-    let mut world = two_members(&rt, alloc);
+    let mut world = sample_world(&rt, alloc, 2);
     for number in 1..4_098 {
         add_numbered_user(&rt, alloc, &mut world, number);
     }

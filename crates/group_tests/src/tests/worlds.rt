@@ -1,5 +1,6 @@
 //! Worlds of `rbac_world`: what each event does, and what refused ones leave.
 use crate::tests::records::expect_record;
+use crate::tests::sample::sample_world;
 use crate::tests::stamps::stamp;
 use rbac_words::{Answer, Command, Denial, Group, Name, Vocabulary};
 use rbac_world::{Event, Outcome, Refusal, World, play};
@@ -20,6 +21,18 @@ fn submit(rt: &impl Abort, alloc: Global, at: u32, serial: u32) -> Event {
         serial,
         command: Command::AddRole {
             role: Name::read(alloc, b"r").expect(rt, "a name"),
+        },
+    }
+}
+
+// Caller 0 of a member adds ann, by its first command.
+fn add_ann(rt: &impl Abort, alloc: Global, at: u32) -> Event {
+    Event::Submit {
+        at,
+        caller: 0,
+        serial: 0,
+        command: Command::AddUser {
+            user: Name::read(alloc, b"ann").expect(rt, "a name"),
         },
     }
 }
@@ -94,56 +107,99 @@ fn expect_play(
     drop(outcomes);
 }
 
-// Two submits at once at two members, and each message received by the other one: member 2 need not acknowledge what comes before its
-// own command.
-fn at_two_members(rt: &impl Abort, alloc: Global) -> [Event; 6] {
-    [
-        submit(rt, alloc, 1, 0),
-        submit(rt, alloc, 2, 0),
+// A member's clock is here.
+fn expect_clock(rt: &impl Abort, world: &World, at: u32, wanted: u64) {
+    let member = world.member(at).expect(rt, "a member");
+    assert_eq!(rt; member.clock(), wanted);
+}
+
+// Both of two members add ann at once.
+fn add_ann_at_both(rt: &impl Abort, alloc: Global, world: &mut World) {
+    let events = [add_ann(rt, alloc, 1), add_ann(rt, alloc, 2)];
+    let wanted = [
+        Ok(Outcome::Submitted(stamp(1, 1))),
+        Ok(Outcome::Submitted(stamp(1, 2))),
+    ];
+    expect_play(rt, alloc, world, &events, &wanted);
+    drop(events);
+}
+
+// Each message is received by the other one: member 2 need not acknowledge what comes before its own command.
+fn read_all(rt: &impl Abort, alloc: Global, world: &mut World) {
+    let events = [
         receive(1, 2, 1),
         receive(2, 1, 1),
         receive(1, 2, 2),
         receive(2, 1, 2),
-    ]
-}
-
-#[test]
-fn plays_events_until_all_is_read(rt: HostRuntime) {
-    let alloc = rt.alloc();
-    let mut world = founded(&rt, alloc, 2, 5);
+    ];
     let wanted = [
-        Ok(Outcome::Submitted(stamp(1, 1))),
-        Ok(Outcome::Submitted(stamp(1, 2))),
         received(3, 1),
         Ok(Outcome::Received(None)),
         Err(Refusal::NotSent),
         Ok(Outcome::Received(None)),
     ];
-    let events = at_two_members(&rt, alloc);
-    expect_play(&rt, alloc, &mut world, &events, &wanted);
+    expect_play(rt, alloc, world, &events, &wanted);
     drop(events);
+}
+
+// A member delivers three times: the command of the smaller stamp is done, the other one denied, and there is no third.
+fn deliver_all(rt: &impl Abort, alloc: Global, world: &mut World, at: u32, denial: Denial) {
+    let events = [
+        Event::Deliver { at },
+        Event::Deliver { at },
+        Event::Deliver { at },
+    ];
+    let wanted = [delivered(Some(0)), delivered(Some(1)), delivered(None)];
+    expect_play(rt, alloc, world, &events, &wanted);
+    drop(events);
+    expect_record(rt, world, at, 0, stamp(1, 1), Answer::Done);
+    expect_record(rt, world, at, 1, stamp(1, 2), Answer::Denied(denial));
+}
+
+#[test]
+fn plays_events_until_all_is_read(rt: HostRuntime) {
+    let alloc = rt.alloc();
+    let mut world = sample_world(&rt, alloc, 2);
+    add_ann_at_both(&rt, alloc, &mut world);
+    assert!(rt; !world.read_to_end());
+    read_all(&rt, alloc, &mut world);
     assert!(rt; world.read_to_end());
-    let events = [Event::Deliver { at: 2 }, Event::Deliver { at: 2 }];
-    let wanted = [delivered(Some(0)), delivered(Some(1))];
-    expect_play(&rt, alloc, &mut world, &events, &wanted);
-    drop(events);
+    expect_clock(&rt, &world, 2, 4);
+    deliver_all(&rt, alloc, &mut world, 1, Denial::UserExists);
+    deliver_all(&rt, alloc, &mut world, 2, Denial::UserExists);
     world.all_that_was_read_is_delivered();
     drop(world);
+}
+
+// Two members of three submit at once. Member 1 hears the others one after the other, and delivers nothing before it has heard both.
+fn hear_the_others(rt: &impl Abort, alloc: Global, world: &mut World) {
+    let events = [
+        submit(rt, alloc, 1, 0),
+        submit(rt, alloc, 2, 0),
+        receive(1, 2, 1),
+        Event::Deliver { at: 1 },
+        receive(3, 1, 1),
+        receive(1, 3, 1),
+    ];
+    let wanted = [
+        Ok(Outcome::Submitted(stamp(1, 1))),
+        Ok(Outcome::Submitted(stamp(1, 2))),
+        received(3, 1),
+        delivered(None),
+        received(3, 3),
+        Ok(Outcome::Received(None)),
+    ];
+    expect_play(rt, alloc, world, &events, &wanted);
+    drop(events);
 }
 
 #[test]
 fn waits_for_the_third_member(rt: HostRuntime) {
     let alloc = rt.alloc();
-    let mut world = founded(&rt, alloc, 3, 5);
-    submit_at_both(&rt, alloc, &mut world);
-    // The first one hears the others one after the other.
-    expect(&rt, alloc, &mut world, receive(1, 2, 1), received(3, 1));
-    expect_delivery(&rt, alloc, &mut world, None);
-    expect(&rt, alloc, &mut world, receive(3, 1, 1), received(3, 3));
-    let needless = Ok(Outcome::Received(None));
-    expect(&rt, alloc, &mut world, receive(1, 3, 1), needless);
-    expect_delivery(&rt, alloc, &mut world, Some(0));
-    expect_record(&rt, &world, 1, 0, stamp(1, 1), Answer::Done);
+    let mut world = sample_world(&rt, alloc, 3);
+    hear_the_others(&rt, alloc, &mut world);
+    expect_clock(&rt, &world, 1, 4);
+    deliver_all(&rt, alloc, &mut world, 1, Denial::RoleExists);
     drop(world);
 }
 

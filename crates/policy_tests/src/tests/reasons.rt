@@ -163,6 +163,34 @@ fn expect_hindrance(
     drop(command);
 }
 
+// How many roles are told by which a set would be broken, and the set's number.
+fn numbers(found: &Hindrance) -> (usize, u32) {
+    match found {
+        Hindrance::SsdViolated { roles, number, .. } => (roles.len(), *number),
+        Hindrance::DsdViolated { roles, number, .. } => (roles.len(), *number),
+        _ => (0, 0),
+    }
+}
+
+// The same of a command that separation denies, with how many roles are told and the set's number.
+fn expect_breach(
+    rt: &impl Abort,
+    alloc: Global,
+    policy: &Policy,
+    command: Command,
+    wanted: (&str, &str, usize, u32),
+) {
+    let (denial, holder, count, number) = wanted;
+    let found = hindrance(alloc, policy, &command).expect(rt, "memory");
+    let told = match &found {
+        Some(found) => numbers(found),
+        None => (0, 0),
+    };
+    drop(found);
+    assert!(rt; told == (count, number));
+    expect_hindrance(rt, alloc, policy, command, (denial, holder));
+}
+
 // Ann and bob, two sessions of ann, and what else `a_policy_of_each_thing` holds.
 fn a_policy_of_two(rt: &impl Abort, alloc: Global) -> Policy {
     let mut policy = a_policy_of_each_thing(rt, alloc);
@@ -234,11 +262,13 @@ fn what_is_missing_is_named(rt: HostRuntime) {
 fn who_would_break_separation_is_named(rt: HostRuntime) {
     let policy = a_policy_of_two(&rt, rt.alloc());
     let command = assign_command(&rt, rt.alloc(), "ann", "c");
-    expect_hindrance(&rt, rt.alloc(), &policy, command, ("SsdViolated", "ann"));
+    let wanted = ("SsdViolated", "ann", 3, 3);
+    expect_breach(&rt, rt.alloc(), &policy, command, wanted);
     let command = pair_command(&rt, rt.alloc(), "b", "c");
-    expect_hindrance(&rt, rt.alloc(), &policy, command, ("SsdViolated", "ann"));
+    expect_breach(&rt, rt.alloc(), &policy, command, wanted);
     let command = active_command(&rt, rt.alloc(), "ann", "a");
-    expect_hindrance(&rt, rt.alloc(), &policy, command, ("DsdViolated", "s1"));
+    let wanted = ("DsdViolated", "s1", 2, 2);
+    expect_breach(&rt, rt.alloc(), &policy, command, wanted);
     drop(policy);
 }
 

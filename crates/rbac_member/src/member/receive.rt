@@ -1,5 +1,5 @@
 //! How a member receives what the others send.
-ghost use Rattle.std.specs.Prelude.{◌≡◌, ◌≢◌, ◌<◌, ◌++◌, true, None, is_some, length, IfOk, IfErr, OnOk, OnErr};
+ghost use Rattle.std.specs.Prelude.{◌≡◌, ◌≢◌, ◌<◌, ◌≤◌, ◌++◌, true, None, is_some, length, IfOk, IfErr, OnOk, OnErr};
 ghost use Rattle.rbac_words.specs.Message.{has_commands as message_has_commands, has_bad_batch as message_has_bad_batch, has_later};
 ghost use Rattle.rbac_words.specs.Stamp.{has_passed as stamp_has_passed};
 ghost use Rattle.rbac_words.specs.World.{acks};
@@ -23,7 +23,7 @@ fn has_commands(message: &Message) -> bool
 }
 
 // Whether a message has commands that are no batch.
-fn has_bad_batch(message: &Message) -> bool
+pub(crate) fn has_bad_batch(message: &Message) -> bool
     ensures { result ≡ message_has_bad_batch message.now }
 {
     match message {
@@ -79,6 +79,8 @@ fn acknowledge(outbox: &mut Outbox, stamp: Option<Stamp>)
 impl Member {
     ghost use Rattle.rbac_words.specs.Keeping.Member.{IsNext, node_of, links_of, received, serial_refusal, message_refusal};
     ghost use Rattle.rbac_words.specs.World.{must_acknowledge, clock_after, acknowledgement, room_refusal};
+    ghost use Rattle.rbac_words.specs.Keeping.Own.{first_answer};
+    ghost use Rattle.rbac_words.specs.Limits.{last_clock};
     ghost use Rattle.rbac_member.specs.Calls.{receipt_refused, rule_of};
 
     /// Receives message `number` of member `from`, which is the next one that it has not received: its commands are held, all or
@@ -106,6 +108,41 @@ impl Member {
         match self.take(from, number, message, clock, stamp) {
             Ok(()) => Ok(stamp),
             Err(AllocError) => Err(ReceiveRefusal::NoMemory),
+        }
+    }
+
+    /// The stamp of the acknowledgement that a message wants, if it wants one, where it is to be set in the member's row and taken from there
+    /// before the message is received; nothing changes. The message is then received without an acknowledgement, and leaves the same clock.
+    ///
+    /// # Errors
+    /// As `receive`, but for want of memory.
+    pub fn first_answer(
+        &self,
+        from: u32,
+        number: u32,
+        message: &Message,
+    ) -> Result<Option<Stamp>, ReceiveRefusal>
+        ensures answer { IfOk result (λ stamp. stamp ≡ first_answer self.now message.now) }
+        ensures accepted { OnOk result (message_refusal self.now from number message.now ≡ None) }
+        ensures first_refusal { IfErr result (λ refusal. message_refusal self.now from number message.now ≡ rule_of (receipt_refused refusal)) }
+    {
+        self.clock_upon(from, number, message)?;
+        Ok(self.answer_before(message))
+    }
+
+    // The stamp of what is sent before a message is received, if it is to be acknowledged, where the clock has room for it.
+    fn answer_before(&self, message: &Message) -> Option<Stamp>
+        requires { clock_after (node_of self.now) message.now ≤ last_clock }
+        ensures { result ≡ first_answer self.now message.now }
+    {
+        if self.must_acknowledge(message) {
+            Some(Stamp {
+                clock: self.clock.max(message.stamp().clock) + 1,
+                member: self.number,
+                place: 0,
+            })
+        } else {
+            None
         }
     }
 

@@ -21,7 +21,7 @@ fn dropped(_message: Message) -> AllocError {
 }
 
 // Sends a message of the member itself, counts its commands, and holds them.
-fn send(
+pub(crate) fn send(
     alloc: Global,
     serials: &mut SortedMap<(u32, u32), u64>,
     outbox: &mut Outbox,
@@ -148,6 +148,33 @@ impl Member {
             Ok(()) => Ok(next),
             Err(AllocError) => Err(SubmitRefusal::NoMemory),
         }
+    }
+
+    /// The message by which a submit of these commands would send them; nothing changes. It can be set in the member's row first, and taken
+    /// from there by `take_own`, which leaves what the submit leaves.
+    ///
+    /// # Errors
+    /// As `submit_batch`, but for want of memory.
+    pub fn next_batch(
+        &self,
+        caller: u32,
+        serial: u32,
+        commands: Commands,
+    ) -> Result<Message, SubmitRefusal>
+        ensures made { IfOk result (λ message. message ≡ batch self.now caller serial commands) }
+        ensures accepted { OnOk result (submit_refusal self.now.group (node_of self.now) caller serial (length commands) ≡ None) }
+        ensures first_refusal { IfErr result (λ refusal. submit_refusal self.now.group (node_of self.now) caller serial (length commands) ≡ rule_of (submit_refused refusal)) }
+    {
+        let stamp = match self.next_stamp(caller, serial, commands.as_slice().len()) {
+            Ok(next) => next,
+            Err(refusal) => return Err(refusal),
+        };
+        Ok(Message::Batch {
+            stamp,
+            caller,
+            serial,
+            commands,
+        })
     }
 
     // Sends a caller's next commands.

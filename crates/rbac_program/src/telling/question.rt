@@ -1,9 +1,10 @@
 //! What is asked of a policy.
-ghost use Rattle.std.specs.Prelude.{◌≡◌, IfOk, Ok};
+ghost use Rattle.std.specs.Prelude.{◌≡◌, false, IfOk, Ok};
 ghost use Rattle.rbac_terms.specs.declared.command.Command.TheVariants.{CheckAccess};
 ghost use Rattle.rbac_text.specs.ReadCommand.{command};
 ghost use Rattle.rbac_pages.specs.GranteeText.{TellsWho};
-ghost use Rattle.rbac_program.specs.Telling.{Tells, TellsOf, TellsOfText};
+ghost use Rattle.rbac_pages.specs.declared.explanation.Verdict.TheVariants.{Allowed};
+ghost use Rattle.rbac_program.specs.Telling.{Tells, TellsOf, TellsOfText, is_question};
 
 use crate::fault::Fault;
 use crate::founding_file::founding_of;
@@ -13,6 +14,7 @@ use rbac_decide::Policy;
 use rbac_founding::Founding;
 use rbac_lines::RunFault;
 use rbac_pages::{Explanation, Verdict, dump_lines, graph, page, who, why};
+use rbac_telling::Served;
 use rbac_terms::{Command, Name, NameRefusal};
 use rbac_text::{LineRefusal, read_command};
 use std::alloc::{AllocError, Global};
@@ -22,7 +24,8 @@ use std::rt::Files;
 
 // A text of a policy, which allows nothing and denies nothing.
 fn told<'w>(text: Result<Vec<u8>, AllocError>) -> Result<Explanation, Fault<'w>>
-    ensures { IfOk result (λ told. text ≡ Ok told.text) }
+    ensures text { IfOk result (λ told. text ≡ Ok told.text) }
+    ensures verdict { IfOk result (λ told. told.verdict ≡ Allowed) }
 {
     match text {
         Ok(text) => Ok(Explanation {
@@ -159,7 +162,9 @@ fn write_told<'w, W: Write>(
     question: Question<'w>,
     policy: &Policy,
     writer: &mut W,
-) -> Result<Verdict, Fault<'w>> {
+) -> Result<Verdict, Fault<'w>>
+    ensures no_verdict { is_question question.entry ≡ false → IfOk result (λ verdict. verdict ≡ Allowed) }
+{
     let told = text_of(alloc, question, policy)?;
     write_whole(writer, &told.text)?;
     Ok(told.verdict)
@@ -172,7 +177,9 @@ fn tell_played<'w, R: Read + Drop, W: Write>(
     founding: Founding,
     reader: R,
     writer: &mut W,
-) -> Result<Verdict, Fault<'w>> {
+) -> Result<Verdict, Fault<'w>>
+    ensures no_verdict { is_question asked.entry.0 ≡ false → IfOk result (λ verdict. verdict ≡ Allowed) }
+{
     let world = play(alloc, founding, reader, asked.1)?;
     let Some(member) = world.member(1) else {
         unreachable!()
@@ -182,7 +189,22 @@ fn tell_played<'w, R: Read + Drop, W: Write>(
     told
 }
 
-// Applies client lines, and tells of the policy.
+// Applies client lines to the policy of a group, and tells of it.
+fn tell_after<'w, R: Read + Drop, W: Write, E: Write>(
+    alloc: Global,
+    asked: (Question<'w>, bool),
+    served: &mut Served,
+    reader: R,
+    writer: &mut W,
+    errors: &mut E,
+) -> Result<Verdict, Fault<'w>>
+    ensures no_verdict { is_question asked.entry.0 ≡ false → IfOk result (λ verdict. verdict ≡ Allowed) }
+{
+    serve(alloc, served, reader, asked.1, errors)?;
+    write_told(alloc, asked.0, served.policy(), writer)
+}
+
+// The same of a group that is founded.
 fn tell_served<'w, R: Read + Drop, W: Write, E: Write>(
     alloc: Global,
     asked: (Question<'w>, bool),
@@ -190,12 +212,11 @@ fn tell_served<'w, R: Read + Drop, W: Write, E: Write>(
     reader: R,
     writer: &mut W,
     errors: &mut E,
-) -> Result<Verdict, Fault<'w>> {
+) -> Result<Verdict, Fault<'w>>
+    ensures no_verdict { is_question asked.entry.0 ≡ false → IfOk result (λ verdict. verdict ≡ Allowed) }
+{
     let mut served = served_of(alloc, founding);
-    let told = match serve(alloc, &mut served, reader, asked.1, errors) {
-        Ok(()) => write_told(alloc, asked.0, served.policy(), writer),
-        Err(fault) => Err(fault),
-    };
+    let told = tell_after(alloc, asked, &mut served, reader, writer, errors);
     drop(served);
     told
 }
@@ -209,7 +230,9 @@ fn tell_lines<'w, R: Read + Drop, W: Write, E: Write>(
     reader: R,
     writer: &mut W,
     errors: &mut E,
-) -> Result<Verdict, Fault<'w>> {
+) -> Result<Verdict, Fault<'w>>
+    ensures no_verdict { is_question question.entry ≡ false → IfOk result (λ verdict. verdict ≡ Allowed) }
+{
     let asked = (question, lines.is_lenient);
     if lines.are_client_lines {
         tell_served(alloc, asked, founding, reader, writer, errors)
@@ -218,7 +241,8 @@ fn tell_lines<'w, R: Read + Drop, W: Write, E: Write>(
     }
 }
 
-/// Tells what is asked of the policy that lines leave: that of the group, or of member 1 after a schedule. The founding is read first.
+/// Tells what is asked of the policy that lines leave: that of the group, or of member 1 after a schedule. The founding is read first. What
+/// is no question is told with no verdict but that nothing is denied.
 pub(crate) fn tell<'w, T: Files + AllocGlobal, R: Read + Drop, W: Write, E: Write>(
     rt: &T,
     lines: Lines<'w>,
@@ -226,7 +250,9 @@ pub(crate) fn tell<'w, T: Files + AllocGlobal, R: Read + Drop, W: Write, E: Writ
     reader: R,
     writer: &mut W,
     errors: &mut E,
-) -> Result<Verdict, Fault<'w>> {
+) -> Result<Verdict, Fault<'w>>
+    ensures no_verdict { is_question question.entry ≡ false → IfOk result (λ verdict. verdict ≡ Allowed) }
+{
     let founding = founding_of(rt, lines.founding)?;
     if lines.path == "-" {
         return tell_lines(

@@ -82,6 +82,24 @@ pub(crate) const SERVE: &str =
 pub(crate) const SERVE_EXAMPLE: &str =
     "Example:\n  rbac_monitor serve examples/hospital.toml < examples/hospital.jsonl";
 
+pub(crate) const MEMBER: &str =
+    "Is one member of FOUNDING, for whoever brings it the others' messages: standard input asks it one thing a line";
+
+pub(crate) const MEMBER_EXAMPLE: &str = "\
+A line is one of these, and a message an object as {\"stamp\":[7,2]}; the answer is one line:
+  {\"do\":\"submit\",\"caller\":0,\"serial\":0,\"command\":{\"name\":\"AddUser\",\"user\":\"ann\"}}
+  {\"do\":\"batch\",\"caller\":0,\"serial\":1,\"commands\":[{\"name\":\"AddUser\",\"user\":\"bob\"}]}
+  {\"do\":\"receive\",\"from\":2,\"number\":1,\"message\":{\"stamp\":[7,2]}}
+  {\"do\":\"own\",\"number\":1,\"message\":{\"stamp\":[7,1]}}
+  {\"do\":\"next\",\"caller\":0,\"serial\":1,\"commands\":[..]}     the message of a submit, that is not made
+  {\"do\":\"answer\",\"from\":2,\"number\":1,\"message\":{..}}      the acknowledgement that a message wants first
+  {\"do\":\"deliver\"} {\"do\":\"message\",\"number\":1} {\"do\":\"record\",\"number\":1} {\"do\":\"waits\"} {\"do\":\"dump\"}
+
+Example:
+  echo '{\"do\":\"submit\",\"caller\":0,\"serial\":0,\"command\":{\"name\":\"AddUser\",\"user\":\"ann\"}}' | rbac_monitor member - 1";
+
+pub(crate) const NUMBER: &str = "The member's number, from 1 on";
+
 pub(crate) const DUMP: &str = "Prints the client lines that make the policy again";
 
 pub(crate) const DUMP_EXAMPLE: &str = "\
@@ -136,7 +154,11 @@ pub(crate) const DIFF: &str =
 pub(crate) const DIFF_EXAMPLE: &str = "\
 Examples:
   rbac_monitor diff examples/hospital.toml before.jsonl after.jsonl
-  rbac_monitor diff examples/hospital.toml /dev/null examples/hospital.dump.jsonl";
+  rbac_monitor diff examples/hospital.toml /dev/null examples/hospital.dump.jsonl
+  rbac_monitor diff --lists examples/hospital.toml /dev/null examples/hospital.dump.jsonl";
+
+pub(crate) const LISTS: &str =
+    "Prints the lines of the dump of FROM that TO's has not behind '- ', and then those that only TO's has behind '+ '";
 
 pub(crate) const FROM: &str = "The file of client lines, a journal or a dump, that one begins from";
 

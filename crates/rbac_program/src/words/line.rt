@@ -60,6 +60,14 @@ fn serving<'w>(alloc: Global) -> Result<Command<'w>, AllocError> {
     verb(alloc, "serve", help::SERVE, help::SERVE_EXAMPLE)
 }
 
+fn being<'w>(alloc: Global) -> Result<Command<'w>, AllocError> {
+    verb(alloc, "member", help::MEMBER, help::MEMBER_EXAMPLE)?.arg(word(
+        alloc,
+        "NUMBER",
+        help::NUMBER,
+    ))
+}
+
 fn dumping<'w>(alloc: Global) -> Result<Command<'w>, AllocError> {
     let to = Arg::new(alloc, "to")
         .long("to")
@@ -101,7 +109,8 @@ fn comparing<'w>(alloc: Global) -> Result<Command<'w>, AllocError> {
     verb(alloc, "diff", help::DIFF, help::DIFF_EXAMPLE)?
         .arg(word(alloc, "FROM", help::FROM))?
         .arg(word(alloc, "TO", help::TO_LINES))?
-        .arg(flag(alloc, "lenient", help::LENIENT))
+        .arg(flag(alloc, "lenient", help::LENIENT))?
+        .arg(flag(alloc, "lists", help::LISTS))
 }
 
 fn looking<'w>(alloc: Global) -> Result<Command<'w>, AllocError> {
@@ -130,6 +139,7 @@ pub(crate) fn command_line<'w>(alloc: Global) -> Result<Command<'w>, AllocError>
         .after_help(help::AFTER_HELP);
     let line = add(line, playing(alloc))?;
     let line = add(line, serving(alloc))?;
+    let line = add(line, being(alloc))?;
     let line = add(line, dumping(alloc))?;
     let line = add(line, showing(alloc))?;
     let line = add(line, explaining(alloc))?;

@@ -1,11 +1,11 @@
 //! What the cells of members' rows hold, and what comes of a cell that somebody else has set.
-ghost use Rattle.std.specs.Prelude.{◌≡◌, length};
+ghost use Rattle.std.specs.Prelude.{◌≡◌, ◌≤◌, length};
 
 use super::{
-    Founding, Lost, add_ann, expect_end, expect_no_record, expect_record, expect_refusal,
-    expect_stopped, founded, founding_of, new_pass, roles_of_ann, submitted,
+    Founding, Lost, add_ann, expect_confirmed, expect_end, expect_no_record, expect_record,
+    expect_refusal, expect_stopped, founded, founding_of, new_pass, roles_of_ann, submitted,
 };
-use crate::{GroupName, NoGate, Pass, PumpEnd, Rows, Service, ServiceRefusal, Wake};
+use crate::{GroupName, NoGate, Node, Pass, PumpEnd, Rows, Service, ServiceRefusal, Wake};
 use rbac_words::{Answer, Command, Message, NameSet, Record, Stamp};
 use std::alloc::Global;
 use std::marker::Brand;
@@ -179,6 +179,98 @@ fn run_taken<G: GroupName + Send + Sync, R: Threads + Wait + Abort + Send + Sync
 fn a_cell_that_another_thread_set_is_seen(rt: HostRuntime) {
     let founding = founding_of(&rt, rt.alloc(), 1, 16);
     run_taken::<Brand, _>(&rt, rt.alloc(), founding);
+}
+
+// A node of member 1 beside that of the service.
+fn new_twin<G: GroupName>(rt: &impl Abort, alloc: Global, founding: &Founding) -> Node<G>
+    requires names { (founding.now.group ≡ G.group) × (founding.now.words ≡ G.vocabulary) × (founding.now.rows ≡ G.cells) }
+    requires members { (founding.now.group.members ≡ 1) × (length founding.now.rows.sent ≡ 1) }
+{
+    let words = founding.words.copy().expect(rt, "memory");
+    let twin = Node::found(alloc, &founding.rows, founding.group, 1, words);
+    twin.expect(rt, "memory")
+}
+
+// A pass of a new caller of a node.
+fn pass_of<G: GroupName>(rt: &impl Abort, rows: &Rows, node: &mut Node<G>) -> Pass<G>
+    requires { (rows.now ≡ G.cells) × (G.group.members ≤ length rows.now.sent) }
+{
+    node.invariants();
+    let number = node.member().number();
+    node.enroll(rows.history(number)).expect(rt, "a pass")
+}
+
+// A node submits, delivers and publishes a command, so that its pass has a front of one record.
+fn answer_by<G: GroupName>(
+    rt: &impl Abort,
+    alloc: Global,
+    rows: &Rows,
+    node: &mut Node<G>,
+    pass: &mut Pass<G>,
+)
+    requires { (rows.now ≡ G.cells) × (G.group.members ≤ length rows.now.sent) }
+{
+    let submitted = pass.submit(node, add_ann(rt, alloc));
+    let mut ticket = submitted.expect(rt, "a ticket");
+    assert!(rt; pass.owns(&ticket));
+    node.deliver_all(alloc).expect(rt, "memory");
+    node.invariants();
+    let number = node.member().number();
+    let published = node.publish(alloc, rows.sent(number), rows.history(number));
+    published.expect(rt, "room");
+    let found = pass.answered(node, &mut ticket).expect(rt, "memory");
+    drop(found);
+    drop(ticket);
+    assert_eq!(rt; pass.front_len(), 1);
+}
+
+// A pass whose front is a record that a twin of member 1 has set in the member's history row.
+fn twins_pass<G: GroupName>(rt: &impl Abort, alloc: Global, founding: &Founding) -> Pass<G>
+    requires names { (founding.now.group ≡ G.group) × (founding.now.words ≡ G.vocabulary) × (founding.now.rows ≡ G.cells) }
+    requires members { (founding.now.group.members ≡ 1) × (length founding.now.rows.sent ≡ 1) }
+{
+    let mut twin = new_twin(rt, alloc, founding);
+    let mut pass = pass_of(rt, &founding.rows, &mut twin);
+    answer_by(rt, alloc, &founding.rows, &mut twin, &mut pass);
+    drop(twin);
+    pass
+}
+
+// The first node confirms the one pass, and not the other.
+fn expect_confirmed_alone<G: GroupName>(
+    rt: &impl Abort,
+    nodes: &mut [Node<G>],
+    pass: &mut Pass<G>,
+    other: &mut Pass<G>,
+) {
+    expect_confirmed(rt, nodes, pass);
+    let node = nodes.first_mut().expect(rt, "a node");
+    assert!(rt; !node.confirms(other));
+}
+
+// Cells of the member's rows are set by its twin. The member gives up, and does not confirm what was answered by them.
+fn run_twin<G: GroupName, R: Wait + Abort>(rt: &R, alloc: Global, founding: Founding)
+    requires names { (founding.group ≡ G.group) × (founding.words ≡ G.vocabulary) × (founding.rows ≡ G.cells) }
+    requires members { (founding.group.members ≡ 1) × (length founding.rows.sent ≡ 1) }
+{
+    let mut other = twins_pass(rt, alloc, &founding);
+    let service: Service<G, NoGate, Lost> = founded(rt, alloc, founding, Lost::new());
+    let mut pass = new_pass(rt, &service, 1);
+    expect_record(rt, &service, (1, 0), (1, 1), &Answer::Done);
+    let ticket = submitted(rt, alloc, &service, &mut pass, roles_of_ann(rt, alloc));
+    expect_end(rt, alloc, &service, 1);
+    expect_stopped(rt, &service, &mut pass, ticket);
+    let mut nodes = service.take_nodes();
+    expect_confirmed_alone(rt, &mut nodes, &mut pass, &mut other);
+    drop(nodes);
+    drop(pass);
+    drop(other);
+}
+
+#[test]
+fn an_answer_by_cells_that_were_taken_is_not_confirmed(rt: HostRuntime) {
+    let founding = founding_of(&rt, rt.alloc(), 1, 16);
+    run_twin::<Brand, _>(&rt, rt.alloc(), founding);
 }
 
 // What can't be published has its ticket, and nobody is told of it. The member gives up at its next turn.

@@ -30,6 +30,31 @@ fn first_member<G: GroupName, R: Wait + Abort>(
     found
 }
 
+// Whether member 1 shows what each member does that nothing was submitted to: member 2 is one.
+fn is_as_founded<G: GroupName, R: Wait + Abort>(
+    rt: &R,
+    service: &Service<G, NoGate, Lost>,
+) -> bool {
+    let slot = service.slot(1).expect(rt, "a member");
+    let other = service.slot(2).expect(rt, "a member");
+    let node = slot.node.lock(rt);
+    let other = other.node.lock(rt);
+    let is_as_founded = shows_nothing(&node)
+        && node.member().policy().same(other.member().policy());
+    drop(other);
+    drop(node);
+    is_as_founded
+}
+
+// Whether a node has sent, received, delivered and published nothing.
+fn shows_nothing<G: GroupName>(node: &Node<G>) -> bool {
+    let member = node.member();
+    (member.clock(), member.read(2)) == (0, 0)
+        && (member.sent().len(), member.history().len()) == (0, 0)
+        && (node.published(), node.published_records()) == (0, 0)
+        && !node.is_stopped()
+}
+
 // Submits a command at member 1, again where a growth is refused, which leaves the pass and the member as they were.
 fn ask<G: GroupName, R: Wait + Abort>(
     rt: &R,
@@ -39,18 +64,17 @@ fn ask<G: GroupName, R: Wait + Abort>(
 ) -> Ticket
     ensures { Owns pass.new result }
 {
+    assert!(rt; is_as_founded(rt, service));
     let ticket = match service.submit(rt, alloc, pass, add_ann(rt, alloc)) {
         Ok(ticket) => ticket,
         Err(refusal) => {
             assert_eq!(rt; refusal, ServiceRefusal::NoMemory);
-            assert_eq!(rt;
-                (pass.is_waiting(), first_member(rt, service)),
-                (false, (0, 0))
-            );
+            assert!(rt; !pass.is_waiting() && is_as_founded(rt, service));
             let again = service.submit(rt, alloc, pass, add_ann(rt, alloc));
             again.expect(rt, "memory")
         }
     };
+    assert!(rt; !is_as_founded(rt, service));
     assert!(rt; pass.owns(&ticket));
     ticket
 }

@@ -1,24 +1,16 @@
 //! The texts of what reviews list: names, and permissions.
-ghost use Rattle.std.specs.Prelude.{◌≡◌, ◌++◌, List, ℕ, codes, OnOk};
-ghost use Rattle.std.specs.List.{flat_map, join_by};
-ghost use Rattle.rbac_text.specs.Pieces.{array_text, in_quotes};
+ghost use Rattle.std.specs.Prelude.{◌≡◌, ◌++◌, ⊤, OnOk};
+ghost use Rattle.rbac_text.specs.Pieces.{in_quotes};
 ghost use Rattle.rbac_text.specs.AnswerText.{permission_text, names_text, permissions_text};
 
+use crate::arrays::{Element, put_array};
 use rbac_terms::Name;
 use std::alloc::AllocError;
 
-/// What may stand in an array.
-trait Element {
-    /// The text of an element.
-    ghost shown: { Self → List ℕ };
-
-    /// Puts the text behind what the buffer has.
-    fn put(&self, text: &mut Vec<u8>) -> Result<(), AllocError>
-        ensures { OnOk result (text.new.items ≡ text.old.items ++ shown self.now) };
-}
-
 impl Element for Name {
     ghost shown = { in_quotes };
+
+    ghost Fits = { λ _. ⊤ };
 
     fn put(&self, text: &mut Vec<u8>) -> Result<(), AllocError> {
         text.extend_from_slice(b"\"")?;
@@ -30,6 +22,8 @@ impl Element for Name {
 impl Element for (Name, Name) {
     ghost shown = { permission_text };
 
+    ghost Fits = { λ _. ⊤ };
+
     fn put(&self, text: &mut Vec<u8>) -> Result<(), AllocError> {
         text.extend_from_slice(b"[\"")?;
         text.extend_from_slice(self.0.as_bytes())?;
@@ -37,40 +31,6 @@ impl Element for (Name, Name) {
         text.extend_from_slice(self.1.as_bytes())?;
         text.extend_from_slice(b"\"]")
     }
-}
-
-// The elements after the first, each behind a comma.
-fn put_others<E: Element>(text: &mut Vec<u8>, others: &[E]) -> Result<(), AllocError>
-    ensures { OnOk result (text.new.items ≡ text.old.items ++ flat_map (λ element. codes "," ++ E.shown element) others.now) }
-{
-    for element in others {
-        text.extend_from_slice(b",")?;
-        element.put(text)?;
-    }
-    Ok(())
-}
-
-// The elements, with commas between.
-fn put_elements<E: Element>(text: &mut Vec<u8>, elements: &[E]) -> Result<(), AllocError>
-    ensures { OnOk result (text.new.items ≡ text.old.items ++ join_by E.shown (codes ",") elements.now) }
-{
-    match elements {
-        [] => Ok(()),
-        [first, others @ ..] => {
-            first.put(text)?;
-            put_others(text, others)
-        }
-    }
-}
-
-// An array behind what stands before it.
-fn put_array<E: Element>(text: &mut Vec<u8>, before: &str, elements: &[E]) -> Result<(), AllocError>
-    ensures { OnOk result (text.new.items ≡ text.old.items ++ before.now ++ array_text E.shown elements.now) }
-{
-    text.extend_from_slice(before.as_bytes())?;
-    text.extend_from_slice(b"[")?;
-    put_elements(text, elements)?;
-    text.extend_from_slice(b"]")
 }
 
 pub(crate) fn put_names(text: &mut Vec<u8>, names: &[Name]) -> Result<(), AllocError>

@@ -1,13 +1,13 @@
 //! The fields of a JSON object, each read as what it has to be: refused as MissingField where its key is not there, as
 //! WrongKind where its value is of another kind, and as BadName where a name is due and the text is none.
-ghost use Rattle.std.specs.Prelude.{◌≡◌, [], map, is_some, unwrap_or, string_bytes};
+ghost use Rattle.std.specs.Prelude.{◌≡◌, [], map, is_some, ok_or, unwrap_or, string_bytes};
 ghost use Rattle.std.specs.BTreeMap.{keys as entry_keys};
 ghost use Rattle.std.specs.List.{list_all, list_any};
 ghost use Rattle.std.specs.Str.{bytes_eq};
 ghost use Rattle.serde_json.specs.Find.{as_object, as_str};
 ghost use Rattle.serde_json.specs.View.{view, items_view, members_view};
 ghost use Rattle.rbac_text.specs.Steps.{seen};
-ghost use Rattle.rbac_text.specs.Fields.{Reads, value_in, whole_in, text_in, object_in, objects_of, objects_in, name_of, name_in, names_of, names_in, only_keys};
+ghost use Rattle.rbac_text.specs.Fields.{Reads, value_in, as_whole, whole_in, text_in, object_in, objects_of, objects_in, name_of, name_in, names_of, names_in, only_keys};
 
 use crate::keys::is_one_of;
 use crate::names::name_or;
@@ -22,13 +22,30 @@ pub type Object = Map<String, Value>;
 /// What is read, or the first refusal.
 pub type Reading<T> = Result<T, LineRefusal>;
 
-fn value_in<'o>(object: &'o Object, key: &str) -> Reading<&'o Value>
+/// The value at a key.
+///
+/// # Errors
+/// `MissingField` where the key is not there.
+pub fn value_in<'o>(object: &'o Object, key: &str) -> Reading<&'o Value>
     ensures { seen (λ value. view value.now) result ≡ value_in key.now (members_view object.now.entries) }
 {
     object.get(key).ok_or(LineRefusal::MissingField)
 }
 
-/// The whole number at a key, up to 4,294,967,295. Any other number is of another kind, 1.0 and negative ones among them.
+/// The whole number that a value is, up to 4,294,967,295. Any other number is of another kind, 1.0 and negative ones among them.
+///
+/// # Errors
+/// `WrongKind` where it is of another kind.
+pub fn whole_of(value: &Value) -> Reading<u32>
+    ensures { result ≡ (ok_or (as_whole (view value.now)) LineRefusal.WrongKind) }
+{
+    value
+        .as_u64()
+        .and_then(|number| u32::try_from(number).ok())
+        .ok_or(LineRefusal::WrongKind)
+}
+
+/// The whole number at a key.
 ///
 /// # Errors
 /// `MissingField` where the key is not there, `WrongKind` where its value is of another kind.
@@ -36,10 +53,7 @@ pub fn whole_in(object: &Object, key: &str) -> Result<u32, LineRefusal>
     ensures { result ≡ whole_in key.now (members_view object.now.entries) }
 {
     let value = value_in(object, key)?;
-    value
-        .as_u64()
-        .and_then(|number| u32::try_from(number).ok())
-        .ok_or(LineRefusal::WrongKind)
+    whole_of(value)
 }
 
 /// The text at a key.
@@ -124,7 +138,10 @@ fn are_objects(array: &[Value]) -> bool
 }
 
 /// The array, if each of its elements is an object.
-fn objects_of(array: &[Value]) -> Reading<&[Value]>
+///
+/// # Errors
+/// `WrongKind` where an element is no object.
+pub fn objects_of(array: &[Value]) -> Reading<&[Value]>
     ensures { seen (λ kept. items_view kept.now) result ≡ objects_of (items_view array.now) }
 {
     if !are_objects(array) {

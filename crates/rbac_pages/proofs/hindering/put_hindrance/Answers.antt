@@ -1,4 +1,3 @@
-use Rattle.std.proofs.Common.{sym}
 use Rattle.std.specs.Prelude.{codes}
 use Rattle.rbac_pages.specs.HindranceText.{named, set_named, inherited_text}
 use Rattle.rbac_pages.proofs.TextLemmas.{ok_two_pieces, ok_all_of}
@@ -26,10 +25,10 @@ pub returns-in-NoInheritance : goal.returns-in-NoInheritance
 returns-in-NoInheritance c = rw c.in-NoInheritance.is c.put_both-in-NoInheritance.ensures
 
 pub returns-in-SsdViolated : goal.returns-in-SsdViolated
-returns-in-SsdViolated c = rw c.in-SsdViolated.is (rw (sym c.names.ensures.names) c.put_listed.ensures)
+returns-in-SsdViolated c = rw c.in-SsdViolated.is c.put_breach.ensures
 
 pub returns-in-DsdViolated : goal.returns-in-DsdViolated
-returns-in-DsdViolated c = rw c.in-DsdViolated.is (rw (sym c.names-in-DsdViolated.ensures.names) c.put_listed-in-DsdViolated.ensures)
+returns-in-DsdViolated c = rw c.in-DsdViolated.is c.put_breach-in-DsdViolated.ensures
 
 pub returns-in-SetExists : goal.returns-in-SetExists
 returns-in-SetExists c = rw c.in-SetExists.is c.put_set.ensures

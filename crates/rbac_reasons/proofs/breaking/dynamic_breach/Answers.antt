@@ -1,5 +1,5 @@
-use Rattle.std.proofs.Common.{rules, ◌≡◌, ◌&&◌, Some, None, ap, ◌∙◌}
-use Rattle.std.specs.List.{find as first_where}
+use Rattle.std.proofs.Common.{rules, ◌≡◌, Some, None, ap, ◌∙◌}
+use Rattle.std.specs.List.{filter, find as first_where}
 use Rattle.rbac_terms.specs.Name.{Name, name_cmp}
 use Rattle.sorted_keys.specs.Keys.{has}
 use Rattle.rbac_terms.specs.Separation.{is_broken}
@@ -16,7 +16,8 @@ returns-in_ok-breach_of-in-Some c =
     let of : IsBreachOf c.in_ok-breach_of-in-Some.field-0 x.0 e x.1.active = (
       c.in_ok-breach_of-in-Some.ensures.0,
       c.in_ok-breach_of-in-Some.ensures.1,
-      λ role. c.in_ok-breach_of-in-Some.ensures.2 role ∙ ap (λ (z : Session). has name_cmp role z.active && has name_cmp role e.1.roles) c.state.view_is,
+      c.in_ok-breach_of-in-Some.ensures.2 ∙ ap (λ (z : Session). filter (λ role. has name_cmp role z.active) e.1.roles) c.state.view_is,
+      c.in_ok-breach_of-in-Some.ensures.3,
     ) in
     dynamic_broken s c.invariants.ensures e.0 e.1 x some c.in_ok-breach_of-in-Some.field-0 of
 

@@ -1,5 +1,5 @@
 use Rattle.std.proofs.Common.{rules, ◌≡◌, subst, sym}
-use Rattle.rbac_words.specs.Keeping.Member.{Member, IsMember, founded}
+use Rattle.rbac_words.specs.Keeping.Member.{IsMember, founded}
 use Rattle.rbac_order.proofs.MemberLemmas.{keeps_founded}
 use Rattle.rbac_member.specs.Inside.{member_of}
 use Rattle.rbac_member.specs.declared.member.Member.TheInside.{Inside}

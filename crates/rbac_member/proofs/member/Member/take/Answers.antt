@@ -8,7 +8,7 @@ use Rattle.rbac_order.proofs.MemberLemmas.{keeps_received}
 use Rattle.rbac_member.specs.Inside.{member_of}
 use Rattle.rbac_member.specs.Serials.{AreCounted}
 use Rattle.rbac_member.proofs.CommandLemmas.{has_any, on_err}
-use Rattle.rbac_member.proofs.ReceiveLemmas.{next_is, batch_is_good, room_is_free, serial_in_turn}
+use Rattle.rbac_order.proofs.ReceiptLemmas.{next_is, batch_is_good, room_is_free, serial_in_turn}
 use Rattle.rbac_member.proofs.HoldLemmas.{message_fits, received_is, counted_received}
 use Rattle.rbac_member.proofs.member.Member.take.Goals as goal
 

@@ -1,4 +1,4 @@
-use Rattle.std.proofs.Common.{sym, ap, ◌∙◌, ◌==◌, not, length, ℕ}
+use Rattle.std.proofs.Common.{sym, ap, ◌∙◌, ◌==◌, not, length}
 use Rattle.rbac_member.proofs.CommandLemmas.{has_some}
 use Rattle.rbac_member.proofs.member.receive.has_commands.Goals as goal
 

@@ -9,5 +9,5 @@ returns c =
     let old = c.args.text.now.items in
     let key = codes "{\"permissions\":" in
     let array = array_text permission_text c.args.permissions.now in
-    let to_array = c.in_ok-put_array.ensures ∙ append_assoc old key array in
+    let to_array = c.in_ok-put_array.ensures.text ∙ append_assoc old key array in
     last_piece c.extend_from_slice.result old _ c.extend_from_slice.new.self.items (key ++ array) _ to_array c.extend_from_slice.ensures.items

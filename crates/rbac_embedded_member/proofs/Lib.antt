@@ -1,0 +1,4 @@
+pub mod CallLemmas
+pub mod SentLemmas
+pub mod ShortLemmas
+pub mod SubmitLemmas

@@ -1,0 +1,5 @@
+pub mod Status
+pub mod Step
+pub mod Texts
+pub mod Holding
+pub mod Calls

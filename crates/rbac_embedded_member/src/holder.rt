@@ -1,0 +1,493 @@
+//! A place for one member of a group: the calls that another language makes, over values.
+ghost use Rattle.std.specs.Prelude.{◌≡◌, ◌≢◌, None, length, option_map, IfErr, IfOk};
+ghost use Rattle.rbac_words.specs.Message.{next_serial, submissions};
+ghost use Rattle.rbac_member.specs.Calls.{taken_of};
+ghost use Rattle.rbac_embedded.specs.Status.{no_memory};
+ghost use Rattle.rbac_embedded_member.specs.Holding.{asked, check_status, number_status, number_told, open_status, opened, step_kept, step_status, step_told, text_buffer, text_length, text_status, waits_of};
+ghost use Rattle.rbac_embedded_member.specs.Status.{status_number};
+ghost use Rattle.rbac_embedded_member.specs.Step.{deliver_step, receive_step, submit_batch_step, submit_step, take_own_step};
+ghost use Rattle.rbac_embedded_member.specs.Texts.{message_at, next_answer, next_submit, next_submit_batch, policy_dump, record_at, ReadsBack};
+
+use crate::status::MemberStatus;
+use crate::texts::Told;
+use crate::waiting::{Waiting, waits_of};
+use crate::{steps, texts};
+use rbac_embedded::Status;
+use rbac_embedded::buffer::tell;
+use rbac_embedded::verdict::check;
+use rbac_founding::read_founding;
+use rbac_member::Member;
+use rbac_message_text::{LONGEST_MESSAGE, read_commands, read_message};
+use rbac_text::{LineRefusal, read_command};
+use rbac_words::{Commands, Refusal};
+use std::alloc::Global;
+use std::marker::Model;
+
+/// A member, or none.
+#[derive(Drop)]
+pub struct MemberHolder {
+    member: Option<Box<Member>>,
+}
+
+impl Model for MemberHolder {
+    ghost use Rattle.std.specs.Prelude.{Option, option_map};
+    ghost use Rattle.rbac_words.specs.Keeping.Member.{Member as MemberValue};
+
+    ghost Value = { Option MemberValue };
+
+    ghost view = { λ h. option_map (λ b. b.value) h.member };
+}
+
+const EMPTY: MemberStatus = MemberStatus::Plain(Status::EmptyPlace);
+
+/// Why a text is not read.
+fn not_read(refusal: LineRefusal) -> MemberStatus
+    ensures { result ≡ MemberStatus.Plain (Status.BadCommand refusal) }
+{
+    MemberStatus::Plain(Status::BadCommand(refusal))
+}
+
+/// Puts a text into the buffer, where there is one.
+fn tell_text(told: Told, out: &mut [u8], written: &mut usize) -> MemberStatus
+    ensures status { IfOk told (λ text. result ≡ text_status (Ok text.items) out.old) }
+    ensures buffer { IfOk told (λ text. out.new ≡ text_buffer (Ok text.items) out.old) }
+    ensures length { IfOk told (λ text. written.new ≡ length text.items) }
+    ensures none { IfErr told (λ status. (result ≡ status) × ((out.new ≡ out.old) × (written.new ≡ 0))) }
+{
+    match told {
+        Ok(text) => MemberStatus::Plain(tell(&text, out, written)),
+        Err(status) => {
+            *written = 0;
+            status
+        }
+    }
+}
+
+impl MemberHolder {
+    /// None.
+    pub fn empty() -> MemberHolder
+        ensures { result ≡ None }
+    {
+        MemberHolder { member: None }
+    }
+
+    /// What a place had.
+    pub fn of(member: Option<Box<Member>>) -> MemberHolder
+        ensures { result ≡ option_map (λ b. b.value) member }
+    {
+        MemberHolder { member }
+    }
+
+    /// What a place is to have.
+    pub fn into_member(self) -> Option<Box<Member>>
+        ensures { option_map (λ b. b.value) result ≡ self }
+    {
+        let MemberHolder { member } = self;
+        member
+    }
+
+    /// Founds the member of this number with what a founding file says.
+    pub fn open(&mut self, alloc: Global, file: &[u8], number: u32) -> MemberStatus
+        ensures told { status_number result ≢ no_memory → result ≡ open_status file.now number self.old }
+        ensures opened { status_number result ≢ no_memory → self.new ≡ opened file.now number self.old }
+        ensures unchanged { status_number result ≡ no_memory → self.new ≡ self.old }
+    {
+        if self.member.is_some() {
+            return MemberStatus::Plain(Status::FullPlace);
+        }
+        let founding = match read_founding(alloc, file) {
+            Ok(founding) => founding,
+            Err(refusal) => return MemberStatus::Plain(Status::BadFounding(refusal)),
+        };
+        let member = match Member::found(alloc, founding.group, number, founding.vocabulary) {
+            Ok(member) => member,
+            Err(_) => return MemberStatus::Refused(Refusal::UnknownMember),
+        };
+        match Box::new(alloc, member) {
+            Ok(member) => {
+                self.member = Some(member);
+                MemberStatus::Plain(Status::Done)
+            }
+            Err(refused) => {
+                drop(refused);
+                MemberStatus::Plain(Status::NoMemory)
+            }
+        }
+    }
+
+    /// Submits the command that a text stands for, as a caller's next one. Tells the number of the message that sends it: `message` gives its
+    /// text. Refused as BadSerial, it tells the serial that is due.
+    pub fn submit(
+        &mut self,
+        alloc: Global,
+        caller: u32,
+        serial: u32,
+        text: &[u8],
+        told: &mut u64,
+    ) -> MemberStatus
+        ensures status { status_number result ≢ no_memory → result ≡ step_status (submit_step caller serial text.now) self.old }
+        ensures kept { status_number result ≢ no_memory → self.new ≡ step_kept (submit_step caller serial text.now) self.old }
+        ensures number { status_number result ≢ no_memory → told.new ≡ step_told (submit_step caller serial text.now) self.old }
+        ensures unchanged { status_number result ≡ no_memory → self.new ≡ self.old }
+        ensures no_number { status_number result ≡ no_memory → told.new ≡ 0 }
+    {
+        *told = 0;
+        let Some(member) = &mut self.member else {
+            return EMPTY;
+        };
+        match read_command(alloc, text) {
+            Ok(command) => steps::submit(
+                alloc,
+                member,
+                LONGEST_MESSAGE,
+                caller,
+                serial,
+                Commands::one(command),
+                told,
+            ),
+            Err(refusal) => not_read(refusal),
+        }
+    }
+
+    /// Submits the commands of an array of objects together, as a caller's next ones, in one message. As `submit`.
+    pub fn submit_batch(
+        &mut self,
+        alloc: Global,
+        caller: u32,
+        serial: u32,
+        text: &[u8],
+        told: &mut u64,
+    ) -> MemberStatus
+        ensures status { status_number result ≢ no_memory → result ≡ step_status (submit_batch_step caller serial text.now) self.old }
+        ensures kept { status_number result ≢ no_memory → self.new ≡ step_kept (submit_batch_step caller serial text.now) self.old }
+        ensures number { status_number result ≢ no_memory → told.new ≡ step_told (submit_batch_step caller serial text.now) self.old }
+        ensures unchanged { status_number result ≡ no_memory → self.new ≡ self.old }
+        ensures no_number { status_number result ≡ no_memory → told.new ≡ 0 }
+    {
+        *told = 0;
+        let Some(member) = &mut self.member else {
+            return EMPTY;
+        };
+        match read_commands(alloc, text) {
+            Ok(commands) => steps::submit(
+                alloc,
+                member,
+                LONGEST_MESSAGE,
+                caller,
+                serial,
+                commands,
+                told,
+            ),
+            Err(refusal) => not_read(refusal),
+        }
+    }
+
+    /// Receives message `number` of member `from`, by its text. Tells the number of the acknowledgement that was sent, and 0 where none is
+    /// due. Refused as Repeat or Gap, it tells the number that is expected.
+    pub fn receive(
+        &mut self,
+        alloc: Global,
+        from: u32,
+        number: u32,
+        text: &[u8],
+        told: &mut u64,
+    ) -> MemberStatus
+        ensures status { status_number result ≢ no_memory → result ≡ step_status (receive_step from number text.now) self.old }
+        ensures kept { status_number result ≢ no_memory → self.new ≡ step_kept (receive_step from number text.now) self.old }
+        ensures number { status_number result ≢ no_memory → told.new ≡ step_told (receive_step from number text.now) self.old }
+        ensures unchanged { status_number result ≡ no_memory → self.new ≡ self.old }
+        ensures no_number { status_number result ≡ no_memory → told.new ≡ 0 }
+    {
+        *told = 0;
+        let Some(member) = &mut self.member else {
+            return EMPTY;
+        };
+        match read_message(alloc, text) {
+            Ok(message) => {
+                let status = steps::receive(member, from, number, &message, told);
+                drop(message);
+                status
+            }
+            Err(refusal) => not_read(refusal),
+        }
+    }
+
+    /// Takes message `number` of the member's own row, by its text: one that it sent before it was lost, or that another process which is the
+    /// same member sent, or that was set there to be taken. Tells its number; refused as Repeat or Gap, the number that is expected.
+    pub fn take_own(
+        &mut self,
+        alloc: Global,
+        number: u32,
+        text: &[u8],
+        told: &mut u64,
+    ) -> MemberStatus
+        ensures status { status_number result ≢ no_memory → result ≡ step_status (take_own_step number text.now) self.old }
+        ensures kept { status_number result ≢ no_memory → self.new ≡ step_kept (take_own_step number text.now) self.old }
+        ensures number { status_number result ≢ no_memory → told.new ≡ step_told (take_own_step number text.now) self.old }
+        ensures unchanged { status_number result ≡ no_memory → self.new ≡ self.old }
+        ensures no_number { status_number result ≡ no_memory → told.new ≡ 0 }
+    {
+        *told = 0;
+        let Some(member) = &mut self.member else {
+            return EMPTY;
+        };
+        match read_message(alloc, text) {
+            Ok(message) => steps::take_own(alloc, member, LONGEST_MESSAGE, number, message, told),
+            Err(refusal) => not_read(refusal),
+        }
+    }
+
+    /// Delivers the command that is due, if one is. Tells the number of its record, which `record` gives, and 0 where none is due.
+    pub fn deliver(&mut self, alloc: Global, told: &mut u64) -> MemberStatus
+        ensures status { status_number result ≢ no_memory → result ≡ step_status deliver_step self.old }
+        ensures kept { status_number result ≢ no_memory → self.new ≡ step_kept deliver_step self.old }
+        ensures number { status_number result ≢ no_memory → told.new ≡ step_told deliver_step self.old }
+        ensures unchanged { status_number result ≡ no_memory → self.new ≡ self.old }
+        ensures no_number { status_number result ≡ no_memory → told.new ≡ 0 }
+    {
+        *told = 0;
+        match &mut self.member {
+            Some(member) => steps::deliver(alloc, member, told),
+            None => EMPTY,
+        }
+    }
+
+    /// The text of the message of this number, counted from 1, that the member sent. Where it is not too long, it reads as that message.
+    pub fn message(
+        &self,
+        alloc: Global,
+        number: usize,
+        out: &mut [u8],
+        written: &mut usize,
+    ) -> MemberStatus
+        ensures told { status_number result ≢ no_memory → result ≡ text_status (asked (message_at number) self.now) out.old }
+        ensures buffer { status_number result ≢ no_memory → out.new ≡ text_buffer (asked (message_at number) self.now) out.old }
+        ensures length { status_number result ≢ no_memory → written.new ≡ text_length (asked (message_at number) self.now) }
+        ensures reads_back { result ≡ MemberStatus.Plain Status.Done → ReadsBack number self.now }
+        ensures buffer_unchanged { status_number result ≡ no_memory → out.new ≡ out.old }
+        ensures no_length { status_number result ≡ no_memory → written.new ≡ 0 }
+    {
+        *written = 0;
+        let Some(member) = &self.member else {
+            return EMPTY;
+        };
+        tell_text(texts::message_at(alloc, member, number), out, written)
+    }
+
+    /// The text of the record of this number, counted from 1, of the member's history.
+    pub fn record(
+        &self,
+        alloc: Global,
+        number: usize,
+        out: &mut [u8],
+        written: &mut usize,
+    ) -> MemberStatus
+        ensures told { status_number result ≢ no_memory → result ≡ text_status (asked (record_at number) self.now) out.old }
+        ensures buffer { status_number result ≢ no_memory → out.new ≡ text_buffer (asked (record_at number) self.now) out.old }
+        ensures length { status_number result ≢ no_memory → written.new ≡ text_length (asked (record_at number) self.now) }
+        ensures buffer_unchanged { status_number result ≡ no_memory → out.new ≡ out.old }
+        ensures no_length { status_number result ≡ no_memory → written.new ≡ 0 }
+    {
+        *written = 0;
+        let Some(member) = &self.member else {
+            return EMPTY;
+        };
+        tell_text(texts::record_at(alloc, member, number), out, written)
+    }
+
+    /// The commands that make the member's policy, each in a line.
+    pub fn dump(&self, alloc: Global, out: &mut [u8], written: &mut usize) -> MemberStatus
+        ensures told { status_number result ≢ no_memory → result ≡ text_status (asked (policy_dump) self.now) out.old }
+        ensures buffer { status_number result ≢ no_memory → out.new ≡ text_buffer (asked (policy_dump) self.now) out.old }
+        ensures length { status_number result ≢ no_memory → written.new ≡ text_length (asked (policy_dump) self.now) }
+        ensures buffer_unchanged { status_number result ≡ no_memory → out.new ≡ out.old }
+        ensures no_length { status_number result ≡ no_memory → written.new ≡ 0 }
+    {
+        *written = 0;
+        let Some(member) = &self.member else {
+            return EMPTY;
+        };
+        tell_text(texts::policy_dump(alloc, member), out, written)
+    }
+
+    /// The text of the message by which a submit of this command would send it; nothing changes. It can be set in the member's row first, and
+    /// taken from there by `take_own`, which leaves what the submit leaves.
+    pub fn next_submit(
+        &self,
+        alloc: Global,
+        caller: u32,
+        serial: u32,
+        text: &[u8],
+        out: &mut [u8],
+        written: &mut usize,
+    ) -> MemberStatus
+        ensures told { status_number result ≢ no_memory → result ≡ text_status (asked (next_submit caller serial text.now) self.now) out.old }
+        ensures buffer { status_number result ≢ no_memory → out.new ≡ text_buffer (asked (next_submit caller serial text.now) self.now) out.old }
+        ensures length { status_number result ≢ no_memory → written.new ≡ text_length (asked (next_submit caller serial text.now) self.now) }
+        ensures buffer_unchanged { status_number result ≡ no_memory → out.new ≡ out.old }
+        ensures no_length { status_number result ≡ no_memory → written.new ≡ 0 }
+    {
+        *written = 0;
+        let Some(member) = &self.member else {
+            return EMPTY;
+        };
+        let told = match read_command(alloc, text) {
+            Ok(command) => texts::next_batch(
+                alloc,
+                member,
+                LONGEST_MESSAGE,
+                caller,
+                serial,
+                Commands::one(command),
+            ),
+            Err(refusal) => Err(not_read(refusal)),
+        };
+        tell_text(told, out, written)
+    }
+
+    /// The text of the message by which a submit of these commands would send them. As `next_submit`.
+    pub fn next_submit_batch(
+        &self,
+        alloc: Global,
+        caller: u32,
+        serial: u32,
+        text: &[u8],
+        out: &mut [u8],
+        written: &mut usize,
+    ) -> MemberStatus
+        ensures told { status_number result ≢ no_memory → result ≡ text_status (asked (next_submit_batch caller serial text.now) self.now) out.old }
+        ensures buffer { status_number result ≢ no_memory → out.new ≡ text_buffer (asked (next_submit_batch caller serial text.now) self.now) out.old }
+        ensures length { status_number result ≢ no_memory → written.new ≡ text_length (asked (next_submit_batch caller serial text.now) self.now) }
+        ensures buffer_unchanged { status_number result ≡ no_memory → out.new ≡ out.old }
+        ensures no_length { status_number result ≡ no_memory → written.new ≡ 0 }
+    {
+        *written = 0;
+        let Some(member) = &self.member else {
+            return EMPTY;
+        };
+        let told = match read_commands(alloc, text) {
+            Ok(commands) => texts::next_batch(
+                alloc,
+                member,
+                LONGEST_MESSAGE,
+                caller,
+                serial,
+                commands,
+            ),
+            Err(refusal) => Err(not_read(refusal)),
+        };
+        tell_text(told, out, written)
+    }
+
+    /// The text of the acknowledgement that message `number` of member `from` wants, as it can be set in the member's row and taken from there
+    /// before the message is received, which then sends nothing; no bytes where none is wanted. Nothing changes.
+    pub fn next_answer(
+        &self,
+        alloc: Global,
+        from: u32,
+        number: u32,
+        text: &[u8],
+        out: &mut [u8],
+        written: &mut usize,
+    ) -> MemberStatus
+        ensures told { status_number result ≢ no_memory → result ≡ text_status (asked (next_answer from number text.now) self.now) out.old }
+        ensures buffer { status_number result ≢ no_memory → out.new ≡ text_buffer (asked (next_answer from number text.now) self.now) out.old }
+        ensures length { status_number result ≢ no_memory → written.new ≡ text_length (asked (next_answer from number text.now) self.now) }
+        ensures buffer_unchanged { status_number result ≡ no_memory → out.new ≡ out.old }
+        ensures no_length { status_number result ≡ no_memory → written.new ≡ 0 }
+    {
+        *written = 0;
+        let Some(member) = &self.member else {
+            return EMPTY;
+        };
+        let told = match read_message(alloc, text) {
+            Ok(message) => {
+                let told = texts::first_answer(alloc, member, from, number, &message);
+                drop(message);
+                told
+            }
+            Err(refusal) => Err(not_read(refusal)),
+        };
+        tell_text(told, out, written)
+    }
+
+    /// How many messages of member `from` were received; 0 of itself and of a stranger.
+    pub fn read(&self, from: u32, told: &mut u64) -> MemberStatus
+        ensures status { result ≡ number_status self.now }
+        ensures number { told.new ≡ number_told (λ v. taken_of v from) self.now }
+    {
+        *told = 0;
+        match &self.member {
+            Some(member) => {
+                *told = u64::from(member.read(from));
+                MemberStatus::Plain(Status::Done)
+            }
+            None => EMPTY,
+        }
+    }
+
+    /// The serial of a caller's next command at this member.
+    pub fn next_serial(&self, caller: u32, told: &mut u64) -> MemberStatus
+        ensures status { result ≡ number_status self.now }
+        ensures number { told.new ≡ number_told (λ v. next_serial caller (submissions v.sent)) self.now }
+    {
+        *told = 0;
+        match &self.member {
+            Some(member) => {
+                *told = member.next_serial(caller);
+                MemberStatus::Plain(Status::Done)
+            }
+            None => EMPTY,
+        }
+    }
+
+    /// The least command that is held back, and the members that it waits for; none where nothing is held.
+    ///
+    /// # Errors
+    /// `EmptyPlace` where there is no member.
+    pub fn waits(&self) -> Result<Option<Waiting>, MemberStatus>
+        ensures { result ≡ waits_of self.now }
+    {
+        match &self.member {
+            Some(member) => Ok(waits_of(member)),
+            None => Err(EMPTY),
+        }
+    }
+
+    /// Whether the session may perform the operation on the object by the policy that the member's history left, which is the member's own
+    /// and may be behind that of others. Tells how many records that history has. It takes no memory.
+    pub fn check(
+        &self,
+        session: &[u8],
+        operation: &[u8],
+        object: &[u8],
+        told: &mut u64,
+    ) -> MemberStatus
+        ensures status { result ≡ check_status session.now operation.now object.now self.now }
+        ensures number { told.new ≡ number_told (λ v. length v.history) self.now }
+    {
+        *told = 0;
+        match &self.member {
+            Some(member) => {
+                *told = member.history().len() as u64;
+                let verdict = check(member.policy(), session, operation, object);
+                MemberStatus::Plain(Status::Checked(verdict))
+            }
+            None => EMPTY,
+        }
+    }
+
+    /// Ends the member.
+    pub fn close(&mut self) -> MemberStatus
+        ensures told { result ≡ number_status self.old }
+        ensures closed { self.new ≡ None }
+    {
+        match self.member.take() {
+            Some(member) => {
+                drop(member);
+                MemberStatus::Plain(Status::Done)
+            }
+            None => EMPTY,
+        }
+    }
+}

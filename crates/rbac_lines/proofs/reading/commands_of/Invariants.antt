@@ -1,9 +1,0 @@
-use Rattle.std.proofs.Common.{◌≡◌, drop}
-use Rattle.serde_json.specs.View.{items_view}
-use Rattle.rbac_lines.specs.Event.{commands_of}
-use Rattle.rbac_lines.proofs.BatchLemmas.{commands_after}
-use Rattle.rbac_lines.proofs.reading.commands_of.Given as goal
-
--- what is read, and what is left to read
-abbrev pub invariant-loop-value : goal.invariant-loop-value
-invariant-loop-value l = commands_of (items_view l.array) ≡ commands_after l.commands.items (commands_of (items_view (drop l.value-index l.array)))

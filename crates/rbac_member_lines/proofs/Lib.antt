@@ -1,0 +1,2 @@
+pub mod DeliveryLemmas
+pub mod RunLemmas

@@ -1,0 +1,4 @@
+pub mod StampLemmas
+pub mod CommandsBack
+pub mod MessageBack
+pub mod RecordLemmas

@@ -1,0 +1,4 @@
+pub mod StampText
+pub mod MessageText
+pub mod Message
+pub mod RecordText

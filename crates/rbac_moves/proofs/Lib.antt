@@ -1,0 +1,11 @@
+pub mod MoveLemmas
+pub mod EarlierLemmas
+pub mod SealLemmas
+pub mod SealMoveLemmas
+pub mod RowLemmas
+pub mod SealInstance
+pub mod RowMoveLemmas
+pub mod AnswerLemmas
+pub mod FollowLemmas
+pub mod RowSetLemmas
+pub mod RowInstance
