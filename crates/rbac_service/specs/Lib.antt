@@ -1,1 +1,2 @@
+pub mod Submit
 pub mod Ticket

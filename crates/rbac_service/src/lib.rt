@@ -4,6 +4,7 @@
 
 mod courier;
 mod gate;
+pub mod laws;
 mod refusal;
 mod service;
 

@@ -4,6 +4,7 @@ ghost use Rattle.rbac_words.specs.Keeping.Member.{IsNumber};
 ghost use Rattle.rbac_node.specs.Cells.{history_cells};
 ghost use Rattle.rbac_node.specs.Pass.{Owns, IsAnswered};
 ghost use Rattle.rbac_words.specs.Play.{IsPrefixOf};
+ghost use Rattle.rbac_service.specs.Submit.{IsSubmitted, IsNotSubmitted, TellsSubmit};
 ghost use Rattle.rbac_service.specs.Ticket.{ticket_back, called, IsCallRefused};
 
 use crate::courier::Courier;
@@ -58,7 +59,7 @@ impl<G: GroupName, K: Gate + Drop, C: Courier + Drop> Service<G, K, C> {
     /// service. It may wait for the member's lock.
     ///
     /// # Errors
-    /// The first that applies, as `ServiceRefusal` says; the command is dropped.
+    /// The first that applies to the node that stood under the lock, as `ServiceRefusal` says; the command is dropped.
     pub fn submit<R: Wait>(
         &self,
         rt: &R,
@@ -73,15 +74,15 @@ impl<G: GroupName, K: Gate + Drop, C: Courier + Drop> Service<G, K, C> {
         ensures seen { IfOk result (λ ticket. ticket.seen ≡ length pass.old.front) }
         ensures pass { OnOk result (pass.new ≡ record pass.old { next = pass.old.next + 1; is_waiting = true }) }
         ensures idle { OnOk result (pass.old.is_waiting ≡ false) }
+        ensures accepted { IfOk result (λ ticket. IsSubmitted G.group G.vocabulary pass.old ticket.call.stamp) }
+        ensures first_refusal { IfErr result (λ refusal. IsNotSubmitted G.group G.vocabulary pass.old refusal) }
         ensures busy { IfErr result (λ refusal. refusal ≡ ServiceRefusal.Busy → pass.old.is_waiting ≡ true) }
         ensures waiting { pass.old.is_waiting ≡ true → IfErr result (λ refusal. (refusal ≡ ServiceRefusal.Stopped) ⊎ (refusal ≡ ServiceRefusal.Busy)) }
         ensures unchanged { OnErr result (pass.new ≡ pass.old) }
     {
-        let Some(slot) = self.slot(pass.member()) else {
-            drop(command);
-            return Err(self.refusal_of_stranger(rt, pass));
-        };
+        let slot = self.slot_or_first(pass.member());
         let mut node = slot.node.lock(rt);
+        node.invariants();
         let ticket = pass.submit(&mut node, command)?;
         let (sent, records) = (node.published(), node.published_records());
         let _published = self.publish(alloc, &mut node);
@@ -95,22 +96,12 @@ impl<G: GroupName, K: Gate + Drop, C: Courier + Drop> Service<G, K, C> {
         Ok(ticket)
     }
 
-    // Why no command of a pass is submitted whose member the service does not have. A service is stopped with all its members.
-    fn refusal_of_stranger<R: Wait>(&self, rt: &R, pass: &Pass<G>) -> ServiceRefusal
-        ensures busy { result ≡ ServiceRefusal.Busy → pass.now.is_waiting ≡ true }
-        ensures waiting { pass.now.is_waiting ≡ true → (result ≡ ServiceRefusal.Stopped) ⊎ (result ≡ ServiceRefusal.Busy) }
-    {
-        if self
-            .slots
-            .iter()
-            .any(|slot| slot.node.lock(rt).is_stopped())
-        {
-            return ServiceRefusal::Stopped;
+    // The lock of a member, or the first one's where the group has no such member: the node there refuses a pass of it.
+    fn slot_or_first(&self, at: u32) -> &Slot<G> {
+        match self.slot(at) {
+            Some(slot) => slot,
+            None => &self.slots[0],
         }
-        if pass.is_waiting() {
-            return ServiceRefusal::Busy;
-        }
-        ServiceRefusal::Foreign
     }
 
     /// Waits until the member has published the answer to the pass's ticket, or was stopped. An answer that is published is given
@@ -190,15 +181,20 @@ impl<G: GroupName, K: Gate + Drop, C: Courier + Drop> Service<G, K, C> {
     ) -> Result<Receipt, CallRefusal>
         ensures answered { IfOk result (λ receipt. IsAnswered (record pass.old { next = pass.old.next + 1; is_waiting = true }) (called pass.old receipt.stamp command) receipt.place receipt.answer pass.new) }
         ensures member { IfOk result (λ receipt. receipt.stamp.member ≡ pass.old.member) }
+        ensures accepted { IfOk result (λ receipt. IsSubmitted G.group G.vocabulary pass.old receipt.stamp) }
+        ensures first_refusal { IfErr result (λ refusal. TellsSubmit G.group G.vocabulary pass.old refusal) }
         ensures busy { IfErr result (λ refusal. refusal ≡ CallRefusal.Submit ServiceRefusal.Busy → pass.old.is_waiting ≡ true) }
         ensures waiting { pass.old.is_waiting ≡ true → IfErr result (λ refusal. (refusal ≡ CallRefusal.Submit ServiceRefusal.Stopped) ⊎ (refusal ≡ CallRefusal.Submit ServiceRefusal.Busy)) }
         ensures refused { IfErr result (λ refusal. IsCallRefused pass.old command refusal pass.new) }
     {
-        let ticket = self
-            .submit(rt, alloc, pass, command)
-            .map_err(CallRefusal::Submit)?;
-        self.await_answer(rt, pass, ticket)
-            .map_err(CallRefusal::Await)
+        let ticket = match self.submit(rt, alloc, pass, command) {
+            Ok(ticket) => ticket,
+            Err(refusal) => return Err(CallRefusal::Submit(refusal)),
+        };
+        match self.await_answer(rt, pass, ticket) {
+            Ok(receipt) => Ok(receipt),
+            Err(refusal) => Err(CallRefusal::Await(refusal)),
+        }
     }
 
     /// Both passes, of one member of this service, have the longer of the two fronts, which begins with what each had seen. It
