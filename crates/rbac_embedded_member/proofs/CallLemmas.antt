@@ -30,7 +30,7 @@ pub record IsMoved (v after : Member) (Told : ℕ → List Message → Type 0) :
   pub sent : (k : ℕ) (sent : List Message) → Told k sent → WereSent k sent moves
 
 -- nothing has changed
-stayed : (v : Member) (Told : ℕ → List Message → Type 0) → IsMoved v v Told
+pub stayed : (v : Member) (Told : ℕ → List Message → Type 0) → IsMoved v v Told
 stayed v Told = record { moves = []; allowed = tt; is = refl; sent = λ k sent told. tt }
 
 -- a move that is not refused
@@ -51,16 +51,16 @@ short_moved v longest m step Told made = go (nat_lt longest (length (message_tex
     go false = made
 
 -- what is read steps
-read_moved : {T : Type 0} (v : Member) (read : Reading T) (step : T → Member → Step) (Told : ℕ → List Message → Type 0) → ((value : T) → read ≡ Ok value → IsMoved v (step value v).member Told) → IsMoved v (if_read read step v).member Told
+pub read_moved : {T : Type 0} (v : Member) (read : Reading T) (step : T → Member → Step) (Told : ℕ → List Message → Type 0) → ((value : T) → read ≡ Ok value → IsMoved v (step value v).member Told) → IsMoved v (if_read read step v).member Told
 read_moved v (Ok value) step Told go = go value refl
 read_moved v (Err refusal) step Told go = stayed v Told
 
-batch_moved : (v : Member) (longest caller serial : ℕ) (commands : List Command) (Told : ℕ → List Message → Type 0) → IsMoved v (batch_step longest caller serial commands v).member Told
+pub batch_moved : (v : Member) (longest caller serial : ℕ) (commands : List Command) (Told : ℕ → List Message → Type 0) → IsMoved v (batch_step longest caller serial commands v).member Told
 batch_moved v longest caller serial commands Told =
     unless v (move_refusal v (submits caller serial commands)) _ Told
     (λ free. short_moved v longest (batch v caller serial commands) (done (submitted v caller serial commands) (next_own v)) Told (done_moved v (submits caller serial commands) (next_own v) Told (λ k sent told. tt) free))
 
-own_moved : (v : Member) (longest number : ℕ) (m : Message) (Told : ℕ → List Message → Type 0) → IsMoved v (own_step longest number m v).member Told
+pub own_moved : (v : Member) (longest number : ℕ) (m : Message) (Told : ℕ → List Message → Type 0) → IsMoved v (own_step longest number m v).member Told
 own_moved v longest number m Told =
     short_moved v longest m _ Told
     (unless v (move_refusal v (takes_own number m)) (done (took_own v m) (next_own v)) Told (done_moved v (takes_own number m) (next_own v) Told (λ k sent told. tt)))
@@ -69,16 +69,20 @@ own_moved v longest number m Told =
 same_message : (text : List ℕ) (m n : Message) → message_read text ≡ Ok m → message_read text ≡ Ok n → m ≡ n
 same_message text m n a b = let both : ◌≡◌ {A = Reading Message} (Ok m) (Ok n) = sym a ∙ b in cc
 
-message_moved : (v : Member) (from number : ℕ) (text : List ℕ) (m : Message) → message_read text ≡ Ok m → IsMoved v (message_step from number m v).member (λ k sent. (from ≡ k → IsTold sent number text) × Unit {0})
-message_moved v from number text m e =
-    unless v (move_refusal v (receives from number m)) _ _
-    (done_moved v (receives from number m) (told_acknowledgement (acknowledgement (node_of v) m) (next_own v)) _
-    (λ k sent told. ((λ same. let t = told.0 same in t.is ∙ ap Some (same_message text t.message m t.reads e)), tt)))
+pub message_moved : (v : Member) (from number : ℕ) (m : Message) (Told : ℕ → List Message → Type 0) → ((k : ℕ) (sent : List Message) → Told k sent → from ≡ k → slice_get sent (number - 1) ≡ Some m)
+    → IsMoved v (message_step from number m v).member Told
+message_moved v from number m Told is_sent =
+    unless v (move_refusal v (receives from number m)) _ Told
+    (done_moved v (receives from number m) (told_acknowledgement (acknowledgement (node_of v) m) (next_own v)) Told (λ k sent told. (is_sent k sent told, tt)))
+
+-- a text that was told is of that message
+told_message : (from number : ℕ) (text : List ℕ) (m : Message) → message_read text ≡ Ok m → (k : ℕ) (sent : List Message) → (from ≡ k → IsTold sent number text) × Unit {0} → from ≡ k → slice_get sent (number - 1) ≡ Some m
+told_message from number text m e k sent told same = let t = told.0 same in t.is ∙ ap Some (same_message text t.message m t.reads e)
 
 pub one_moved : (v : Member) (call : Call) → IsMoved v (step_of call v).member (λ k sent. WereTold k sent (call ∷ []))
 one_moved v (calls_submit caller serial text) = read_moved v (command text) (command_step caller serial) _ (λ asked e. batch_moved v longest_message caller serial (asked ∷ []) _)
 one_moved v (calls_submit_batch caller serial text) = read_moved v (commands_read text) (batch_step longest_message caller serial) _ (λ commands e. batch_moved v longest_message caller serial commands _)
-one_moved v (calls_receive from number text) = read_moved v (message_read text) (message_step from number) _ (λ m e. message_moved v from number text m e)
+one_moved v (calls_receive from number text) = read_moved v (message_read text) (message_step from number) _ (λ m e. message_moved v from number m _ (told_message from number text m e))
 one_moved v (calls_take_own number text) = read_moved v (message_read text) (own_step longest_message number) _ (λ m e. own_moved v longest_message number m _)
 one_moved v calls_deliver = record { moves = delivers ∷ []; allowed = (refl, tt); is = refl; sent = λ k sent told. tt }
 
@@ -102,16 +106,20 @@ told_first k sent (calls_receive from number text) calls h = ((h.0, tt), h.1)
 told_first k sent (calls_take_own number text) calls h = (tt, h)
 told_first k sent calls_deliver calls h = (tt, h)
 
+-- what one and then others did
+pub both_moved : (v u w : Member) (One Rest Told : ℕ → List Message → Type 0) → ((k : ℕ) (sent : List Message) → Told k sent → One k sent × Rest k sent) → IsMoved v u One → IsMoved u w Rest → IsMoved v w Told
+both_moved v u w One Rest Told parts one rest =
+    record {
+      moves = one.moves ++ rest.moves;
+      allowed = moves-append v one.moves rest.moves one.allowed (subst (λ x. AreMoves x rest.moves) (sym one.is) rest.allowed);
+      is = run-append v one.moves rest.moves ∙ ap (λ x. run x rest.moves) one.is ∙ rest.is;
+      sent = λ k sent told. let both = parts k sent told in sent-append k sent one.moves rest.moves (one.sent k sent both.0) (rest.sent k sent both.1);
+    }
+
 pub all_moved : (v : Member) (calls : List Call) → IsMoved v (called v calls) (λ k sent. WereTold k sent calls)
 all_moved v [] = stayed v _
 all_moved v (call ∷ calls) =
-    let one = one_moved v call in let rest = all_moved (step_of call v).member calls in
-    record {
-      moves = one.moves ++ rest.moves;
-      allowed = moves-append v one.moves rest.moves one.allowed (subst (λ u. AreMoves u rest.moves) (sym one.is) rest.allowed);
-      is = run-append v one.moves rest.moves ∙ ap (λ u. run u rest.moves) one.is ∙ rest.is;
-      sent = λ k sent told. let both = told_first k sent call calls told in sent-append k sent one.moves rest.moves (one.sent k sent both.0) (rest.sent k sent both.1);
-    }
+    both_moved v (step_of call v).member _ _ _ _ (λ k sent told. told_first k sent call calls told) (one_moved v call) (all_moved (step_of call v).member calls)
 
 -- ---- The members
 

@@ -3,7 +3,7 @@ use Rattle.std.proofs.Common.{ℕ, zero, suc, Bool, true, false, ◌≡◌, ◌-
 use Rattle.std.specs.List.{AllByRecursion as Each}
 use Rattle.rbac_embedded_member.specs.Texts.{item_at}
 
-at_place : {X : Type 0} (P : X → Type 0) (xs : List X) (i : ℕ) (x : X) → Each P xs → slice_get xs i ≡ Some x → P x
+pub at_place : {X : Type 0} (P : X → Type 0) (xs : List X) (i : ℕ) (x : X) → Each P xs → slice_get xs i ≡ Some x → P x
 at_place P [] i x a e = let no : ⊥ = cc in absurd no
 at_place P (y ∷ ys) zero x a e = let same : y ≡ x = cc in subst P same a.0
 at_place P (y ∷ ys) (suc i) x a e = at_place P ys i x a.1 e

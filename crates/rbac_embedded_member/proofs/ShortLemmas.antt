@@ -1,4 +1,4 @@
--- Each message that a member sends by calls has a text that can be read: it is not too long.
+-- What holds of each message that a member sends: by calls, that its text can be read, since it is not too long.
 use Rattle.std.proofs.Common.{ℕ, Bool, true, false, ◌≡◌, ◌≤◌, ◌<◌, ◌+◌, ◌^◌, cond, nat_lt, List, [], ◌∷◌, ◌++◌, length, codes, decimal, refl, sym, ap, subst, ◌∙◌, arith, append-nil, length-append, lit<, Option, Some, None, Ok, Err}
 use Rattle.std.specs.List.{AllByRecursion as Each}
 use Rattle.std.proofs.lemmas.Bool.Decides.{nat_tests}
@@ -28,12 +28,6 @@ use Rattle.rbac_embedded_member.specs.Step.{Step, done, refused, step_unless, if
 use Rattle.rbac_embedded_member.specs.Calls.{Call, calls_submit, calls_submit_batch, calls_receive, calls_take_own, calls_deliver, step_of, called}
 use Rattle.rbac_embedded_member.proofs.CallLemmas.{one_moved}
 
-abbrev IsShort : Message → Type 0
-IsShort m = length (message_text m) ≤ longest_message
-
-abbrev AreShort : Member → Type 0
-AreShort v = Each IsShort v.sent
-
 -- ---- An acknowledgement
 
 length_of : (clock member : List ℕ) → length (codes "{\"stamp\":" ++ (codes "[" ++ clock ++ codes "," ++ member ++ codes "]") ++ codes "}") ≡ (9 + (((1 + length clock) + 1) + length member + 1)) + 1
@@ -46,74 +40,96 @@ length_of clock member =
     ∙ ap (λ n. n + 1)
     (length-append (codes "[" ++ clock ++ codes ",") member ∙ ap (λ n. n + length member) (length-append (codes "[" ++ clock) (codes ",") ∙ ap (λ n. n + 1) (length-append (codes "[") clock)))))
 
-acknowledgement_short : (clock number : ℕ) → clock ≤ last_clock → number ≤ 8 → IsShort (Ack (stamp clock number))
+pub acknowledgement_short : (clock number : ℕ) → clock ≤ last_clock → number ≤ 8 → length (message_text (Ack (stamp clock number))) ≤ 30
 acknowledgement_short clock number c n =
     let a : length (decimal clock) ≤ 16 = length-decimal-le 16 clock (lit< tt) (omega (arith, c)) (omega (arith, c)) in
     let b : length (decimal number) ≤ 1 = length-decimal-le 1 number (lit< tt) (omega (arith, n)) (omega (arith, n)) in
     let e : length (acknowledgement_text (stamp clock number)) ≡ (9 + (((1 + length (decimal clock)) + 1) + length (decimal number) + 1)) + 1 = length_of (decimal clock) (decimal number) in
     omega arith
 
-acks_short : (clock number : ℕ) (o : Option Stamp) → o ≡ Some (stamp clock number) → clock ≤ last_clock → number ≤ 8 → Each IsShort (acks o)
-acks_short clock number None e c n = tt
-acks_short clock number (Some s) e c n = let same : s ≡ stamp clock number = cc in (subst (λ t. IsShort (Ack t)) (sym same) (acknowledgement_short clock number c n), tt)
+-- ---- One step: what holds of each message that is sent, where it holds of acknowledgements, and of what is sent or taken as short enough
+
+module _ (longest : ℕ) (P : Message → Type 0) (acknowledgements : (clock number : ℕ) → clock ≤ last_clock → number ≤ 8 → P (Ack (stamp clock number))) where
+  abbrev AllSent : Member → Type 0
+  AllSent v = Each P v.sent
+
+  acks_kept : (clock number : ℕ) (o : Option Stamp) → o ≡ Some (stamp clock number) → clock ≤ last_clock → number ≤ 8 → Each P (acks o)
+  acks_kept clock number None e c n = tt
+  acks_kept clock number (Some s) e c n = let same : s ≡ stamp clock number = cc in (subst (λ t. P (Ack t)) (sym same) (acknowledgements clock number c n), tt)
+
+  unless_kept : (v : Member) (o : Option Refusal) (step : Step) → (o ≡ None → AllSent step.member) → AllSent v → AllSent (step_unless o step v).member
+  unless_kept v None step f kept = f refl
+  unless_kept v (Some refusal) step f kept = kept
+
+  if_short_kept : (v : Member) (m : Message) (step : Step) → (length (message_text m) ≤ longest → AllSent step.member) → AllSent v → AllSent (if_short longest m step v).member
+  if_short_kept v m step f kept = go (nat_lt longest (length (message_text m))) refl
+    where
+      go : (b : Bool) → nat_lt longest (length (message_text m)) ≡ b → AllSent (cond b (refused MessageTooLong 0 v) step).member
+      go true e = kept
+      go false e = f (let fits : length (message_text m) ≤ longest = grind (arith, nat_tests) in fits)
+
+  pub batch_kept : (v : Member) (caller serial : ℕ) (commands : List Command) → (length (message_text (batch v caller serial commands)) ≤ longest → P (batch v caller serial commands)) → AllSent v
+      → AllSent (batch_step longest caller serial commands v).member
+  batch_kept v caller serial commands has kept =
+      unless_kept v (move_refusal v (submits caller serial commands)) _
+      (λ free. if_short_kept v (batch v caller serial commands) (done (submitted v caller serial commands) (next_own v)) (λ fits. Each-append P v.sent _ kept (has fits, tt)) kept) kept
+
+  pub own_kept : (v : Member) (number : ℕ) (m : Message) → (length (message_text m) ≤ longest → P m) → AllSent v → AllSent (own_step longest number m v).member
+  own_kept v number m has kept =
+      if_short_kept v m _ (λ fits. unless_kept v (own_refusal v number m) (done (took_own v m) (next_own v)) (λ free. Each-append P v.sent _ kept (has fits, tt)) kept) kept
+
+  received_kept : (v : Member) (from number : ℕ) (m : Message) → IsMember v → AllSent v → message_refusal v from number m ≡ None → AllSent (received v from m)
+  received_kept v from number m is kept free = go (must_acknowledge (node_of v) m) refl (keeps_moved v (receives from number m) is free)
+    where
+      number_low : v.number ≤ 8
+      number_low = let a : v.number ≤ v.group.members = is.high in let b : v.group.members ≤ 8 = is.group.few_members in omega arith
+
+      go : (b : Bool) → must_acknowledge (node_of v) m ≡ b → IsMember (received v from m) → AllSent (received v from m)
+      go true e after =
+          Each-append P v.sent (acks (acknowledgement (node_of v) m)) kept
+          (acks_kept (clock_after (node_of v) m) v.number (acknowledgement (node_of v) m) (ap (λ b. cond b (Some (stamp (clock_after (node_of v) m) v.number)) None) e) after.clock_in_range number_low)
+      go false e after =
+          subst (Each P) (sym (append-nil v.sent) ∙ ap (λ (o : Option Stamp). v.sent ++ acks o) (sym (ap (λ b. cond {A = Option Stamp} b (Some (stamp (clock_after (node_of v) m) v.number)) None) e))) kept
+
+  pub message_kept : (v : Member) (from number : ℕ) (m : Message) → IsMember v → AllSent v → AllSent (message_step from number m v).member
+  message_kept v from number m is kept =
+      unless_kept v (message_refusal v from number m) (done (received v from m) (told_acknowledgement (acknowledgement (node_of v) m) (next_own v))) (received_kept v from number m is kept) kept
+
+  pub delivered_kept : (v : Member) (o : Option Submission) → AllSent v → AllSent (deliver_due v o)
+  delivered_kept v None kept = kept
+  delivered_kept v (Some x) kept = kept
 
 -- ---- One call
 
-unless_short : (v : Member) (o : Option Refusal) (step : Step) → (o ≡ None → AreShort step.member) → AreShort v → AreShort (step_unless o step v).member
-unless_short v None step f short = f refl
-unless_short v (Some refusal) step f short = short
+abbrev IsShort : Message → Type 0
+IsShort m = length (message_text m) ≤ longest_message
 
-if_short_short : (v : Member) (m : Message) (step : Step) → (IsShort m → AreShort step.member) → AreShort v → AreShort (if_short longest_message m step v).member
-if_short_short v m step f short = go (nat_lt longest_message (length (message_text m))) refl
-  where
-    go : (b : Bool) → nat_lt longest_message (length (message_text m)) ≡ b → AreShort (cond b (refused MessageTooLong 0 v) step).member
-    go true e = short
-    go false e = f (let fits : length (message_text m) ≤ longest_message = grind (arith, nat_tests) in fits)
+abbrev AreShort : Member → Type 0
+AreShort v = Each IsShort v.sent
+
+short_acknowledgement : (clock number : ℕ) → clock ≤ last_clock → number ≤ 8 → IsShort (Ack (stamp clock number))
+short_acknowledgement clock number c n = omega (arith, acknowledgement_short clock number c n)
 
 read_short : {T : Type 0} (v : Member) (read : Reading T) (step : T → Member → Step) → ((value : T) → AreShort (step value v).member) → AreShort v → AreShort (if_read read step v).member
 read_short v (Ok value) step f short = f value
 read_short v (Err refusal) step f short = short
 
-batch_short : (v : Member) (caller serial : ℕ) (commands : List Command) → AreShort v → AreShort (batch_step longest_message caller serial commands v).member
-batch_short v caller serial commands short =
-    unless_short v (move_refusal v (submits caller serial commands)) _
-    (λ free. if_short_short v (batch v caller serial commands) (done (submitted v caller serial commands) (next_own v)) (λ fits. Each-append IsShort v.sent _ short (fits, tt)) short) short
-
-own_short : (v : Member) (number : ℕ) (m : Message) → AreShort v → AreShort (own_step longest_message number m v).member
-own_short v number m short =
-    if_short_short v m _ (λ fits. unless_short v (own_refusal v number m) (done (took_own v m) (next_own v)) (λ free. Each-append IsShort v.sent _ short (fits, tt)) short) short
-
-received_short : (v : Member) (from number : ℕ) (m : Message) → IsMember v → AreShort v → message_refusal v from number m ≡ None → AreShort (received v from m)
-received_short v from number m kept short free = go (must_acknowledge (node_of v) m) refl (keeps_moved v (receives from number m) kept free)
-  where
-    number_low : v.number ≤ 8
-    number_low = let a : v.number ≤ v.group.members = kept.high in let b : v.group.members ≤ 8 = kept.group.few_members in omega arith
-
-    go : (b : Bool) → must_acknowledge (node_of v) m ≡ b → IsMember (received v from m) → AreShort (received v from m)
-    go true e after =
-        Each-append IsShort v.sent (acks (acknowledgement (node_of v) m)) short
-        (acks_short (clock_after (node_of v) m) v.number (acknowledgement (node_of v) m) (ap (λ b. cond b (Some (stamp (clock_after (node_of v) m) v.number)) None) e) after.clock_in_range number_low)
-    go false e after =
-        subst (Each IsShort) (sym (append-nil v.sent) ∙ ap (λ (o : Option Stamp). v.sent ++ acks o) (sym (ap (λ b. cond {A = Option Stamp} b (Some (stamp (clock_after (node_of v) m) v.number)) None) e))) short
-
 call_short : (v : Member) (call : Call) → IsMember v → AreShort v → AreShort (step_of call v).member
-call_short v (calls_submit caller serial text) kept short = read_short v (command text) (command_step caller serial) (λ asked. batch_short v caller serial (asked ∷ []) short) short
-call_short v (calls_submit_batch caller serial text) kept short = read_short v (commands_read text) (batch_step longest_message caller serial) (λ commands. batch_short v caller serial commands short) short
-call_short v (calls_receive from number text) kept short =
-    read_short v (message_read text) (message_step from number)
-    (λ m. unless_short v (message_refusal v from number m) (done (received v from m) (told_acknowledgement (acknowledgement (node_of v) m) (next_own v))) (received_short v from number m kept short) short) short
-call_short v (calls_take_own number text) kept short = read_short v (message_read text) (own_step longest_message number) (λ m. own_short v number m short) short
-call_short v calls_deliver kept short = go (due_at v)
-  where
-    go : (o : Option Submission) → AreShort (deliver_due v o)
-    go None = short
-    go (Some x) = short
+call_short v (calls_submit caller serial text) is short =
+    read_short v (command text) (command_step caller serial) (λ asked. batch_kept longest_message IsShort short_acknowledgement v caller serial (asked ∷ []) (λ fits. fits) short) short
+call_short v (calls_submit_batch caller serial text) is short =
+    read_short v (commands_read text) (batch_step longest_message caller serial) (λ commands. batch_kept longest_message IsShort short_acknowledgement v caller serial commands (λ fits. fits) short) short
+call_short v (calls_receive from number text) is short =
+    read_short v (message_read text) (message_step from number) (λ m. message_kept longest_message IsShort short_acknowledgement v from number m is short) short
+call_short v (calls_take_own number text) is short =
+    read_short v (message_read text) (own_step longest_message number) (λ m. own_kept longest_message IsShort short_acknowledgement v number m (λ fits. fits) short) short
+call_short v calls_deliver is short = delivered_kept longest_message IsShort short_acknowledgement v (due_at v) short
 
 all_short : (v : Member) (calls : List Call) → IsMember v → AreShort v → AreShort (called v calls)
-all_short v [] kept short = short
-all_short v (call ∷ calls) kept short =
+all_short v [] is short = short
+all_short v (call ∷ calls) is short =
     let one = one_moved v call in
-    all_short (step_of call v).member calls (subst IsMember one.is (keeps_run v one.moves kept one.allowed)) (call_short v call kept short)
+    all_short (step_of call v).member calls (subst IsMember one.is (keeps_run v one.moves is one.allowed)) (call_short v call is short)
 
 pub each_short : (group : Group) (vocabulary : Vocabulary) (number : ℕ) (calls : List Call) → IsGroup group → IsNumber group number → Each (λ m. length (message_text m) ≤ longest_message) (called (founded group number vocabulary) calls).sent
 each_short group vocabulary number calls is n = all_short (founded group number vocabulary) calls (keeps_founded group number vocabulary is n.low n.high) tt

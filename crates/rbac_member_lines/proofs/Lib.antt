@@ -1,2 +1,4 @@
 pub mod DeliveryLemmas
 pub mod RunLemmas
+pub mod CarriedLemmas
+pub mod CarriedBack

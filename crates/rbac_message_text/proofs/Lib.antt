@@ -2,3 +2,4 @@ pub mod StampLemmas
 pub mod CommandsBack
 pub mod MessageBack
 pub mod RecordLemmas
+pub mod ReadFits

@@ -1,15 +1,15 @@
-//! The calls of other languages: each takes the policy out of its place, calls what is proved, and puts it back.
+//! The calls of other languages on a policy: each takes it out of its place, calls what is proved, and puts it back.
 ghost use Rattle.std.specs.Prelude.{◌≡◌, ◌≢◌, None};
 ghost use Rattle.rbac_embedded.specs.Holding.{answer_buffer, answer_length, answer_status, apply_buffer, apply_kept, apply_length, apply_status, check_status, close_status, dump_buffer, dump_length, dump_status, open_status, opened, IsDumpRead};
 ghost use Rattle.rbac_embedded.specs.Status.{no_memory, status_number};
 
-use crate::place::Place;
-use rbac_embedded::Holder;
+use super::place::PolicyPlace;
+use rbac_embedded::{Holder, Monitor};
 use std::alloc::Global;
 
 /// Founds a policy in an empty place with what a founding file says.
 #[unsafe(no_mangle)]
-pub extern "C" fn policy_open(place: &mut Place, alloc: Global, founding: &[u8]) -> u32
+pub extern "C" fn policy_open(place: &mut PolicyPlace, alloc: Global, founding: &[u8]) -> u32
     ensures told { result ≢ no_memory → result ≡ status_number (open_status founding.now place.old.slot.kept) }
     ensures opened { result ≢ no_memory → place.new.slot.kept ≡ opened founding.now place.old.slot.kept }
     ensures unchanged { result ≡ no_memory → place.new.slot.kept ≡ place.old.slot.kept }
@@ -23,7 +23,7 @@ pub extern "C" fn policy_open(place: &mut Place, alloc: Global, founding: &[u8])
 /// Applies the command of a JSON object, and puts its answer's text into the buffer.
 #[unsafe(no_mangle)]
 pub extern "C" fn policy_apply(
-    place: &mut Place,
+    place: &mut PolicyPlace,
     alloc: Global,
     command: &[u8],
     out: &mut [u8],
@@ -46,7 +46,7 @@ pub extern "C" fn policy_apply(
 /// Puts the text of the last answer into the buffer again.
 #[unsafe(no_mangle)]
 pub extern "C" fn policy_answer(
-    place: &mut Place,
+    place: &mut PolicyPlace,
     alloc: Global,
     out: &mut [u8],
     written: &mut usize,
@@ -65,7 +65,7 @@ pub extern "C" fn policy_answer(
 /// Whether the session may perform the operation on the object.
 #[unsafe(no_mangle)]
 pub extern "C" fn policy_check(
-    place: &mut Place,
+    place: &mut PolicyPlace,
     alloc: Global,
     session: &[u8],
     operation: &[u8],
@@ -83,7 +83,7 @@ pub extern "C" fn policy_check(
 /// Puts the commands that make the policy again into the buffer, each in a line that reads as just that command.
 #[unsafe(no_mangle)]
 pub extern "C" fn policy_dump(
-    place: &mut Place,
+    place: &mut PolicyPlace,
     alloc: Global,
     out: &mut [u8],
     written: &mut usize,
@@ -104,7 +104,7 @@ pub extern "C" fn policy_dump(
 
 /// Ends the policy of a place, and gives back all its memory.
 #[unsafe(no_mangle)]
-pub extern "C" fn policy_close(place: &mut Place, alloc: Global) -> u32
+pub extern "C" fn policy_close(place: &mut PolicyPlace, alloc: Global) -> u32
     ensures told { result ≡ status_number (close_status place.old.slot.kept) }
     ensures closed { place.new.slot.kept ≡ None }
 {

@@ -9,26 +9,27 @@ use std::marker::Model;
 
 /// What a place has of a monitor: its address, where there is one.
 #[repr(C)]
-pub struct Slot {
+pub struct PolicySlot {
     at: *mut u8,
     pub ghost kept: { Option Kept },
 }
 
-impl Model for Slot {
+impl Model for PolicySlot {
     ghost use Rattle.fochillun.specs.Owned.{slot_owns};
+    ghost use Rattle.rbac_embedded.specs.contracts.monitor.Monitor.{the_row};
 
-    ghost also_owns = { λ s. slot_owns s.kept s.at };
+    ghost also_owns = { λ s. slot_owns the_row s.kept s.at };
 }
 
 // What it owns is a box's, and that of a monitor may go to any thread.
-unsafe impl Send for Slot {}
+unsafe impl Send for PolicySlot {}
 
-impl Slot {
+impl PolicySlot {
     /// No address.
-    pub fn none() -> Slot
+    pub fn none() -> PolicySlot
         ensures { result.kept ≡ None }
     {
-        Slot {
+        PolicySlot {
             at: std::ptr::null_mut(),
         }
     }
@@ -37,15 +38,15 @@ impl Slot {
     pub fn forget(self)
         requires { is_some self.kept ≡ false }
     {
-        let Slot { at: _ } = self;
+        let PolicySlot { at: _ } = self;
     }
 
     /// The address of a monitor.
-    pub fn of(loose: Loose<Monitor, Global>) -> Slot
+    pub fn of(loose: Loose<Monitor, Global>) -> PolicySlot
         ensures { result.kept ≡ Some loose.value }
     {
         let Loose { at, alloc: _ } = loose;
-        Slot { at: at as *mut u8 }
+        PolicySlot { at: at as *mut u8 }
     }
 
     /// The monitor at the address.
@@ -53,7 +54,7 @@ impl Slot {
         requires { is_some self.kept ≡ true }
         ensures { Some result.value ≡ self.kept }
     {
-        let Slot { at } = self;
+        let PolicySlot { at } = self;
         Loose {
             at: at as *mut Monitor,
             alloc,

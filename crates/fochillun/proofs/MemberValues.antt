@@ -1,4 +1,4 @@
--- The machine values of a slot. Assumes `Logic`.
+-- The machine values of a member's slot. Assumes `Logic`.
 use Rattle.std.proofs.Common.{◌≡◌, List, [], ◌∷◌, ◌++◌, refl, subst}
 use seplogic.Ra.Ura.{Ura}
 use mir.Val.{Val, vstruct, vcons, vnil, of_list}
@@ -14,19 +14,19 @@ use denote.Struct.Owning.{shape}
 use Rattle.fochillun.specs.Owned.{slot_owns}
 use Rattle.std.specs.contracts.alloc.Global as heap
 use Rattle.std.specs.contracts.impls.GlobalAllocator.TheImpl.{ghosts}
-use Rattle.rbac_embedded.specs.contracts.monitor.Monitor as monitor
+use Rattle.rbac_member.specs.contracts.member.Member as held
 use Rattle.loose_box.specs.contracts.loose.Loose as loose
-use Rattle.fochillun.specs.contracts.slot.Slot as slot
+use Rattle.fochillun.specs.contracts.member.slot.MemberSlot as slot
 
 abbrev pub Slot : RattleType
 Slot = slot.the_row
 
-abbrev pub LooseMonitor : RattleType
-LooseMonitor = loose.the_row monitor.the_row heap.the_row ghosts
+abbrev pub LooseHeld : RattleType
+LooseHeld = loose.the_row held.the_row heap.the_row ghosts
 
 -- what is owned beside the address
 abbrev pub beside : Slot.Denot → Fml
-beside d = slot_owns d.kept d.at
+beside d = slot_owns held.the_row d.kept d.at
 
 abbrev pub word : Ptr → Val
 word p = vstruct (vcons (ptr_val p) vnil)

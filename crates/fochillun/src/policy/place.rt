@@ -1,7 +1,7 @@
 //! A place for a policy, which its holder owns.
 ghost use Rattle.std.specs.Prelude.{◌≡◌, None, false, is_some, option_map};
 
-use crate::slot::Slot;
+use super::slot::PolicySlot;
 use loose_box::Loose;
 use rbac_embedded::Monitor;
 use std::alloc::Global;
@@ -9,39 +9,39 @@ use std::mem;
 
 /// A place for a policy, which its holder owns. All zeros is an empty one.
 #[repr(C)]
-pub struct Place {
-    pub slot: Slot,
+pub struct PolicyPlace {
+    pub slot: PolicySlot,
     is_full: bool,
     ghost agrees: { is_full ≡ is_some slot.kept },
 }
 
-impl Place {
+impl PolicyPlace {
     /// A place without a policy.
-    pub(crate) fn empty() -> Place
+    pub(crate) fn empty() -> PolicyPlace
         ensures { result.slot.kept ≡ None }
     {
-        Place {
-            slot: Slot::none(),
+        PolicyPlace {
+            slot: PolicySlot::none(),
             is_full: false,
         }
     }
 
-    fn of(monitor: Option<Box<Monitor>>) -> Place
+    fn of(monitor: Option<Box<Monitor>>) -> PolicyPlace
         ensures { result.slot.kept ≡ option_map (λ b. b.value) monitor }
     {
         match monitor {
-            Some(monitor) => Place {
-                slot: Slot::of(Loose::of(monitor)),
+            Some(monitor) => PolicyPlace {
+                slot: PolicySlot::of(Loose::of(monitor)),
                 is_full: true,
             },
-            None => Place::empty(),
+            None => PolicyPlace::empty(),
         }
     }
 
     fn into_monitor(self, alloc: Global) -> Option<Box<Monitor>>
         ensures { option_map (λ b. b.value) result ≡ self.slot.kept }
     {
-        let Place { slot, is_full } = self;
+        let PolicyPlace { slot, is_full } = self;
         if is_full {
             Some(slot.into_loose(alloc).into_box())
         } else {
@@ -55,7 +55,7 @@ impl Place {
         ensures taken { option_map (λ b. b.value) result ≡ self.old.slot.kept }
         ensures left { self.new.slot.kept ≡ None }
     {
-        mem::replace(self, Place::empty()).into_monitor(alloc)
+        mem::replace(self, PolicyPlace::empty()).into_monitor(alloc)
     }
 
     /// Puts a monitor into an empty place, or leaves it empty.
@@ -63,14 +63,14 @@ impl Place {
         requires { self.old.slot.kept ≡ None }
         ensures { self.new.slot.kept ≡ option_map (λ b. b.value) monitor }
     {
-        mem::replace(self, Place::of(monitor)).forget();
+        mem::replace(self, PolicyPlace::of(monitor)).forget();
     }
 
     /// Lets go of an empty place.
     pub(crate) fn forget(self)
         requires { self.slot.kept ≡ None }
     {
-        let Place { slot, is_full: _ } = self;
+        let PolicyPlace { slot, is_full: _ } = self;
         slot.forget();
     }
 }

@@ -13,11 +13,11 @@ use denote.RawPtr.{null_ptr}
 use denote.Steps.{nothing}
 use denote.Triple.Walked.{Stays, walk_of}
 use Rattle.std.proofs.raw_atomic.Walks.{proved_at, leaves}
-use Rattle.fochillun.proofs.SlotValues.{Slot, word, slot_in}
-use Rattle.fochillun.specs.contracts.slot.Slot.none.{ended, clauses}
-use Rattle.fochillun.specs.contracts.slot.Slot.none.Key.{name as #self}
-use Rattle.fochillun.proofs.slot.Slot.none.Statement.{statement}
-use Rattle.fochillun.proofs.slot.Slot.none.Code as code
+use Rattle.fochillun.proofs.MemberValues.{Slot, word, slot_in}
+use Rattle.fochillun.specs.contracts.member.slot.MemberSlot.none.{ended, clauses}
+use Rattle.fochillun.specs.contracts.member.slot.MemberSlot.none.Key.{name as #self}
+use Rattle.fochillun.proofs.member.slot.MemberSlot.none.Statement.{statement}
+use Rattle.fochillun.proofs.member.slot.MemberSlot.none.Code as code
 
 pub none_spec : {M : Type 1} → statement M
 none_spec 𝓤 𝓛 𝓜 𝓡 wired =

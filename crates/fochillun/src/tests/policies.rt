@@ -1,14 +1,14 @@
-//! The calls of another language.
+//! The calls of another language on a policy.
 
 use super::clerk::{ADD_ANN, CHECKS, DONE, FOUNDING, OTHERS, REFUSED_COMMANDS, REFUSED_FOUNDINGS};
-use crate::calls::{
+use crate::policy::calls::{
     policy_answer, policy_apply, policy_check, policy_close, policy_dump, policy_open,
 };
-use crate::place::Place;
+use crate::policy::place::PolicyPlace;
 use std::alloc::Global;
 use std::process::Abort;
 
-fn expect_open(rt: &impl Abort, alloc: Global, place: &mut Place, file: &[u8], status: u32) {
+fn expect_open(rt: &impl Abort, alloc: Global, place: &mut PolicyPlace, file: &[u8], status: u32) {
     assert_eq!(rt; policy_open(place, alloc, file), status);
 }
 
@@ -21,7 +21,7 @@ fn has_text(out: &[u8], written: usize, text: &[u8]) -> bool {
 fn expect_answer(
     rt: &impl Abort,
     alloc: Global,
-    place: &mut Place,
+    place: &mut PolicyPlace,
     command: &[u8],
     status: u32,
     text: &[u8],
@@ -35,7 +35,7 @@ fn expect_answer(
 fn expect_check(
     rt: &impl Abort,
     alloc: Global,
-    place: &mut Place,
+    place: &mut PolicyPlace,
     words: (&[u8], &[u8], &[u8]),
     status: u32,
 ) {
@@ -47,7 +47,7 @@ fn expect_check(
 fn expect_again(
     rt: &impl Abort,
     alloc: Global,
-    place: &mut Place,
+    place: &mut PolicyPlace,
     room: usize,
     status: u32,
     text: &[u8],
@@ -63,7 +63,7 @@ fn expect_again(
 }
 
 /// Closes a place that has a policy, and lets it go.
-fn expect_end(rt: &impl Abort, alloc: Global, place: Place) {
+fn expect_end(rt: &impl Abort, alloc: Global, place: PolicyPlace) {
     let mut place = place;
     let first = policy_close(&mut place, alloc);
     let second = policy_close(&mut place, alloc);
@@ -71,7 +71,7 @@ fn expect_end(rt: &impl Abort, alloc: Global, place: Place) {
     assert_eq!(rt; (first, second), (0, 40));
 }
 
-fn become_clerk(rt: &impl Abort, alloc: Global, place: &mut Place) {
+fn become_clerk(rt: &impl Abort, alloc: Global, place: &mut PolicyPlace) {
     expect_open(rt, alloc, place, FOUNDING, 0);
     expect_answer(rt, alloc, place, ADD_ANN, 0, DONE);
     for command in OTHERS {
@@ -79,7 +79,7 @@ fn become_clerk(rt: &impl Abort, alloc: Global, place: &mut Place) {
     }
 }
 
-fn expect_checks(rt: &impl Abort, alloc: Global, place: &mut Place) {
+fn expect_checks(rt: &impl Abort, alloc: Global, place: &mut PolicyPlace) {
     for (session, operation, object, status) in CHECKS {
         let words = (session, operation, object);
         expect_check(rt, alloc, place, words, status);
@@ -88,7 +88,7 @@ fn expect_checks(rt: &impl Abort, alloc: Global, place: &mut Place) {
 
 #[test]
 fn each_answer_and_each_check(rt: HostRuntime) {
-    let mut place = Place::empty();
+    let mut place = PolicyPlace::empty();
     become_clerk(&rt, rt.alloc(), &mut place);
     let denied = br#"{"denied":"UserExists","number":1}"#;
     expect_answer(&rt, rt.alloc(), &mut place, ADD_ANN, 0, denied);
@@ -97,13 +97,13 @@ fn each_answer_and_each_check(rt: HostRuntime) {
     expect_end(&rt, rt.alloc(), place);
 }
 
-fn expect_refused_foundings(rt: &impl Abort, alloc: Global, place: &mut Place) {
+fn expect_refused_foundings(rt: &impl Abort, alloc: Global, place: &mut PolicyPlace) {
     for (file, status) in REFUSED_FOUNDINGS {
         expect_open(rt, alloc, place, file, status);
     }
 }
 
-fn expect_refused_commands(rt: &impl Abort, alloc: Global, place: &mut Place) {
+fn expect_refused_commands(rt: &impl Abort, alloc: Global, place: &mut PolicyPlace) {
     for (text, status) in REFUSED_COMMANDS {
         expect_answer(rt, alloc, place, text, status, b"");
     }
@@ -111,7 +111,7 @@ fn expect_refused_commands(rt: &impl Abort, alloc: Global, place: &mut Place) {
 
 #[test]
 fn each_refused_text(rt: HostRuntime) {
-    let mut place = Place::empty();
+    let mut place = PolicyPlace::empty();
     expect_refused_foundings(&rt, rt.alloc(), &mut place);
     expect_open(&rt, rt.alloc(), &mut place, FOUNDING, 0);
     expect_refused_commands(&rt, rt.alloc(), &mut place);
@@ -120,7 +120,7 @@ fn each_refused_text(rt: HostRuntime) {
 
 #[test]
 fn what_is_too_long(rt: HostRuntime) {
-    let mut place = Place::empty();
+    let mut place = PolicyPlace::empty();
     let mut text = Vec::new(rt.alloc());
     text.resize(1_048_577, b'\n').expect(&rt, "memory");
     expect_open(&rt, rt.alloc(), &mut place, &text, 101);
@@ -133,7 +133,7 @@ fn what_is_too_long(rt: HostRuntime) {
 
 #[test]
 fn a_short_buffer_has_the_command_applied_once(rt: HostRuntime) {
-    let mut place = Place::empty();
+    let mut place = PolicyPlace::empty();
     expect_open(&rt, rt.alloc(), &mut place, FOUNDING, 0);
     expect_again(&rt, rt.alloc(), &mut place, 0, 0, b"", 0);
     let (mut out, mut written) = ([b'#'; 5], 9);
@@ -150,7 +150,7 @@ fn a_short_buffer_has_the_command_applied_once(rt: HostRuntime) {
 
 #[test]
 fn no_buffer_at_all_has_the_command_applied(rt: HostRuntime) {
-    let mut place = Place::empty();
+    let mut place = PolicyPlace::empty();
     expect_open(&rt, rt.alloc(), &mut place, FOUNDING, 0);
     let mut written = 9;
     let told = policy_apply(&mut place, rt.alloc(), ADD_ANN, &mut [], &mut written);
@@ -170,7 +170,7 @@ const DUMP: &[u8] = br#"{"name":"AddUser","user":"ann"}
 fn expect_dump(
     rt: &impl Abort,
     alloc: Global,
-    place: &mut Place,
+    place: &mut PolicyPlace,
     room: usize,
     status: u32,
     text: &[u8],
@@ -187,7 +187,7 @@ fn expect_dump(
 
 #[test]
 fn a_dump_is_the_commands_of_the_policy(rt: HostRuntime) {
-    let mut place = Place::empty();
+    let mut place = PolicyPlace::empty();
     expect_dump(&rt, rt.alloc(), &mut place, 400, 40, b"", 0);
     become_clerk(&rt, rt.alloc(), &mut place);
     expect_dump(&rt, rt.alloc(), &mut place, 400, 0, DUMP, DUMP.len());
@@ -198,7 +198,7 @@ fn a_dump_is_the_commands_of_the_policy(rt: HostRuntime) {
 
 #[test]
 fn an_empty_place(rt: HostRuntime) {
-    let mut place = Place::empty();
+    let mut place = PolicyPlace::empty();
     expect_answer(&rt, rt.alloc(), &mut place, ADD_ANN, 40, b"");
     expect_again(&rt, rt.alloc(), &mut place, 8, 40, b"", 0);
     let words = (b"s1".as_slice(), b"read".as_slice(), b"ledger".as_slice());

@@ -20,23 +20,23 @@ use Rattle.std.proofs.raw_atomic.Walks.{proved_at, leaves}
 use Rattle.std.specs.contracts.alloc.Global as heap
 use Rattle.std.proofs.alloc.Global.TheLaws as heap_laws
 use Rattle.std.specs.contracts.impls.GlobalAllocator.TheImpl.{ghosts}
-use Rattle.rbac_embedded.specs.contracts.monitor.Monitor as monitor
+use Rattle.rbac_embedded.specs.contracts.monitor.Monitor as held
 use Rattle.loose_box.proofs.Values.{loose_good, loose_out, both}
-use Rattle.fochillun.proofs.SlotValues.{Slot, LooseMonitor, word, slot_in}
-use Rattle.fochillun.specs.contracts.slot.Slot.of.{ended, clauses}
-use Rattle.fochillun.specs.contracts.slot.Slot.of.Key.{name as #self}
-use Rattle.fochillun.proofs.slot.Slot.of.Statement.{statement}
-use Rattle.fochillun.proofs.slot.Slot.of.Code as code
+use Rattle.fochillun.proofs.PolicyValues.{Slot, LooseHeld, word, slot_in}
+use Rattle.fochillun.specs.contracts.policy.slot.PolicySlot.of.{ended, clauses}
+use Rattle.fochillun.specs.contracts.policy.slot.PolicySlot.of.Key.{name as #self}
+use Rattle.fochillun.proofs.policy.slot.PolicySlot.of.Statement.{statement}
+use Rattle.fochillun.proofs.policy.slot.PolicySlot.of.Code as code
 
 pub of_spec : {M : Type 1} → statement M
 of_spec 𝓤 𝓛 𝓜 𝓡 wired =
     let H = 𝓛.H in let 𝓣 = tables 𝓤 H 𝓜 𝓡 𝓡.env in let c = clauses 𝓛 𝓜.mem 𝓡.returns in let fn = code.function in
-    let hs : Stays ended.signature.params ended.kept = (stay_dropped (plain (λ _. LooseMonitor)) yes, tt) in
-    proved_at 𝓛 ended hs c 𝓜 𝓡 (Goes-dropped 𝓛 0 (plain (λ _. LooseMonitor)) yes (λ κs x w. refl), tt) #self fn (code.unfolded 𝓤 H 𝓜 𝓡 wired) (λ z are.
+    let hs : Stays ended.signature.params ended.kept = (stay_dropped (plain (λ _. LooseHeld)) yes, tt) in
+    proved_at 𝓛 ended hs c 𝓜 𝓡 (Goes-dropped 𝓛 0 (plain (λ _. LooseHeld)) yes (λ κs x w. refl), tt) #self fn (code.unfolded 𝓤 H 𝓜 𝓡 wired) (λ z are.
     let v = z.0.3.0 in let Post : Val → SProp 𝓤 = (walk_of 𝓛 ended hs c).post z in let Run : List Val → SProp 𝓤 = λ ws. WpFn 𝓤 H 𝓣.C 𝓣.Λ fn ws Post in
     qed 𝓛 ((‵ ftrue ⊛ ‵ (owns (types_at ended.signature.params z.0.0) z.0.3 z.0.4)) ∷ raw ((c z.0.0 z.0.3).requires z.1) ∷ []) ∵ split ! $ keep ! (1 ∷ 0 ∷ []) $ fsplit ! $
-    loose_out monitor.the_row heap.the_row heap_laws.the_row_laws ghosts ! v z.0.4.0 (λ b o h e ws fits.
-    let w : Val = both (vptr b o) h in let typed = loose_good monitor.the_row heap.the_row heap_laws.the_row_laws ghosts b o h fits in
+    loose_out held.the_row heap.the_row heap_laws.the_row_laws ghosts ! v z.0.4.0 (λ b o h e ws fits.
+    let w : Val = both (vptr b o) h in let typed = loose_good held.the_row heap.the_row heap_laws.the_row_laws ghosts b o h fits in
     let d : Slot.Denot = record { at = block_ptr b o; kept = Some v.value } in
     suffices ! (Run (w ∷ [])) (subst (λ (us : List Val). ent 𝓤 (Run (w ∷ [])) (Run us)) (sym (λ i. ws i ++ [])) (id⊢ 𝓤 (Run (w ∷ [])))) $
     keep ! (0 ∷ 3 ∷ []) $

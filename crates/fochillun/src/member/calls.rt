@@ -1,0 +1,398 @@
+//! The calls of other languages on one member of a group: each takes the member out of its place, calls what is proved, and puts it back.
+ghost use Rattle.std.specs.Prelude.{◌≡◌, ◌≢◌, None, length};
+ghost use Rattle.rbac_words.specs.Message.{next_serial, submissions};
+ghost use Rattle.rbac_member.specs.Calls.{taken_of};
+ghost use Rattle.rbac_embedded.specs.Status.{no_memory};
+ghost use Rattle.rbac_embedded_member.specs.Holding.{asked, check_status, number_status, number_told, open_status, opened, step_kept, step_status, step_told, text_buffer, text_length, text_status, waits_of};
+ghost use Rattle.rbac_embedded_member.specs.Status.{status_number};
+ghost use Rattle.rbac_embedded_member.specs.Step.{deliver_step, receive_step, submit_batch_step, submit_step, take_own_step};
+ghost use Rattle.rbac_embedded_member.specs.Texts.{message_at, next_answer, next_submit, next_submit_batch, policy_dump, record_at, ReadsBack};
+ghost use Rattle.fochillun.specs.Waits.{told_waiting, told_waits};
+
+use super::place::MemberPlace;
+use rbac_embedded::Status;
+use rbac_embedded_member::{MemberHolder, MemberStatus, Waiting};
+use rbac_member::Member;
+use std::alloc::Global;
+
+/// The least command that is held back, for a caller in another language: the stamp of its message, its place there, and the members that
+/// it waits for. All zeros where nothing is held.
+#[repr(C)]
+#[derive(Clone, Copy, Debug, PartialEq, Eq, Drop)]
+pub struct MemberWaiting {
+    pub clock: u64,
+    pub member: u32,
+    pub place: u32,
+    pub awaited: u32,
+}
+
+const NOTHING: MemberWaiting = MemberWaiting {
+    clock: 0,
+    member: 0,
+    place: 0,
+    awaited: 0,
+};
+
+fn told(least: Waiting) -> MemberWaiting
+    ensures { result ≡ told_waiting least }
+{
+    MemberWaiting {
+        clock: least.stamp.clock,
+        member: least.stamp.member,
+        place: least.stamp.place,
+        awaited: least.awaited,
+    }
+}
+
+/// Founds the member of this number in an empty place with what a founding file says.
+#[unsafe(no_mangle)]
+pub extern "C" fn member_open(
+    place: &mut MemberPlace,
+    alloc: Global,
+    founding: &[u8],
+    number: u32,
+) -> u32
+    ensures told { result ≢ no_memory → result ≡ status_number (open_status founding.now number place.old.slot.kept) }
+    ensures opened { result ≢ no_memory → place.new.slot.kept ≡ opened founding.now number place.old.slot.kept }
+    ensures unchanged { result ≡ no_memory → place.new.slot.kept ≡ place.old.slot.kept }
+{
+    let mut holder = MemberHolder::of(place.take(alloc));
+    let status = holder.open(alloc, founding, number);
+    place.put(holder.into_member());
+    status.number()
+}
+
+/// Submits the command of a JSON object, as a caller's next one, and tells its message's number.
+#[unsafe(no_mangle)]
+pub extern "C" fn member_submit(
+    place: &mut MemberPlace,
+    alloc: Global,
+    caller: u32,
+    serial: u32,
+    command: &[u8],
+    told: &mut u64,
+) -> u32
+    ensures status { result ≢ no_memory → result ≡ status_number (step_status (submit_step caller serial command.now) place.old.slot.kept) }
+    ensures kept { result ≢ no_memory → place.new.slot.kept ≡ step_kept (submit_step caller serial command.now) place.old.slot.kept }
+    ensures number { result ≢ no_memory → told.new ≡ step_told (submit_step caller serial command.now) place.old.slot.kept }
+    ensures unchanged { result ≡ no_memory → place.new.slot.kept ≡ place.old.slot.kept }
+    ensures no_number { result ≡ no_memory → told.new ≡ 0 }
+{
+    let mut holder = MemberHolder::of(place.take(alloc));
+    let status = holder.submit(alloc, caller, serial, command, told);
+    place.put(holder.into_member());
+    status.number()
+}
+
+/// Submits the commands of a JSON array of objects together, as a caller's next ones, and tells their message's number.
+#[unsafe(no_mangle)]
+pub extern "C" fn member_submit_batch(
+    place: &mut MemberPlace,
+    alloc: Global,
+    caller: u32,
+    serial: u32,
+    commands: &[u8],
+    told: &mut u64,
+) -> u32
+    ensures status { result ≢ no_memory → result ≡ status_number (step_status (submit_batch_step caller serial commands.now) place.old.slot.kept) }
+    ensures kept { result ≢ no_memory → place.new.slot.kept ≡ step_kept (submit_batch_step caller serial commands.now) place.old.slot.kept }
+    ensures number { result ≢ no_memory → told.new ≡ step_told (submit_batch_step caller serial commands.now) place.old.slot.kept }
+    ensures unchanged { result ≡ no_memory → place.new.slot.kept ≡ place.old.slot.kept }
+    ensures no_number { result ≡ no_memory → told.new ≡ 0 }
+{
+    let mut holder = MemberHolder::of(place.take(alloc));
+    let status = holder.submit_batch(alloc, caller, serial, commands, told);
+    place.put(holder.into_member());
+    status.number()
+}
+
+/// Receives message `number` of member `from`, and tells the number of the acknowledgement that was sent.
+#[unsafe(no_mangle)]
+pub extern "C" fn member_receive(
+    place: &mut MemberPlace,
+    alloc: Global,
+    from: u32,
+    number: u32,
+    message: &[u8],
+    told: &mut u64,
+) -> u32
+    ensures status { result ≢ no_memory → result ≡ status_number (step_status (receive_step from number message.now) place.old.slot.kept) }
+    ensures kept { result ≢ no_memory → place.new.slot.kept ≡ step_kept (receive_step from number message.now) place.old.slot.kept }
+    ensures number { result ≢ no_memory → told.new ≡ step_told (receive_step from number message.now) place.old.slot.kept }
+    ensures unchanged { result ≡ no_memory → place.new.slot.kept ≡ place.old.slot.kept }
+    ensures no_number { result ≡ no_memory → told.new ≡ 0 }
+{
+    let mut holder = MemberHolder::of(place.take(alloc));
+    let status = holder.receive(alloc, from, number, message, told);
+    place.put(holder.into_member());
+    status.number()
+}
+
+/// Takes message `number` of the member's own row, and tells its number.
+#[unsafe(no_mangle)]
+pub extern "C" fn member_take_own(
+    place: &mut MemberPlace,
+    alloc: Global,
+    number: u32,
+    message: &[u8],
+    told: &mut u64,
+) -> u32
+    ensures status { result ≢ no_memory → result ≡ status_number (step_status (take_own_step number message.now) place.old.slot.kept) }
+    ensures kept { result ≢ no_memory → place.new.slot.kept ≡ step_kept (take_own_step number message.now) place.old.slot.kept }
+    ensures number { result ≢ no_memory → told.new ≡ step_told (take_own_step number message.now) place.old.slot.kept }
+    ensures unchanged { result ≡ no_memory → place.new.slot.kept ≡ place.old.slot.kept }
+    ensures no_number { result ≡ no_memory → told.new ≡ 0 }
+{
+    let mut holder = MemberHolder::of(place.take(alloc));
+    let status = holder.take_own(alloc, number, message, told);
+    place.put(holder.into_member());
+    status.number()
+}
+
+/// Delivers the command that is due, and tells its record's number.
+#[unsafe(no_mangle)]
+pub extern "C" fn member_deliver(place: &mut MemberPlace, alloc: Global, told: &mut u64) -> u32
+    ensures status { result ≢ no_memory → result ≡ status_number (step_status (deliver_step) place.old.slot.kept) }
+    ensures kept { result ≢ no_memory → place.new.slot.kept ≡ step_kept (deliver_step) place.old.slot.kept }
+    ensures number { result ≢ no_memory → told.new ≡ step_told (deliver_step) place.old.slot.kept }
+    ensures unchanged { result ≡ no_memory → place.new.slot.kept ≡ place.old.slot.kept }
+    ensures no_number { result ≡ no_memory → told.new ≡ 0 }
+{
+    let mut holder = MemberHolder::of(place.take(alloc));
+    let status = holder.deliver(alloc, told);
+    place.put(holder.into_member());
+    status.number()
+}
+
+/// Puts the text of a message that the member sent into the buffer.
+#[unsafe(no_mangle)]
+pub extern "C" fn member_message(
+    place: &mut MemberPlace,
+    alloc: Global,
+    number: usize,
+    out: &mut [u8],
+    written: &mut usize,
+) -> u32
+    ensures told { result ≢ no_memory → result ≡ status_number (text_status (asked (message_at number) place.old.slot.kept) out.old) }
+    ensures buffer { result ≢ no_memory → out.new ≡ text_buffer (asked (message_at number) place.old.slot.kept) out.old }
+    ensures length { result ≢ no_memory → written.new ≡ text_length (asked (message_at number) place.old.slot.kept) }
+    ensures reads_back { result ≡ 0 → ReadsBack number place.old.slot.kept }
+    ensures unchanged { place.new.slot.kept ≡ place.old.slot.kept }
+    ensures buffer_unchanged { result ≡ no_memory → out.new ≡ out.old }
+    ensures no_length { result ≡ no_memory → written.new ≡ 0 }
+{
+    let holder = MemberHolder::of(place.take(alloc));
+    let status = holder.message(alloc, number, out, written);
+    place.put(holder.into_member());
+    status.number()
+}
+
+/// Puts the text of a record of the member's history into the buffer.
+#[unsafe(no_mangle)]
+pub extern "C" fn member_record(
+    place: &mut MemberPlace,
+    alloc: Global,
+    number: usize,
+    out: &mut [u8],
+    written: &mut usize,
+) -> u32
+    ensures told { result ≢ no_memory → result ≡ status_number (text_status (asked (record_at number) place.old.slot.kept) out.old) }
+    ensures buffer { result ≢ no_memory → out.new ≡ text_buffer (asked (record_at number) place.old.slot.kept) out.old }
+    ensures length { result ≢ no_memory → written.new ≡ text_length (asked (record_at number) place.old.slot.kept) }
+    ensures unchanged { place.new.slot.kept ≡ place.old.slot.kept }
+    ensures buffer_unchanged { result ≡ no_memory → out.new ≡ out.old }
+    ensures no_length { result ≡ no_memory → written.new ≡ 0 }
+{
+    let holder = MemberHolder::of(place.take(alloc));
+    let status = holder.record(alloc, number, out, written);
+    place.put(holder.into_member());
+    status.number()
+}
+
+/// Puts the text of the message by which a submit of this command would send it into the buffer.
+#[unsafe(no_mangle)]
+pub extern "C" fn member_next_submit(
+    place: &mut MemberPlace,
+    alloc: Global,
+    caller: u32,
+    serial: u32,
+    command: &[u8],
+    out: &mut [u8],
+    written: &mut usize,
+) -> u32
+    ensures told { result ≢ no_memory → result ≡ status_number (text_status (asked (next_submit caller serial command.now) place.old.slot.kept) out.old) }
+    ensures buffer { result ≢ no_memory → out.new ≡ text_buffer (asked (next_submit caller serial command.now) place.old.slot.kept) out.old }
+    ensures length { result ≢ no_memory → written.new ≡ text_length (asked (next_submit caller serial command.now) place.old.slot.kept) }
+    ensures unchanged { place.new.slot.kept ≡ place.old.slot.kept }
+    ensures buffer_unchanged { result ≡ no_memory → out.new ≡ out.old }
+    ensures no_length { result ≡ no_memory → written.new ≡ 0 }
+{
+    let holder = MemberHolder::of(place.take(alloc));
+    let status = holder.next_submit(alloc, caller, serial, command, out, written);
+    place.put(holder.into_member());
+    status.number()
+}
+
+/// Puts the text of the message by which a submit of these commands would send them into the buffer.
+#[unsafe(no_mangle)]
+pub extern "C" fn member_next_submit_batch(
+    place: &mut MemberPlace,
+    alloc: Global,
+    caller: u32,
+    serial: u32,
+    commands: &[u8],
+    out: &mut [u8],
+    written: &mut usize,
+) -> u32
+    ensures told { result ≢ no_memory → result ≡ status_number (text_status (asked (next_submit_batch caller serial commands.now) place.old.slot.kept) out.old) }
+    ensures buffer { result ≢ no_memory → out.new ≡ text_buffer (asked (next_submit_batch caller serial commands.now) place.old.slot.kept) out.old }
+    ensures length { result ≢ no_memory → written.new ≡ text_length (asked (next_submit_batch caller serial commands.now) place.old.slot.kept) }
+    ensures unchanged { place.new.slot.kept ≡ place.old.slot.kept }
+    ensures buffer_unchanged { result ≡ no_memory → out.new ≡ out.old }
+    ensures no_length { result ≡ no_memory → written.new ≡ 0 }
+{
+    let holder = MemberHolder::of(place.take(alloc));
+    let status = holder.next_submit_batch(alloc, caller, serial, commands, out, written);
+    place.put(holder.into_member());
+    status.number()
+}
+
+/// Puts the text of the acknowledgement that message `number` of member `from` wants into the buffer; no bytes where none is wanted.
+#[unsafe(no_mangle)]
+pub extern "C" fn member_next_answer(
+    place: &mut MemberPlace,
+    alloc: Global,
+    from: u32,
+    number: u32,
+    message: &[u8],
+    out: &mut [u8],
+    written: &mut usize,
+) -> u32
+    ensures told { result ≢ no_memory → result ≡ status_number (text_status (asked (next_answer from number message.now) place.old.slot.kept) out.old) }
+    ensures buffer { result ≢ no_memory → out.new ≡ text_buffer (asked (next_answer from number message.now) place.old.slot.kept) out.old }
+    ensures length { result ≢ no_memory → written.new ≡ text_length (asked (next_answer from number message.now) place.old.slot.kept) }
+    ensures unchanged { place.new.slot.kept ≡ place.old.slot.kept }
+    ensures buffer_unchanged { result ≡ no_memory → out.new ≡ out.old }
+    ensures no_length { result ≡ no_memory → written.new ≡ 0 }
+{
+    let holder = MemberHolder::of(place.take(alloc));
+    let status = holder.next_answer(alloc, from, number, message, out, written);
+    place.put(holder.into_member());
+    status.number()
+}
+
+/// Puts the commands that make the member's policy into the buffer, each in a line.
+#[unsafe(no_mangle)]
+pub extern "C" fn member_dump(
+    place: &mut MemberPlace,
+    alloc: Global,
+    out: &mut [u8],
+    written: &mut usize,
+) -> u32
+    ensures told { result ≢ no_memory → result ≡ status_number (text_status (asked (policy_dump) place.old.slot.kept) out.old) }
+    ensures buffer { result ≢ no_memory → out.new ≡ text_buffer (asked (policy_dump) place.old.slot.kept) out.old }
+    ensures length { result ≢ no_memory → written.new ≡ text_length (asked (policy_dump) place.old.slot.kept) }
+    ensures unchanged { place.new.slot.kept ≡ place.old.slot.kept }
+    ensures buffer_unchanged { result ≡ no_memory → out.new ≡ out.old }
+    ensures no_length { result ≡ no_memory → written.new ≡ 0 }
+{
+    let holder = MemberHolder::of(place.take(alloc));
+    let status = holder.dump(alloc, out, written);
+    place.put(holder.into_member());
+    status.number()
+}
+
+/// How many messages of member `from` were received.
+#[unsafe(no_mangle)]
+pub extern "C" fn member_read(
+    place: &mut MemberPlace,
+    alloc: Global,
+    from: u32,
+    told: &mut u64,
+) -> u32
+    ensures status { result ≡ status_number (number_status place.old.slot.kept) }
+    ensures number { told.new ≡ number_told (λ v. taken_of v from) place.old.slot.kept }
+    ensures unchanged { place.new.slot.kept ≡ place.old.slot.kept }
+{
+    let holder = MemberHolder::of(place.take(alloc));
+    let status = holder.read(from, told);
+    place.put(holder.into_member());
+    status.number()
+}
+
+/// The serial of a caller's next command at this member.
+#[unsafe(no_mangle)]
+pub extern "C" fn member_next_serial(
+    place: &mut MemberPlace,
+    alloc: Global,
+    caller: u32,
+    told: &mut u64,
+) -> u32
+    ensures status { result ≡ status_number (number_status place.old.slot.kept) }
+    ensures number { told.new ≡ number_told (λ v. next_serial caller (submissions v.sent)) place.old.slot.kept }
+    ensures unchanged { place.new.slot.kept ≡ place.old.slot.kept }
+{
+    let holder = MemberHolder::of(place.take(alloc));
+    let status = holder.next_serial(caller, told);
+    place.put(holder.into_member());
+    status.number()
+}
+
+/// Tells the least command that is held back, and the members that it waits for.
+#[unsafe(no_mangle)]
+pub extern "C" fn member_waits(
+    place: &mut MemberPlace,
+    alloc: Global,
+    waiting: &mut MemberWaiting,
+) -> u32
+    ensures status { result ≡ status_number (number_status place.old.slot.kept) }
+    ensures waits { waiting.new ≡ told_waits (waits_of place.old.slot.kept) }
+    ensures unchanged { place.new.slot.kept ≡ place.old.slot.kept }
+{
+    let holder = MemberHolder::of(place.take(alloc));
+    let waits = holder.waits();
+    place.put(holder.into_member());
+    match waits {
+        Ok(least) => {
+            *waiting = least.map_or(NOTHING, told);
+            MemberStatus::Plain(Status::Done).number()
+        }
+        Err(status) => {
+            *waiting = NOTHING;
+            status.number()
+        }
+    }
+}
+
+/// Whether the session may perform the operation on the object by the policy that the member's history left. Tells how many records that
+/// history has.
+#[unsafe(no_mangle)]
+pub extern "C" fn member_check(
+    place: &mut MemberPlace,
+    alloc: Global,
+    session: &[u8],
+    operation: &[u8],
+    object: &[u8],
+    told: &mut u64,
+) -> u32
+    ensures status { result ≡ status_number (check_status session.now operation.now object.now place.old.slot.kept) }
+    ensures number { told.new ≡ number_told (λ v. length v.history) place.old.slot.kept }
+    ensures unchanged { place.new.slot.kept ≡ place.old.slot.kept }
+{
+    let holder = MemberHolder::of(place.take(alloc));
+    let status = holder.check(session, operation, object, told);
+    place.put(holder.into_member());
+    status.number()
+}
+
+/// Ends the member of a place, and gives back all its memory.
+#[unsafe(no_mangle)]
+pub extern "C" fn member_close(place: &mut MemberPlace, alloc: Global) -> u32
+    ensures told { result ≡ status_number (number_status place.old.slot.kept) }
+    ensures closed { place.new.slot.kept ≡ None }
+{
+    let mut holder = MemberHolder::of(place.take(alloc));
+    let status = holder.close();
+    place.put(holder.into_member());
+    status.number()
+}

@@ -1,0 +1,5 @@
+//! A policy in a place that the caller owns.
+
+pub(crate) mod calls;
+pub(crate) mod place;
+mod slot;
