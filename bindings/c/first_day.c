@@ -18,7 +18,7 @@ int main(int count, char **words) {
         status = policy_apply(&place, (const uint8_t *)line, (size_t)read, answer, sizeof answer, &length);
         if (status == POLICY_DONE) printf("%.*s\n", (int)length, (const char *)answer);
     }
-    if (status != POLICY_DONE) fprintf(stderr, "first_day: status %u\n", status);
+    if (status != POLICY_DONE) fprintf(stderr, "first_day: %s\n", policy_status_text(status));
     free(line);
     policy_close(&place);
     return status != POLICY_DONE;

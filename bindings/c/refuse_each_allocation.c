@@ -1,31 +1,6 @@
 /* Refuses each allocation in turn, by a malloc of its own: of an open, and of each command of a day. What is refused changes nothing, and is
  * answered when it is asked again. Linked with -Wl,--wrap=malloc,--wrap=realloc. */
-#include <stdio.h>
-#include <stdlib.h>
-#include <string.h>
-
-#include "fochillun.h"
-
-#define TEXT(text) (const uint8_t *)(text), strlen(text)
-
-static long countdown = -1; /* how many more succeed; -1: all */
-static unsigned long refusals;
-
-void *__real_malloc(size_t size);
-void *__real_realloc(void *block, size_t size);
-
-static bool refuses(void) {
-    if (countdown < 0) return false;
-    if (countdown > 0) {
-        countdown--;
-        return false;
-    }
-    refusals++;
-    return true;
-}
-
-void *__wrap_malloc(size_t size) { return refuses() ? NULL : __real_malloc(size); }
-void *__wrap_realloc(void *block, size_t size) { return refuses() ? NULL : __real_realloc(block, size); }
+#include "refusing.h"
 
 static const char founding[] = "version = 2\nmembers = 1\nhierarchy = \"general\"\noperations = [\"pay\", \"read\"]\nobjects = [\"ledger\"]\n"
                                "permissions = [[\"read\", \"ledger\"], [\"pay\", \"ledger\"]]\n";
@@ -46,11 +21,6 @@ static const char *const day[] = {
     "{\"name\":\"DeleteUser\",\"user\":\"ann_of_the_long_name\"}",
 };
 
-static void stop(const char *what) {
-    fprintf(stderr, "refuse_each_allocation: %s\n", what);
-    exit(1);
-}
-
 /* What a policy shows of itself: the texts of reviews, one after the other. */
 static size_t shown(struct policy_place *place, uint8_t *out, size_t room) {
     static const char *const reviews[] = {
@@ -60,7 +30,7 @@ static size_t shown(struct policy_place *place, uint8_t *out, size_t room) {
         "{\"name\":\"SsdRoleSets\"}",                        "{\"name\":\"DsdRoleSets\"}",
     };
     size_t end = 0;
-    for (size_t i = 0; i < sizeof reviews / sizeof *reviews; i++) {
+    for (size_t i = 0; i < COUNT(reviews); i++) {
         size_t length;
         if (policy_apply(place, TEXT(reviews[i]), out + end, room - end, &length) != POLICY_DONE) stop("a review with memory");
         end += length;
@@ -157,11 +127,11 @@ static void without_memory(void) {
 
 int main(void) {
     refuse_open();
-    for (size_t i = 0; i < sizeof day / sizeof *day; i++) refuse_command(i);
+    for (size_t i = 0; i < COUNT(day); i++) refuse_command(i);
     refuse_dump();
     without_memory();
     if (refusals == 0) stop("nothing was refused");
     printf("c: %lu refused allocations of an open, %zu commands and a dump: nothing changed, and the same answers when asked again\n", refusals,
-           sizeof day / sizeof *day);
+           COUNT(day));
     return 0;
 }

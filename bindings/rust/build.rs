@@ -1,13 +1,20 @@
-//! Links the library that `bindings/build` makes.
-use std::path::Path;
+//! Links the library of the folder that FOCHILLUN_LIBRARY_DIR names, or else what `bindings/build` made, or else that of the release.
+use std::path::PathBuf;
 
 fn main() {
-    let made = std::env::var("FOCHILLUN_LIBRARY_DIR").unwrap_or_else(|_| {
-        let here = std::env::var("CARGO_MANIFEST_DIR").expect("cargo sets it");
-        Path::new(&here).join("../out").display().to_string()
-    });
+    let here = PathBuf::from(std::env::var("CARGO_MANIFEST_DIR").expect("cargo sets it"));
+    let folders = match std::env::var("FOCHILLUN_LIBRARY_DIR") {
+        Ok(named) => vec![PathBuf::from(named)],
+        Err(_) => vec![here.join("../out"), here.join("../../dist")],
+    };
     println!("cargo:rerun-if-env-changed=FOCHILLUN_LIBRARY_DIR");
-    println!("cargo:rerun-if-changed={made}/libfochillun.a");
-    println!("cargo:rustc-link-search=native={made}");
+    for folder in &folders {
+        println!("cargo:rerun-if-changed={}/libfochillun.a", folder.display());
+    }
+    let Some(made) = folders.iter().find(|it| it.join("libfochillun.a").exists()) else {
+        eprintln!("no libfochillun.a in {folders:?}: bindings/build makes it");
+        std::process::exit(1);
+    };
+    println!("cargo:rustc-link-search=native={}", made.display());
     println!("cargo:rustc-link-lib=static=fochillun");
 }

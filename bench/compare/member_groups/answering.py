@@ -23,7 +23,7 @@ class Answering:
     def take_any(self, life, line, tag, answer, refused):
         pass
 
-    take_waits = take_any
+    take_waits = take_read = take_serial = take_check = take_any
 
     def take_refused(self, life, line, tag, answer, refused):
         if not refused and self.kind != "forged":

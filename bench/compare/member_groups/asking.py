@@ -1,8 +1,8 @@
 """The lines that a member of a group is given."""
 import collections
 
-from commands import LAST_CLOCK, LAST_NUMBER, LONGEST_LINE, LONGEST_MESSAGE, command, commands, dumped, long_commands
-from texts import spoilt_line, varied
+from commands import BY_CALLS, LAST_CLOCK, LAST_NUMBER, LONGEST_LINE, command, commands, dumped, field, long_commands
+from texts import spoilt_call, spoilt_line, varied
 
 
 class Asking:
@@ -23,8 +23,27 @@ class Asking:
     def caller(self):
         return self.chance.choices([0, 1, 7, LAST_NUMBER], [80, 12, 5, 3])[0]
 
+    def spoilt(self, chance):
+        """A line that is refused for its form, as it has one by lines or by calls."""
+        return (spoilt_call if self.by is BY_CALLS else spoilt_line)(chance)
+
+    def add_called_question(self, life):
+        """What calls alone ask."""
+        chance = self.chance
+        word = chance.choice(["read", "serial", "check", "check"])
+        if word == "read":
+            life.add(self.line(do="read", sender=chance.choice([*self.rows, 0, self.members + 1, LAST_NUMBER])), "read")
+        elif word == "serial":
+            life.add(self.line(do="serial", caller=self.caller()), "serial")
+        else:
+            words = {key: field(chance, key) if chance.random() < 0.95 else "a b" for key in ("session", "operation", "object")}
+            life.add(self.line(do="check", **words), "check")
+
     def add_question(self, life):
         chance = self.chance
+        if self.by is BY_CALLS and chance.random() < 0.3:
+            self.add_called_question(life)
+            return
         kind = chance.randrange(4)
         if chance.random() < 0.05:
             life.add(self.line(do="dump"), "dump")
@@ -76,7 +95,7 @@ class Asking:
             return self.limit + 1, {"stamp": [LAST_CLOCK, life.number]}
         if chance.random() < 0.02:
             message = {"caller": 5, "commands": [], "serial": 0, "stamp": [chance.randrange(100), life.number]}
-            length = LONGEST_MESSAGE + 1 + chance.randrange(9)
+            length = self.by.message + 1 + chance.randrange(9)
             return chance.choice([0, 1, 9]), {**message, "commands": long_commands(length - len(dumped(message)) + 2)}
         number, message = self.forged_message(life, life.number, len(row) + 1)
         return chance.choice([0, len(row), life.sent + len(life.next) + 2]) if self.kind == "memory" else number, message
@@ -116,7 +135,7 @@ class Asking:
             do = chance.choice(["receive", "answer"])
             life.add(self.brought(do, sender, number, self.rows[sender][number - 1]), "refused", do)
         else:
-            life.add(spoilt_line(chance), "refused", "malformed")
+            life.add(self.spoilt(chance), "refused", "malformed")
 
     def add_receipts(self, life, most):
         """Messages of one other member, in turn."""
@@ -169,12 +188,12 @@ class Asking:
         if self.beginning and chance.random() < 0.8:
             asked, self.beginning = self.beginning[:len(asked) + 1], self.beginning[len(asked) + 1:]
         if self.is_long and chance.random() < 0.1:
-            asked = long_commands(LONGEST_MESSAGE - 50 + chance.randrange(-40, 30))
+            asked = long_commands(self.by.message - 50 + chance.randrange(-40, 30))
         return caller, life.will_serials[caller], asked
 
     def add_submit(self, life):
         caller, serial, asked = self.submission(life)
-        if len(asked) == 1 and self.chance.random() < 0.8:
+        if len(asked) == 1 and self.chance.random() < 0.8 and len(dumped(asked[0])) <= LONGEST_LINE:
             life.add(self.line(do="submit", caller=caller, serial=serial, command=asked[0]), "submit", caller, 1)
         else:
             life.add(self.line(do="batch", caller=caller, serial=serial, commands=asked), "submit", caller, len(asked))

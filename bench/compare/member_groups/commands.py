@@ -1,8 +1,16 @@
 """Random commands over a small vocabulary, so that what is asked is sometimes done, granted or listed, and sometimes denied."""
+import collections
 import json
 
 LAST_CLOCK, LAST_NUMBER = 9_007_199_254_740_991, 4_294_967_295
-LONGEST_LINE, LONGEST_MESSAGE = 65_536, 65_485
+LONGEST_LINE = 65_536
+# How members are asked: how many bytes a message's text may have, and which part of the groups has such messages.
+By = collections.namedtuple("By", "message long_share")
+BY_LINES, BY_CALLS = By(65_485, 0.1), By(1_048_576, 0.03)
+
+# What a line of one member has beside its word, but for deliver.
+KEYS = {"submit": "caller serial command", "batch": "caller serial commands", "next": "caller serial commands", "receive": "from number message",
+        "answer": "from number message", "own": "number message", "message": "number", "record": "number", "waits": "", "dump": ""}
 
 USERS, ROLES = ["ann", "bob", "cy", "Dora"], ["boss", "clerk", "head", "payer", "temp"]
 SESSIONS, SETS = ["s1", "s2", "s3"], ["duty", "desk"]
@@ -66,7 +74,7 @@ def long_commands(length):
     left = length - len(dumped([made])) + 1
     count = left // 67 - 1
     rest = left - 67 * count
-    made["roles"] = ["a" * (rest // 2 - 3), "b" * (rest - rest // 2 - 3), *("%s%04d" % ("r" * 60, number) for number in range(count))]
+    made["roles"] = ["a" * (rest // 2 - 3), "b" * (rest - rest // 2 - 3), *("%s%05d" % ("r" * 59, number) for number in range(count))]
     return [made]
 
 

@@ -1,6 +1,6 @@
 """Lines with messages that nobody sent, of which a member takes what it may."""
-from commands import LAST_NUMBER, LONGEST_MESSAGE, command, commands, long_commands
-from texts import any_object, spoilt_line
+from commands import LAST_NUMBER, command, commands, long_commands
+from texts import any_object
 
 
 def add_forged(chance, group, life):
@@ -11,7 +11,7 @@ def add_forged(chance, group, life):
     elif kind < 0.25:
         group.add_deliveries(life, chance.randrange(1, 4))
     elif kind < 0.4:
-        life.add(chance.choice([any_object, any_object, spoilt_line])(chance), "any")
+        life.add(chance.choice([any_object, any_object, group.spoilt])(chance), "any")
     elif kind < 0.5:
         group.add_submit(life)
         if chance.random() < 0.3:
@@ -33,7 +33,7 @@ def add_forged_message(chance, group, life):
     if chance.random() < 0.6:
         asked = chance.choices([commands(chance), [], [command(chance)] * 65], [96, 2, 2])[0]
         if group.is_long and chance.random() < 0.05:
-            asked = long_commands(LONGEST_MESSAGE - 50 + chance.randrange(-40, 30))
+            asked = long_commands(group.by.message - 50 + chance.randrange(-40, 30))
         serial = max(0, known + chance.choices([0, 1, -1, LAST_NUMBER - known], [90, 4, 4, 2])[0])
         message = {"caller": caller, "commands": asked, "serial": serial, **message}
     number = max(0, taken + chance.choices([1, 0, 2, -1], [90, 4, 4, 2])[0])

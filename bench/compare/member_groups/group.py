@@ -15,7 +15,7 @@ class Group(Asking, Answering):
     """A group of one kind, its rows, and the records that were told."""
 
     def __init__(self, play, name, chance):
-        self.play, self.name, self.chance = play, name, chance
+        self.play, self.name, self.chance, self.by = play, name, chance, play.by
         self.members = chance.randrange(2, 9)
         self.kind = chance.choices(["rows", "memory", "forged"], [5, 3, 3])[0]
         self.clock, self.limit = 0, 65_536
@@ -24,7 +24,7 @@ class Group(Asking, Answering):
         if chance.random() < 0.2:
             self.limit = chance.randrange(1, 30)
         self.is_bounded = bool(self.clock) or self.limit < 65_536
-        self.is_long = chance.random() < 0.1
+        self.is_long = chance.random() < self.by.long_share
         self.path = str(play.room / f"{name}.toml")
         version = chance.choice(["version = 1", 'version = 2\nhierarchy = "general"', 'version = 2\nhierarchy = "limited"'])
         pathlib.Path(self.path).write_text(f"{version}\nmembers = {self.members}\nclock = {self.clock}\nsent_limit = {self.limit}\noperations = {json.dumps(OPERATIONS)}\n"

@@ -6,6 +6,9 @@ import select
 import subprocess
 import time
 
+from calls import call_of
+from commands import BY_CALLS
+
 REFERENCE = pathlib.Path(__file__).resolve().parent.parent.parent / "reference/target/release/reference"
 # An answer that takes longer does not come.
 SECONDS = 120
@@ -89,7 +92,7 @@ class Life:
 
     def __init__(self, group, number):
         self.group, self.number = group, number
-        self.pair = [Process([*words, "member", group.path, str(number)]) for words in (group.play.program, [str(REFERENCE)])]
+        self.pair = [Process([*words, group.path, str(number)]) for words in group.play.pair]
         self.given, self.next, self.tags = [], [], []
         # what it has sent, taken of the others, and told
         self.sent, self.read, self.told = 0, {k: 0 for k in range(1, group.members + 1)}, []
@@ -117,9 +120,12 @@ class Life:
         noted["counts"][sender, caller] += count
 
     def add(self, text, *tag):
-        """A line that is given next, with its word and what its answer has to fit to."""
+        """A line that is given next, with its word and what its answer has to fit to. By calls none is given that is no call."""
         if b"\n" in text:
             raise ValueError(text)
+        if self.group.by is BY_CALLS and not call_of(text):
+            self.group.play.met["a line that is no call"] += 1
+            return
         self.next.append(text)
         self.tags.append(tag)
 
@@ -159,7 +165,7 @@ class Life:
 
     def close(self):
         """Ends the input, where a last line has no line feed."""
-        last = self.group.chance.choice([b"", b'{"do":"waits"}', b'{"do":"waits"'])
+        last = self.group.chance.choice([b"", b'{"do":"waits"}', b'{"do":"waits"' if self.group.by is not BY_CALLS else b'{"do":"dump"}'])
         told = []
         for process, whose in zip(self.pair, ("the monitor", "the reference")):
             process.pending, process.got = last, bytearray()

@@ -1,7 +1,7 @@
 """Lines told in another way, and lines that are refused for their form."""
 import json
 
-from commands import LAST_NUMBER, LONGEST_LINE, command, commands, dumped
+from commands import KEYS, LAST_NUMBER, LONGEST_LINE, command, commands, dumped
 
 
 def shuffled(chance, value):
@@ -80,15 +80,27 @@ def spoilt_line(chance):
     return spoilt(chance, text)
 
 
-# What each line of one member has beside its word, but for deliver.
-KEYS = {"submit": "caller serial command", "batch": "caller serial commands", "next": "caller serial commands", "receive": "from number message",
-        "answer": "from number message", "own": "number message", "message": "number", "record": "number", "waits": "", "dump": "", "fly": ""}
+def spoilt_call(chance):
+    """A line whose text, which is its call's, is no JSON or has another fault in itself."""
+    far = 4_000_000_000
+    word, key = chance.choice([("submit", "command"), ("batch", "commands"), ("next", "commands"), ("receive", "message"), ("answer", "message"), ("own", "message")])
+    text = dumped({"command": command(chance), "commands": commands(chance)[:4],
+                   "message": chance.choice([{"stamp": [3, 1]}, {"caller": 0, "commands": commands(chance)[:3], "serial": 0, "stamp": [3, 1]}])}[key])
+    # A line is one deeper than the text in it, and so has another limit.
+    while (told := spoilt(chance, text)).startswith(b"[[["):
+        pass
+    before = {"caller": 0, "serial": far} if key != "message" else {"number": far} if word == "own" else {"from": 2, "number": far}
+    return dumped({"do": word, **before})[:-1] + b',"%s":%s}' % (key.encode(), told)
+
+
+# A word that no line has is among them.
+ANY_KEYS = {**KEYS, "fly": ""}
 
 
 def any_object(chance):
     """A line of any word, and perhaps with several faults, of which the first one is to be named."""
-    word = chance.choice(list(KEYS))
-    return dumped(shuffled(chance, with_faults(chance, {"do": word, **{key: any_value(chance, key) for key in KEYS[word].split()}})))
+    word = chance.choice(list(ANY_KEYS))
+    return dumped(shuffled(chance, with_faults(chance, {"do": word, **{key: any_value(chance, key) for key in ANY_KEYS[word].split()}})))
 
 
 def any_value(chance, key):

@@ -1,16 +1,9 @@
 /* Times calls of the library from C, on policies of 1, 100 and 1,000 roles, and ten times as many users with a session each, but at most
  * 1,024: a hundred objects, of which each role may read one. Nanoseconds of processor time a call (no call waits):
  * median of nine laps, the fastest and the slowest. */
-#define _POSIX_C_SOURCE 199309L
-#include <stdio.h>
-#include <stdlib.h>
-#include <string.h>
-#include <time.h>
+#include "timing.h"
 
-#include "fochillun.h"
-
-#define TEXT(text) (const uint8_t *)(text), strlen(text)
-enum { LAPS = 9, NAMES = 1024, OBJECTS = 100 };
+enum { NAMES = 1024, OBJECTS = 100 };
 
 static struct policy_place place;
 static char sessions[NAMES][24];
@@ -18,12 +11,6 @@ static char objects[OBJECTS][24];
 static unsigned count, roles;
 static uint8_t out[65536];
 static size_t length;
-
-static double now(void) {
-    struct timespec t;
-    clock_gettime(CLOCK_PROCESS_CPUTIME_ID, &t);
-    return (double)t.tv_sec * 1e9 + (double)t.tv_nsec;
-}
 
 static void apply(const char *command) {
     if (policy_apply(&place, TEXT(command), out, sizeof out, &length) != POLICY_DONE || strncmp((char *)out, "\"Done\"", length) != 0) {
@@ -95,8 +82,6 @@ static void check_by_command(unsigned at) {
     if (policy_apply(&place, TEXT(text), out, sizeof out, &length) != POLICY_DONE || length != 9) exit(2);
 }
 
-static int by_size(const void *a, const void *b) { return (*(const double *)a > *(const double *)b) - (*(const double *)a < *(const double *)b); }
-
 static void timed(const char *what, unsigned calls, void (*call)(unsigned)) {
     double laps[LAPS];
     for (int lap = 0; lap < LAPS; lap++) {
@@ -104,8 +89,9 @@ static void timed(const char *what, unsigned calls, void (*call)(unsigned)) {
         for (unsigned i = 0; i < calls; i++) call((i * 7919u) % count);
         laps[lap] = (now() - from) / calls;
     }
-    qsort(laps, LAPS, sizeof *laps, by_size);
-    printf("c\t%s, %u roles, %u sessions\t%.1f\tns\tfrom %.1f to %.1f\n", what, roles, count, laps[LAPS / 2], laps[0], laps[LAPS - 1]);
+    char row[128];
+    snprintf(row, sizeof row, "%s, %u roles, %u sessions", what, roles, count);
+    tell(row, laps, "ns");
 }
 
 int main(void) {

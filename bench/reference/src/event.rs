@@ -6,8 +6,8 @@ mod fields;
 
 use crate::command::Command;
 use crate::json;
-use crate::limits;
-pub use asked::{Asked, Brought, read_asked};
+use crate::limits::LINE_BYTES;
+pub use asked::{Asked, Brought, read_asked, read_called};
 use fields::Fields;
 
 pub enum Event {
@@ -47,8 +47,8 @@ pub enum LineRefusal {
 }
 
 /// The object of a line without its line feed.
-fn read_object(line: &[u8]) -> Result<json::Object<'_>, LineRefusal> {
-    if line.len() > limits::LINE_BYTES {
+fn read_object(line: &[u8], longest: usize) -> Result<json::Object<'_>, LineRefusal> {
+    if line.len() > longest {
         return Err(LineRefusal::TooLong);
     }
     match json::read(line).map_err(|_| LineRefusal::NotJson)? {
@@ -59,7 +59,7 @@ fn read_object(line: &[u8]) -> Result<json::Object<'_>, LineRefusal> {
 
 /// Reads a client's line: the member that is asked, and the command.
 pub fn read_client(line: &[u8]) -> Result<(u32, Command), LineRefusal> {
-    let object = read_object(line)?;
+    let object = read_object(line, LINE_BYTES)?;
     let mut fields = Fields::new(&object);
     let (at, command) = (fields.number("at")?, fields.object("command")?);
     fields.end()?;
@@ -68,7 +68,7 @@ pub fn read_client(line: &[u8]) -> Result<(u32, Command), LineRefusal> {
 
 /// Reads a line of a schedule. The outer object is looked at whole before the commands in it.
 pub fn read_line(line: &[u8]) -> Result<Event, LineRefusal> {
-    let object = read_object(line)?;
+    let object = read_object(line, LINE_BYTES)?;
     let mut fields = Fields::new(&object);
     match fields.text("do")? {
         "submit" => {

@@ -21,5 +21,14 @@ pub const MEMBERS: u32 = 8;
 
 /// Commands of one message.
 pub const BATCH: usize = 64;
-/// The bytes of a message's text that a line brings to another member.
-pub const MESSAGE_BYTES: usize = 65_485;
+/// How many bytes a line of one member and a message's text have at most.
+#[derive(Clone, Copy)]
+pub struct Longest {
+    pub line: usize,
+    pub message: usize,
+}
+
+/// Of a message so much is sent that a line can bring it to another member.
+pub const BY_LINES: Longest = Longest { line: LINE_BYTES, message: 65_485 };
+/// A call's texts have no line round them; here they stand in one that is long enough.
+pub const BY_CALLS: Longest = Longest { line: 4_194_304, message: 1_048_576 };

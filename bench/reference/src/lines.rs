@@ -1,23 +1,23 @@
 //! Cuts an input into lines.
 
-use crate::limits;
 use std::io::{self, BufRead, Read};
 
 /// Lines end at a line feed, or at the end of the input. An input that ends with a line feed has no further line.
 pub struct Lines<R> {
     input: R,
+    longest: usize,
     line: Vec<u8>,
 }
 
 impl<R: BufRead> Lines<R> {
-    pub fn new(input: R) -> Lines<R> {
-        Lines { input, line: Vec::new() }
+    pub fn new(input: R, longest: usize) -> Lines<R> {
+        Lines { input, longest, line: Vec::new() }
     }
 
-    /// The next line without its line feed. Of a line that is too long the first 65,537 bytes are given, which shows it, and
+    /// The next line without its line feed. Of a line that is too long one byte more than it may have is given, which shows it, and
     /// the rest is skipped.
     pub fn next(&mut self) -> io::Result<Option<&[u8]>> {
-        let most = limits::LINE_BYTES as u64 + 1;
+        let most = self.longest as u64 + 1;
         self.line.clear();
         let taken = (&mut self.input).take(most).read_until(b'\n', &mut self.line)?;
         if taken == 0 {
@@ -25,7 +25,7 @@ impl<R: BufRead> Lines<R> {
         }
         if self.line.last() == Some(&b'\n') {
             self.line.pop();
-        } else if self.line.len() > limits::LINE_BYTES {
+        } else if self.line.len() > self.longest {
             self.input.skip_until(b'\n')?;
         }
         Ok(Some(&self.line))
@@ -35,9 +35,10 @@ impl<R: BufRead> Lines<R> {
 #[cfg(test)]
 mod tests {
     use super::*;
+    use crate::limits::LINE_BYTES;
 
     fn lengths(input: &[u8]) -> Vec<usize> {
-        let mut lines = Lines::new(input);
+        let mut lines = Lines::new(input, LINE_BYTES);
         let mut lengths = Vec::new();
         while let Some(line) = lines.next().unwrap() {
             lengths.push(line.len());

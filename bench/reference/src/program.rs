@@ -1,8 +1,8 @@
 //! The program's words, files, faults and statuses.
 
-use crate::event::{self, Asked, Brought};
+use crate::event::{self, Asked, Brought, LineRefusal};
 use crate::founding::{self, Founding, FoundingRefusal};
-use crate::limits;
+use crate::limits::{self, LINE_BYTES, Longest};
 use crate::lines::Lines;
 use crate::output::{self, alone};
 use crate::world::{Alone, EventRefusal, Message, World};
@@ -16,11 +16,11 @@ use std::process::ExitCode;
 const HELP: &str = "\
 Plays commands of role-based access control, one JSON object a line, and answers each line
 
-Usage: reference [play FOUNDING SCHEDULE | serve FOUNDING | member FOUNDING NUMBER]
+Usage: reference [play FOUNDING SCHEDULE | serve FOUNDING | member FOUNDING NUMBER | called FOUNDING NUMBER]
 
 FOUNDING is the file of the founding, or - for the sample founding.
 SCHEDULE is the file of the lines, or - for standard input.
-NUMBER is that of the member that takes lines.
+NUMBER is that of the member that takes lines, or of the one that is called, as each line says.
 Without words: the same as 'play - -'.
 
 Status: 0 the input was read to its end, 1 a fault of a file, of the founding or of the run, 2 the words are refused
@@ -33,8 +33,18 @@ enum Words {
     Help,
     Play { founding: String, schedule: String },
     Serve { founding: String },
-    Member { founding: String, number: String },
+    Member { founding: String, number: String, by: By },
 }
+
+/// How a member is asked.
+#[derive(Clone, Copy)]
+struct By {
+    longest: Longest,
+    read: fn(&[u8]) -> Result<Asked, LineRefusal>,
+}
+
+const BY_LINES: By = By { longest: limits::BY_LINES, read: event::read_asked };
+const BY_CALLS: By = By { longest: limits::BY_CALLS, read: event::read_called };
 
 /// What ends the program with status 1. The word in its message is the variant's name.
 enum Fault {
@@ -62,7 +72,7 @@ pub fn run(words: Vec<OsString>) -> ExitCode {
         }
         Some(Words::Play { founding, schedule }) => status_of(play(&founding, &schedule)),
         Some(Words::Serve { founding }) => status_of(serve(&founding)),
-        Some(Words::Member { founding, number }) => status_of(run_member(&founding, number)),
+        Some(Words::Member { founding, number, by }) => status_of(run_member(&founding, number, by)),
     };
     ExitCode::from(status)
 }
@@ -88,8 +98,9 @@ fn read_words(words: Vec<OsString>) -> Option<Words> {
             Some(Words::Play { founding: founding.into(), schedule: schedule.into() })
         }
         ["serve", founding] if is_path(founding) => Some(Words::Serve { founding: founding.into() }),
-        ["member", founding, number] if is_path(founding) && !number.starts_with('-') => {
-            Some(Words::Member { founding: founding.into(), number: number.into() })
+        [word @ ("member" | "called"), founding, number] if is_path(founding) && !number.starts_with('-') => {
+            let by = if word == "member" { BY_LINES } else { BY_CALLS };
+            Some(Words::Member { founding: founding.into(), number: number.into(), by })
         }
         _ => None,
     }
@@ -125,12 +136,12 @@ fn serve(founding: &str) -> Result<(), Fault> {
     serve_lines(input, unbuffered_output()?, &mut world).map_err(Fault::Run)
 }
 
-fn run_member(founding: &str, number: String) -> Result<(), Fault> {
+fn run_member(founding: &str, number: String, by: By) -> Result<(), Fault> {
     let founding = read_founding(founding)?;
     let member = number.parse().ok().and_then(|number| Alone::new(founding, number));
     let mut member = member.ok_or(Fault::NoMember(number))?;
     let input = BufReader::with_capacity(READ_BYTES, io::stdin().lock());
-    run_member_lines(input, unbuffered_output()?, &mut member).map_err(Fault::Run)
+    run_member_lines(input, unbuffered_output()?, &mut member, by).map_err(Fault::Run)
 }
 
 fn play(founding: &str, schedule: &str) -> Result<(), Fault> {
@@ -156,7 +167,7 @@ fn read_founding_file(path: &str) -> io::Result<Vec<u8>> {
 }
 
 fn play_lines(input: impl BufRead, mut output: impl Write, world: &mut World) -> Result<(), RunFault> {
-    let mut lines = Lines::new(input);
+    let mut lines = Lines::new(input, LINE_BYTES);
     let mut number = 0;
     let mut text = Vec::new();
     while let Some(line) = lines.next().map_err(|_| RunFault::Read)? {
@@ -176,7 +187,7 @@ fn play_lines(input: impl BufRead, mut output: impl Write, world: &mut World) ->
 
 /// Each line is answered before the next is read. The caller has a serial of its own at each member.
 fn serve_lines(input: impl BufRead, mut output: impl Write, world: &mut World) -> Result<(), RunFault> {
-    let mut lines = Lines::new(input);
+    let mut lines = Lines::new(input, LINE_BYTES);
     let mut number = 0;
     let mut serials: HashMap<u32, u32> = HashMap::new();
     let mut text = Vec::new();
@@ -202,17 +213,17 @@ fn serve_lines(input: impl BufRead, mut output: impl Write, world: &mut World) -
 }
 
 /// Each line asks one thing of the member.
-fn run_member_lines(input: impl BufRead, mut output: impl Write, member: &mut Alone) -> Result<(), RunFault> {
-    let mut lines = Lines::new(input);
+fn run_member_lines(input: impl BufRead, mut output: impl Write, member: &mut Alone, by: By) -> Result<(), RunFault> {
+    let mut lines = Lines::new(input, by.longest.line);
     let mut number = 0;
     let mut text = Vec::new();
     while let Some(line) = lines.next().map_err(|_| RunFault::Read)? {
         number += 1;
         text.clear();
-        match event::read_asked(line) {
+        match (by.read)(line) {
             Err(refusal) => output::write_line_refusal(&mut text, number, refusal),
             Ok(asked) => {
-                if let Err(refusal) = answer_asked(&mut text, number, asked, member) {
+                if let Err(refusal) = answer_asked(&mut text, number, asked, member, by.longest.message) {
                     output::write_event_refusal(&mut text, number, refusal);
                 }
             }
@@ -222,16 +233,22 @@ fn run_member_lines(input: impl BufRead, mut output: impl Write, member: &mut Al
     Ok(())
 }
 
-fn answer_asked(text: &mut Vec<u8>, line: u64, asked: Asked, member: &mut Alone) -> Result<(), EventRefusal> {
+fn answer_asked(
+    text: &mut Vec<u8>,
+    line: u64,
+    asked: Asked,
+    member: &mut Alone,
+    longest: usize,
+) -> Result<(), EventRefusal> {
     match asked {
         Asked::Submit(batch) => {
             let message = member.message_of(batch)?;
-            short_text(&message)?;
+            short_text(&message, longest)?;
             alone::write_number(text, line, member.send(message));
         }
-        Asked::Next(batch) => alone::write_message(text, line, Some(&short_text(&member.message_of(batch)?)?)),
+        Asked::Next(batch) => alone::write_message(text, line, Some(&short_text(&member.message_of(batch)?, longest)?)),
         Asked::Own { number, message } => {
-            short_text(&message)?;
+            short_text(&message, longest)?;
             alone::write_number(text, line, member.take_own(number, message)?);
         }
         Asked::Receive(Brought { from, number, message }) => {
@@ -251,12 +268,18 @@ fn answer_asked(text: &mut Vec<u8>, line: u64, asked: Asked, member: &mut Alone)
         }
         Asked::Waits => alone::write_waits(text, line, member.waits()),
         Asked::Dump => alone::write_dump(text, line, &member.dump()),
+        Asked::Read { from } => alone::write_number(text, line, member.read(from)),
+        Asked::Serial { caller } => alone::write_number(text, line, member.next_serial(caller)),
+        Asked::Check(check) => {
+            let answer = member.check(&check);
+            alone::write_checked(text, line, &answer, member.records());
+        }
     }
     Ok(())
 }
 
-/// The text of a message, where the line that brings it to another member has room for it.
-fn short_text(message: &Message) -> Result<Vec<u8>, EventRefusal> {
+/// The text of a message, where it can be brought to another member.
+fn short_text(message: &Message, longest: usize) -> Result<Vec<u8>, EventRefusal> {
     let text = alone::message_text(message);
-    if text.len() <= limits::MESSAGE_BYTES { Ok(text) } else { Err(EventRefusal::MessageTooLong) }
+    if text.len() <= longest { Ok(text) } else { Err(EventRefusal::MessageTooLong) }
 }

@@ -13,8 +13,12 @@ fn founding(members: u32, more: &str) -> String {
 
 /// Gives member 1 the lines, and compares each answer, which is wanted without the number of its line.
 fn check(founding: &str, rows: &[(&str, &str)]) {
+    check_by("member", founding, rows);
+}
+
+fn check_by(word: &str, founding: &str, rows: &[(&str, &str)]) {
     let lines = rows.iter().map(|(line, _)| format!("{line}\n")).collect();
-    let printed = printed("member", founding, "1", lines);
+    let printed = printed(word, founding, "1", lines);
     let answers: Vec<&str> = printed.lines().collect();
     assert_eq!(answers.len(), rows.len());
     for (place, ((line, wanted), answer)) in rows.iter().zip(answers).enumerate() {
@@ -199,4 +203,40 @@ fn a_message_is_short_enough_to_be_carried() {
             (&own(1, &batch(0, "[1,1]", &fits)), r#"{"number":1}"#),
         ],
     );
+}
+
+#[test]
+fn a_member_that_is_called_is_asked_more() {
+    let founding = "version = 1\nmembers = 2\noperations = [\"pay\"]\nobjects = [\"ledger\"]\npermissions = []\n";
+    let checked =
+        |session: &str| format!(r#"{{"do":"check","session":"{session}","operation":"pay","object":"ledger"}}"#);
+    let record = format!(r#"{{"answer":"Done","caller":0,"command":{ANN},"serial":0,"stamp":[1,1]}}"#);
+    let rows = [
+        (own(1, &batch(0, "[1,1]", ANN)), r#"{"number":1}"#),
+        (receive(2, 1, r#"{"stamp":[2,2]}"#), r#"{"acknowledged":null}"#),
+        (r#"{"do":"read","from":2}"#.into(), r#"{"number":1}"#),
+        (r#"{"do":"serial","caller":0}"#.into(), r#"{"number":1}"#),
+        (r#"{"do":"serial","caller":9}"#.into(), r#"{"number":0}"#),
+        (checked("s1"), r#"{"answer":{"denied":"NoSession","number":10},"records":0}"#),
+        (r#"{"do":"deliver"}"#.into(), &format!(r#"{{"number":1,"record":{record}}}"#)),
+        (checked("s1"), r#"{"answer":{"denied":"NoSession","number":10},"records":1}"#),
+        (checked("s 1"), r#"{"refused":"BadName"}"#),
+    ];
+    let rows: Vec<(&str, &str)> = rows.iter().map(|(line, wanted)| (line.as_str(), *wanted)).collect();
+    check_by("called", founding, &rows);
+    check(founding, &[(rows[2].0, r#"{"refused":"UnknownWord"}"#)]);
+}
+
+#[test]
+fn a_message_by_calls_has_a_mebibyte() {
+    let roles: Vec<String> = (0..975).map(|number| format!("\"{number:064}\"")).collect();
+    let session = format!(r#"{{"name":"CreateSession","user":"ann","session":"s1","roles":[{}]}}"#, roles.join(","));
+    let sessions = |count: usize| vec![session.clone(); count].join(",");
+    let long = format!(r#"{{"message":{}}}"#, batch(0, "[1,1]", &sessions(16)));
+    check_by(
+        "called",
+        &founding(1, ""),
+        &[(&next(0, &sessions(16)), &long), (&next(0, &sessions(17)), r#"{"refused":"MessageTooLong"}"#)],
+    );
+    check_by("member", &founding(1, ""), &[(&next(0, &sessions(16)), r#"{"refused":"TooLong"}"#)]);
 }

@@ -36,10 +36,7 @@ fn a_check_is_granted_refused_or_denied() {
         monitor.check("s1", "read", "moon"),
         Err(CheckError::NoObject)
     );
-    assert_eq!(
-        monitor.check("s1", "read", ""),
-        Err(CheckError::BadName)
-    );
+    assert_eq!(monitor.check("s1", "read", ""), Err(CheckError::BadName));
 }
 
 #[test]
@@ -66,10 +63,7 @@ fn a_founding_is_refused_for_its_first_reason() {
         told.to_string(),
         "`version` is not there, or is not the whole number 1 or 2"
     );
-    assert_eq!(
-        Monitor::open(b"").unwrap_err(),
-        OpenError::BadVersion
-    );
+    assert_eq!(Monitor::open(b"").unwrap_err(), OpenError::BadVersion);
 }
 
 #[test]
@@ -104,7 +98,10 @@ fn a_dump_makes_the_policy_again() {
     }
     let dump = monitor.dump().unwrap();
     assert_eq!(dump.lines().count(), 205);
-    assert_eq!(dump.lines().next(), Some(r#"{"name":"AddUser","user":"ann"}"#));
+    assert_eq!(
+        dump.lines().next(),
+        Some(r#"{"name":"AddUser","user":"ann"}"#)
+    );
     let mut again = Monitor::open(format!("{HEAD}{LISTS}").as_bytes()).unwrap();
     for command in dump.lines() {
         assert_eq!(again.apply(command), Ok("\"Done\""));

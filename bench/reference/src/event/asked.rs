@@ -1,11 +1,14 @@
-//! A line that asks one thing of one member.
+//! A line that asks one thing of one member, or stands for a call on one.
 
 use super::fields::Fields;
 use super::{LineRefusal, commands, read_object};
+use crate::command::Command;
 use crate::json::Object;
+use crate::limits;
 use crate::world::{Batch, Message, Stamp};
 use std::rc::Rc;
 
+/// The last three are asked by calls alone: how many messages were taken of a member, a caller's next serial, and a check.
 pub enum Asked {
     Submit(Batch),
     Next(Batch),
@@ -17,6 +20,9 @@ pub enum Asked {
     Record { number: u32 },
     Waits,
     Dump,
+    Read { from: u32 },
+    Serial { caller: u32 },
+    Check(Command),
 }
 
 /// A message of another member.
@@ -28,9 +34,32 @@ pub struct Brought {
 
 /// Reads a line of one member. The outer object is looked at whole before what stands in it.
 pub fn read_asked(line: &[u8]) -> Result<Asked, LineRefusal> {
-    let object = read_object(line)?;
+    let object = read_object(line, limits::BY_LINES.line)?;
     let mut fields = Fields::new(&object);
-    let asked = match fields.text("do")? {
+    let word = fields.text("do")?;
+    asked_by(word, fields)
+}
+
+/// Reads a line that stands for a call.
+pub fn read_called(line: &[u8]) -> Result<Asked, LineRefusal> {
+    let object = read_object(line, limits::BY_CALLS.line)?;
+    let mut fields = Fields::new(&object);
+    let word = fields.text("do")?;
+    let asked = match word {
+        "read" => Asked::Read { from: fields.number("from")? },
+        "serial" => Asked::Serial { caller: fields.number("caller")? },
+        "check" => {
+            let (session, operation) = (fields.name("session")?, fields.name("operation")?);
+            Asked::Check(Command::CheckAccess { session, operation, object: fields.name("object")? })
+        }
+        _ => return asked_by(word, fields),
+    };
+    fields.end()?;
+    Ok(asked)
+}
+
+fn asked_by(word: &str, mut fields: Fields) -> Result<Asked, LineRefusal> {
+    let asked = match word {
         "submit" => {
             let (caller, serial) = (fields.number("caller")?, fields.number("serial")?);
             let command = fields.object("command")?;

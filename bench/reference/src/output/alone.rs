@@ -2,6 +2,7 @@
 
 use super::commands::write_command;
 use super::{write_answer, write_list};
+use crate::answer::Answer;
 use crate::command::Command;
 use crate::world::{Delivered, Message, Stamp};
 use std::io::Write;
@@ -19,7 +20,7 @@ pub fn message_text(message: &Message) -> Vec<u8> {
     text
 }
 
-/// The line for a message that was sent or taken.
+/// The line for a number: of a message that was sent or taken, or of how many there are.
 pub fn write_number(text: &mut Vec<u8>, line: u64, number: u32) {
     put!(text, "{{\"line\":{line},\"number\":{number}}}\n");
 }
@@ -70,6 +71,13 @@ pub fn write_waits(text: &mut Vec<u8>, line: u64, waits: Option<(Stamp, u32)>) {
         None => put!(text, "{{\"line\":{line},\"stamp\":null,\"waits\":0}}\n"),
         Some((stamp, bits)) => put!(text, "{{\"line\":{line},\"stamp\":{stamp},\"waits\":{bits}}}\n"),
     }
+}
+
+/// The line for a check by the policy that so many records left.
+pub fn write_checked(text: &mut Vec<u8>, line: u64, answer: &Answer, records: usize) {
+    text.extend_from_slice(b"{\"answer\":");
+    write_answer(text, answer);
+    put!(text, ",\"line\":{line},\"records\":{records}}}\n");
 }
 
 /// The line for the commands that make a policy.

@@ -140,6 +140,25 @@ impl Alone {
         self.member.policy.dump()
     }
 
+    /// How many messages of this member were taken: none of itself, or of a stranger.
+    pub fn read(&self, from: u32) -> u32 {
+        self.link(from).map_or(0, |link| link.taken)
+    }
+
+    /// The serial of this caller's next command here.
+    pub fn next_serial(&self, caller: u32) -> u32 {
+        self.member.next_serials.get(&caller).copied().unwrap_or_default()
+    }
+
+    /// What its policy answers to a check, which changes nothing.
+    pub fn check(&mut self, check: &Command) -> Answer {
+        self.member.policy.apply(check)
+    }
+
+    pub fn records(&self) -> usize {
+        self.history.len()
+    }
+
     fn require_receivable(&self, from: u32, number: u32, message: &Message) -> Result<(), EventRefusal> {
         let link = self.link(from).ok_or(EventRefusal::UnknownMember)?;
         if from == self.member.number {
@@ -163,12 +182,11 @@ impl Alone {
 
     /// Whether a batch of a member begins with the number of its caller's commands that are known.
     fn require_serial(&self, member: u32, batch: &Batch) -> Result<(), EventRefusal> {
-        let known = if member == self.member.number {
-            self.member.next_serials.get(&batch.caller)
+        let next = if member == self.member.number {
+            self.next_serial(batch.caller)
         } else {
-            self.others_serials.get(&(member, batch.caller))
+            self.others_serials.get(&(member, batch.caller)).copied().unwrap_or_default()
         };
-        let next = known.copied().unwrap_or_default();
         if batch.serial == next { Ok(()) } else { Err(EventRefusal::BadSerial { next }) }
     }
 }
