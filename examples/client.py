@@ -4,18 +4,21 @@
     examples/client.py [--journal FILE [--most LINES]] PROGRAM serve FOUNDING < COMMANDS
     examples/client.py [--journal FILE [--most LINES]] PROGRAM play FOUNDING - < COMMANDS
 
-COMMANDS has one command a line, as {"name":"AddUser","user":"ann"}; with "at":2 in it, it is asked of member 2. PROGRAM is the monitor. By serve
+COMMANDS has one command a line, as {"name":"AddUser","user":"ann"}; with "at":2 in it, it is asked of member 2. A client line, as a dump has it,
+{"at":2,"command":{"name":"AddUser","user":"ann"}}, is the same. PROGRAM is the monitor. By serve
 each command is one line and gets one answer. By play it is submitted and delivered at member 1, and the client keeps the serials. A line that is
 refused is told, and the next one is sent.
 
 The monitor keeps nothing on disk: a journal gets each command that was answered Done, which are the changes that were made, and no check, no review
 and nothing that was denied. So it is a file of COMMANDS too. At the start its commands are asked again, and the next day goes on from there; where one
-of them is not answered Done once more, as on another founding, the client ends and sends nothing else.
+of them is not answered Done once more, as on another founding, the client ends and sends nothing else. One client at a time has a journal.
 
 A journal only grows. With --most, one of more than LINES lines is replaced by a dump, for which PROGRAM is asked, of what its commands have made: a
 command for each user, role, assignment, grant, pair, set and session that is there. That is done only once each of its commands was answered Done by
 the monitor that runs, and the old journal stands until the disk has the new one."""
 import argparse
+import contextlib
+import fcntl
 import json
 import os
 import subprocess
@@ -27,11 +30,17 @@ class Refused(Exception):
 
 
 class JournalFault(Exception):
-    """A command of the journal that is not answered as it was, or a line of it that is no command."""
+    """A command of the journal that is not answered as it was, a line of it that is no command, or a journal that another client has."""
 
 
 def compact(value):
     return json.dumps(value, separators=(",", ":"))
+
+
+def command_of(line):
+    """The command of a line, which is that command or a client line."""
+    told = dict(json.loads(line))
+    return {**told["command"], "at": told["at"]} if set(told) == {"at", "command"} else told
 
 
 class Monitor:
@@ -42,8 +51,9 @@ class Monitor:
 
     def send(self, value):
         """Sends one line, and gives its answer."""
-        self.process.stdin.write(compact(value) + "\n")
-        self.process.stdin.flush()
+        with contextlib.suppress(BrokenPipeError):
+            self.process.stdin.write(compact(value) + "\n")
+            self.process.stdin.flush()
         text = self.process.stdout.readline()
         if not text:
             raise EOFError("the monitor has ended")
@@ -53,7 +63,8 @@ class Monitor:
         return answer
 
     def stop(self):
-        self.process.stdin.close()
+        with contextlib.suppress(BrokenPipeError):
+            self.process.stdin.close()
         return self.process.wait()
 
 
@@ -70,8 +81,10 @@ class Client(Monitor):
 
     serial = 0
 
-    def ask(self, name, **fields):
+    def ask(self, name, at=1, **fields):
         """Submits a command and delivers it, and gives its answer."""
+        if at != 1:
+            raise Refused("member 1 alone is asked by play")
         command = {"name": name, **fields}
         stamp = self.send({"do": "submit", "at": 1, "caller": 0, "serial": self.serial, "command": command})["stamp"]
         self.serial += 1
@@ -88,6 +101,10 @@ class Journal:
         self.path = path
         self.lines = open(path, "a+b")
         self.count = 0
+        try:
+            fcntl.flock(self.lines, fcntl.LOCK_EX | fcntl.LOCK_NB)
+        except BlockingIOError:
+            raise JournalFault(f"{path}: another client has it") from None
 
     def commands(self):
         """The commands with the numbers of their lines. A last line without its end was never told to anybody as done: it is cut off."""
@@ -100,7 +117,7 @@ class Journal:
                 return
             begun += len(line)
             try:
-                yield number, dict(json.loads(line))
+                yield number, command_of(line)
             except (ValueError, TypeError):
                 raise JournalFault(f"{self.path}:{number}: no command") from None
 
@@ -156,7 +173,7 @@ def go_on(monitor, journal):
 def answered(monitor, journal, shortener, line):
     """What a line of COMMANDS is answered, which the journal gets where it is a change that was made."""
     try:
-        command = dict(json.loads(line))
+        command = command_of(line)
         answer = monitor.ask(**command)
     except Refused as refused:
         return f"refused: {refused}"
@@ -169,6 +186,16 @@ def answered(monitor, journal, shortener, line):
     return compact(answer)
 
 
+def converse(monitor, journal, shortener):
+    """Asks what the journal has, and then what the input has."""
+    if journal:
+        go_on(monitor, journal)
+    if shortener:
+        shortener.shorten(journal)
+    for line in sys.stdin:
+        print(line.strip(), "->", answered(monitor, journal, shortener, line), flush=True)
+
+
 def main(words):
     parser = argparse.ArgumentParser(usage=__doc__)
     parser.add_argument("--journal")
@@ -177,16 +204,14 @@ def main(words):
     told = parser.parse_args(words)
     if len(told.words) < 3:
         return __doc__
-    journal = Journal(told.journal) if told.journal else None
-    shortener = Shortener(told.words[0], told.most, told.words[2]) if journal and told.most is not None else None
-    monitor = (Client if "play" in told.words else Caller)(told.words)
     try:
-        if journal:
-            go_on(monitor, journal)
-        if shortener:
-            shortener.shorten(journal)
-        for line in sys.stdin:
-            print(line.strip(), "->", answered(monitor, journal, shortener, line), flush=True)
+        journal = Journal(told.journal) if told.journal else None
+        monitor = (Client if "play" in told.words else Caller)(told.words)
+    except (JournalFault, OSError) as fault:
+        return f"client: {fault}"
+    shortener = Shortener(told.words[0], told.most, told.words[2]) if journal and told.most is not None else None
+    try:
+        converse(monitor, journal, shortener)
     except (JournalFault, EOFError) as fault:
         monitor.stop()
         return f"client: {fault}"
