@@ -1,0 +1,223 @@
+//! What a cell of a row says: one line of JSON.
+use crate::name::RowName;
+use serde::{Deserialize, Serialize};
+use serde_json::value::RawValue;
+use sha2::{Digest, Sha256};
+use thiserror::Error;
+
+/// The version of the founding's cell and of all others. A reader takes no other.
+pub const VERSION: u32 = 1;
+
+/// The one cell of the founding's row. Whoever joins with another founding, other nodes or other rules stops.
+#[derive(Clone, Debug, PartialEq, Eq, Serialize, Deserialize)]
+#[serde(deny_unknown_fields)]
+pub struct Founding {
+    /// [`VERSION`].
+    pub version: u32,
+    /// The text of the founding file.
+    pub founding: String,
+    /// The nodes of members 1, 2 and so on.
+    pub nodes: Vec<String>,
+    /// By which rules members answer: what the library's release calls itself, so that no two that differ make one group.
+    pub rules: String,
+}
+
+/// A cell of a member's row.
+#[derive(Debug, Serialize, Deserialize)]
+#[serde(deny_unknown_fields)]
+pub struct Cell {
+    /// [`VERSION`].
+    pub version: u32,
+    /// The generation of the group.
+    pub generation: u64,
+    /// The member, from 1 on.
+    pub member: u32,
+    /// The cell's own number in the row, from 1 on: that of the message.
+    pub number: u64,
+    /// The hash of the text of the cell before; of the first one's, of the founding's cell.
+    pub before: String,
+    /// A word that no other process has, nor this one after a restart: so a cell that holds just this text was set by this process.
+    pub writer: String,
+    /// Up to which message the rows of members 1, 2 and so on were taken.
+    pub taken: Vec<u64>,
+    /// The identities of the calls whose commands the message has, in their order; none for a call without one.
+    #[serde(default, skip_serializing_if = "Vec::is_empty")]
+    pub calls: Vec<Option<String>>,
+    /// The message, by its text.
+    pub message: Box<RawValue>,
+}
+
+/// The hash of a cell's text: SHA-256, in hexadecimal.
+pub fn hash_of(text: &[u8]) -> String {
+    hex::encode(Sha256::digest(text))
+}
+
+/// A cell that is not what it has to be at its place. An engine that shows one has lost what it had told, or somebody else writes there: the
+/// process stops, and is not started again blindly.
+#[derive(Clone, Debug, PartialEq, Eq, Error)]
+#[error("cell {number} of {row} {why}")]
+pub struct Lost {
+    /// The row.
+    pub row: RowName,
+    /// The number of the cell's place.
+    pub number: u64,
+    /// What is wrong with it.
+    pub why: Why,
+}
+
+/// What is wrong with a cell.
+#[derive(Clone, Debug, PartialEq, Eq, Error)]
+pub enum Why {
+    /// The text is no cell of this version, for this reason.
+    #[error("is none: {0}")]
+    NoCell(String),
+    /// It is the cell of another place.
+    #[error("is that of another place")]
+    OtherPlace,
+    /// It does not follow the cell before it.
+    #[error("does not follow the one before it")]
+    OtherChain,
+}
+
+/// Where a row was read to, and what its next cell has to be.
+#[derive(Clone, Debug)]
+pub struct Chain {
+    row: RowName,
+    generation: u64,
+    member: u32,
+    next: u64,
+    before: String,
+}
+
+impl Chain {
+    /// The start of a member's row, behind the founding's cell of this text.
+    pub fn of(row: RowName, generation: u64, member: u32, founding: &[u8]) -> Chain {
+        Chain {
+            row,
+            generation,
+            member,
+            next: 1,
+            before: hash_of(founding),
+        }
+    }
+
+    /// The row.
+    pub fn row(&self) -> &RowName {
+        &self.row
+    }
+
+    /// The number of the next cell.
+    pub fn next(&self) -> u64 {
+        self.next
+    }
+
+    /// The hash that the next cell has to name.
+    pub fn before(&self) -> &str {
+        &self.before
+    }
+
+    /// Takes the text of the next cell.
+    ///
+    /// # Errors
+    /// Where it is not what it has to be. Nothing was taken then.
+    pub fn take(&mut self, text: &[u8]) -> Result<Cell, Lost> {
+        let cell = self.read(text).map_err(|why| Lost {
+            row: self.row.clone(),
+            number: self.next,
+            why,
+        })?;
+        self.before = hash_of(text);
+        self.next += 1;
+        Ok(cell)
+    }
+
+    fn read(&self, text: &[u8]) -> Result<Cell, Why> {
+        let cell: Cell =
+            serde_json::from_slice(text).map_err(|error| Why::NoCell(error.to_string()))?;
+        if cell.version != VERSION {
+            return Err(Why::NoCell(format!("it is of version {}", cell.version)));
+        }
+        if (cell.generation, cell.member, cell.number) != (self.generation, self.member, self.next)
+        {
+            return Err(Why::OtherPlace);
+        }
+        if cell.before != self.before {
+            return Err(Why::OtherChain);
+        }
+        Ok(cell)
+    }
+}
+
+#[cfg(test)]
+mod tests {
+    use super::{hash_of, Cell, Chain, Why, VERSION};
+    use crate::name::RowName;
+    use serde_json::value::RawValue;
+
+    const FOUNDING: &[u8] = b"the founding's cell";
+
+    fn chain() -> Chain {
+        Chain::of(RowName::of_node("n2", 1).unwrap(), 1, 2, FOUNDING)
+    }
+
+    fn cell(number: u64, before: &str) -> Cell {
+        Cell {
+            version: VERSION,
+            generation: 1,
+            member: 2,
+            number,
+            before: before.to_owned(),
+            writer: "w".to_owned(),
+            taken: vec![0, 0],
+            calls: Vec::new(),
+            message: RawValue::from_string(r#"{"stamp":[1,2]}"#.to_owned()).unwrap(),
+        }
+    }
+
+    fn text(cell: &Cell) -> Vec<u8> {
+        serde_json::to_vec(cell).unwrap()
+    }
+
+    #[test]
+    fn cells_follow_one_another_from_the_founding_on() {
+        let mut chain = chain();
+        for number in 1..4 {
+            let next = cell(number, chain.before());
+            let taken = chain.take(&text(&next)).unwrap();
+            assert_eq!(taken.message.get(), r#"{"stamp":[1,2]}"#);
+        }
+        assert_eq!(chain.next(), 4);
+    }
+
+    #[test]
+    fn a_cell_of_another_place_or_chain_is_not_taken() {
+        let first = cell(1, &hash_of(FOUNDING));
+        let lost = |change: fn(&mut Cell)| {
+            let mut changed: Cell = serde_json::from_slice(&text(&first)).unwrap();
+            change(&mut changed);
+            let mut chain = chain();
+            let lost = chain.take(&text(&changed)).unwrap_err();
+            assert_eq!(lost.to_string().split(" of n2/g1 ").next(), Some("cell 1"));
+            chain.take(&text(&first)).unwrap();
+            lost.why
+        };
+        assert_eq!(lost(|cell| cell.generation = 2), Why::OtherPlace);
+        assert_eq!(lost(|cell| cell.member = 1), Why::OtherPlace);
+        assert_eq!(lost(|cell| cell.number = 2), Why::OtherPlace);
+        assert_eq!(
+            lost(|cell| cell.before = hash_of(b"other")),
+            Why::OtherChain
+        );
+        assert!(matches!(lost(|cell| cell.version = 2), Why::NoCell(_)));
+    }
+
+    #[test]
+    fn what_is_no_cell_is_not_taken() {
+        let more = String::from_utf8(text(&cell(1, &hash_of(FOUNDING)))).unwrap();
+        let more = more.replacen('{', r#"{"colour":1,"#, 1);
+        for told in ["", "{}", "nothing", r#"{"version":1}"#, &more] {
+            let lost = chain().take(told.as_bytes()).unwrap_err();
+            assert!(matches!(lost.why, Why::NoCell(_)), "{told}");
+        }
+    }
+}

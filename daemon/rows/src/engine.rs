@@ -1,0 +1,67 @@
+//! What is asked of an engine.
+use crate::name::RowName;
+use async_trait::async_trait;
+use bytes::Bytes;
+use std::time::Duration;
+use thiserror::Error;
+
+/// What became of cells that were to be set.
+#[derive(Clone, Copy, Debug, PartialEq, Eq)]
+pub enum Told {
+    /// All of them are set, by this very call, and stay so whatever is lost.
+    Set,
+    /// The first of them was set before, by whomever. None is set by this call.
+    Taken,
+    /// The cell before the first is not set. None is set by this call.
+    Gap,
+    /// The reply was lost: they may be set, now or later, all or none. [`crate::sure_set`] finds out.
+    Unsure,
+}
+
+/// Why an engine did not do what was asked. But for `Broken` it may later.
+#[derive(Clone, Debug, PartialEq, Eq, Error)]
+pub enum Fault {
+    /// A text is none that a cell can hold: it has a byte that ends a line, or a tab. Nothing is set.
+    #[error("the text of a cell is one line, and has no tab")]
+    BadText,
+    /// There is no room. Nothing is set.
+    #[error("the engine is full")]
+    Full,
+    /// The engine does not answer.
+    #[error("the engine is silent: {0}")]
+    Silent(String),
+    /// What the engine told can be relied on no more. The process ends, and nothing that it holds is written again.
+    #[error("the engine is broken: {0}")]
+    Broken(String),
+}
+
+/// Rows of cells. All processes that use the same rows see the same cells.
+#[async_trait]
+pub trait Engine: Send + Sync {
+    /// Sets the cells from number `first` on, counted from 1, to these texts: all of them or none. Never overwrites, and leaves no gap.
+    /// `Set` is told only when no loss of power and no failure that the engine is made for can take them back.
+    ///
+    /// # Errors
+    /// Nothing is set then, unless the fault is `Broken`.
+    async fn set(&self, row: &RowName, first: u64, texts: &[Bytes]) -> Result<Told, Fault>;
+
+    /// The texts from number `first` on, in order: of each cell whose set was told before this call, and of none that can still be lost.
+    ///
+    /// # Errors
+    /// Where it can't be told.
+    async fn get(&self, row: &RowName, first: u64) -> Result<Vec<Bytes>, Fault>;
+
+    /// Tidings of a row.
+    ///
+    /// # Errors
+    /// Where there are none to be had.
+    async fn follow(&self, row: &RowName) -> Result<Box<dyn Tidings>, Fault>;
+}
+
+/// Tells when a row may have more cells.
+#[async_trait]
+pub trait Tidings: Send {
+    /// Returns once cells may have been set since the last call, and at the latest after this time. Whoever follows a row asks `get` then:
+    /// so a tiding that was lost delays, and loses nothing.
+    async fn wait(&mut self, longest: Duration);
+}

@@ -1,0 +1,52 @@
+//! Tidings of a row's mark, by the kernel.
+use crate::engine::Tidings;
+use async_trait::async_trait;
+use inotify::{Inotify, WatchMask};
+use std::io;
+use std::os::unix::io::{AsRawFd, RawFd};
+use std::path::Path;
+use std::time::Duration;
+use tokio::io::unix::AsyncFd;
+
+/// What tells that the mark was set.
+pub(super) struct Marked(AsyncFd<Watch>);
+
+struct Watch(Inotify);
+
+impl AsRawFd for Watch {
+    fn as_raw_fd(&self) -> RawFd {
+        self.0.as_raw_fd()
+    }
+}
+
+impl Marked {
+    /// Of the mark at a path. It is to be asked where a runtime of tokio runs.
+    pub(super) fn of(path: &Path) -> io::Result<Marked> {
+        let mut inotify = Inotify::init()?;
+        inotify.add_watch(path, WatchMask::MODIFY)?;
+        Ok(Marked(AsyncFd::new(Watch(inotify))?))
+    }
+}
+
+impl Marked {
+    /// Takes what was told, all of it: the next tiding is of what comes after.
+    fn take(watch: &mut Watch) {
+        let mut told = [0; 4096];
+        let mut is_more = true;
+        while is_more {
+            let events = watch.0.read_events(&mut told);
+            is_more = events.is_ok_and(|events| events.count() > 0);
+        }
+    }
+}
+
+#[async_trait]
+impl Tidings for Marked {
+    async fn wait(&mut self, longest: Duration) {
+        let ready = tokio::time::timeout(longest, self.0.readable_mut()).await;
+        if let Ok(Ok(mut ready)) = ready {
+            Marked::take(ready.get_inner_mut());
+            ready.clear_ready();
+        }
+    }
+}

@@ -1,0 +1,76 @@
+//! Following a row: each of its cells, in order, once.
+use crate::cell::{Cell, Chain, Lost};
+use crate::engine::{Engine, Fault, Tidings};
+use std::sync::Arc;
+use std::time::Duration;
+use thiserror::Error;
+
+/// After this time a row is read again, also where no tiding came.
+pub const SWEEP: Duration = Duration::from_millis(500);
+
+/// Why a row is followed no further.
+#[derive(Clone, Debug, PartialEq, Eq, Error)]
+pub enum FollowFault {
+    /// A cell is not what it has to be.
+    #[error(transparent)]
+    Lost(#[from] Lost),
+    /// The engine is broken.
+    #[error(transparent)]
+    Engine(#[from] Fault),
+}
+
+/// Reads a row as it grows.
+pub struct Follower {
+    engine: Arc<dyn Engine>,
+    chain: Chain,
+    tidings: Box<dyn Tidings>,
+}
+
+impl Follower {
+    /// Of a row from where it was read to.
+    ///
+    /// # Errors
+    /// Where the engine tells nothing of it.
+    pub async fn of(engine: Arc<dyn Engine>, chain: Chain) -> Result<Follower, Fault> {
+        let tidings = engine.follow(chain.row()).await?;
+        Ok(Follower {
+            engine,
+            chain,
+            tidings,
+        })
+    }
+
+    /// Where the row was read to.
+    pub fn chain(&self) -> &Chain {
+        &self.chain
+    }
+
+    /// The cells that are there and were not given yet, in order; none where there is none, or the engine is silent.
+    ///
+    /// # Errors
+    /// Where one is not what it has to be, or the engine is broken: what is read of the row then is told no more.
+    pub async fn there(&mut self) -> Result<Vec<Cell>, FollowFault> {
+        match self.engine.get(self.chain.row(), self.chain.next()).await {
+            Ok(texts) => {
+                let cells = texts.iter().map(|text| self.chain.take(text));
+                Ok(cells.collect::<Result<Vec<Cell>, Lost>>()?)
+            }
+            Err(Fault::Silent(_)) => Ok(Vec::new()),
+            Err(fault) => Err(fault.into()),
+        }
+    }
+
+    /// The next cells, at least one: returns once there is one. It may be dropped at any time, and asked again.
+    ///
+    /// # Errors
+    /// As of `there`.
+    pub async fn next(&mut self) -> Result<Vec<Cell>, FollowFault> {
+        loop {
+            let cells = self.there().await?;
+            if !cells.is_empty() {
+                return Ok(cells);
+            }
+            self.tidings.wait(SWEEP).await;
+        }
+    }
+}

@@ -1,0 +1,111 @@
+//! A row that is followed while it grows, and one that has lost its end.
+
+use crate::doubles::LossyEngine;
+use bytes::Bytes;
+use rows::cell::{hash_of, Cell, Chain, Lost, Why, VERSION};
+use rows::{sure_set, Engine, Files, FollowFault, Follower, RowName, Told};
+use serde_json::value::RawValue;
+use std::path::Path;
+use std::sync::Arc;
+
+const FOUNDING: &[u8] = b"the founding's cell";
+
+fn chain() -> Chain {
+    Chain::of(RowName::of_node("n1", 1).unwrap(), 1, 1, FOUNDING)
+}
+
+/// The cells from a number on, each behind the one before it.
+fn cells(writer: &str, mut number: u64, mut before: String, count: usize) -> Vec<Bytes> {
+    let mut told = Vec::new();
+    while told.len() < count {
+        let cell = Cell {
+            version: VERSION,
+            generation: 1,
+            member: 1,
+            number,
+            before,
+            writer: writer.to_owned(),
+            taken: vec![number - 1],
+            calls: vec![None, Some("a call".to_owned())],
+            message: RawValue::from_string(format!(r#"{{"stamp":[{number},1]}}"#)).unwrap(),
+        };
+        let text = serde_json::to_vec(&cell).unwrap();
+        (number, before) = (number + 1, hash_of(&text));
+        told.push(text.into());
+    }
+    told
+}
+
+async fn set(engine: &dyn Engine, first: u64, told: &[Bytes]) {
+    assert_eq!(
+        sure_set(engine, chain().row(), first, told).await,
+        Ok(Told::Set)
+    );
+}
+
+#[tokio::test(flavor = "multi_thread")]
+async fn each_cell_is_given_once_in_order() {
+    let folder = tempfile::tempdir().unwrap();
+    let all = cells("w", 1, hash_of(FOUNDING), 100);
+    let writer = Files::of(folder.path());
+    let reader = Arc::new(LossyEngine::of(Files::of(folder.path()), 3));
+    let mut follower = Follower::of(reader, chain()).await.unwrap();
+    let texts = all.clone();
+    let setting = tokio::spawn(async move {
+        for (place, several) in texts.chunks(3).enumerate() {
+            set(&writer, place as u64 * 3 + 1, several).await;
+        }
+    });
+    let mut given = Vec::new();
+    while given.len() < all.len() {
+        given.extend(follower.next().await.unwrap());
+    }
+    setting.await.unwrap();
+    let given: Vec<Vec<u8>> = given
+        .iter()
+        .map(|cell| serde_json::to_vec(cell).unwrap())
+        .collect();
+    assert_eq!(given, all);
+    assert_eq!(follower.chain().next(), 101);
+}
+
+/// Takes the row's file back to what it was, as an old copy of a folder does.
+fn take_back(folder: &Path, length: u64) {
+    for (name, length) in [("n1/g1.row", length), ("n1/g1.mark", 0)] {
+        let file = std::fs::OpenOptions::new()
+            .write(true)
+            .open(folder.join(name))
+            .unwrap();
+        file.set_len(length).unwrap();
+    }
+}
+
+#[tokio::test]
+async fn a_row_that_lost_its_end_is_told() {
+    let folder = tempfile::tempdir().unwrap();
+    let first = cells("w", 1, hash_of(FOUNDING), 4);
+    set(&Files::of(folder.path()), 1, &first[..2]).await;
+    let length = std::fs::metadata(folder.path().join("n1/g1.row"))
+        .unwrap()
+        .len();
+    set(&Files::of(folder.path()), 3, &first[2..]).await;
+    let mut follower = Follower::of(Arc::new(Files::of(folder.path())), chain())
+        .await
+        .unwrap();
+    assert_eq!(follower.next().await.unwrap().len(), 4);
+    let read = follower.chain().clone();
+    take_back(folder.path(), length);
+    // Whoever was made anew of the shorter row goes on otherwise.
+    let other = cells("other", 3, hash_of(&first[1]), 3);
+    set(&Files::of(folder.path()), 3, &other).await;
+    let mut follower = Follower::of(Arc::new(Files::of(folder.path())), read)
+        .await
+        .unwrap();
+    let lost = Lost {
+        row: chain().row().clone(),
+        number: 5,
+        why: Why::OtherChain,
+    };
+    let told = follower.next().await.unwrap_err();
+    assert_eq!(told, FollowFault::Lost(lost));
+}
