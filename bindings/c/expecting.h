@@ -8,6 +8,8 @@
 
 #include "fochillun.h"
 
+/* The client line of a command, as a dump has it. */
+#define LINE(command) "{\"at\":1,\"command\":" command "}"
 #define TEXT(text) (const uint8_t *)(text), strlen(text)
 #define LISTS "operations = [\"pay\", \"read\"]\nobjects = [\"ledger\"]\npermissions = [[\"read\", \"ledger\"]]\n"
 

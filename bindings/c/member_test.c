@@ -276,7 +276,7 @@ static void short_buffers(void) {
     is_short(member_next_submit(&two, 7, 0, TEXT(ADD_ANN), out, sizeof out, &length), &length, strlen(SENT_ANN), out);
     is_short(member_next_submit_batch(&two, 7, 0, TEXT("[" ADD_ANN "]"), out, sizeof out, &length), &length, strlen(SENT_ANN), out);
     is_short(member_next_answer(&two, 1, 3, TEXT(third), out, sizeof out, &length), &length, strlen(ACKNOWLEDGEMENT), out);
-    is_short(member_dump(&two, out, sizeof out, &length), &length, strlen(ADD_ANN CLERK SESSION) + 3, out);
+    is_short(member_dump(&two, out, sizeof out, &length), &length, strlen(ADD_ANN CLERK SESSION) + 3 + 5 * strlen(LINE("")), out);
 }
 
 static void dumps(void) {
@@ -284,7 +284,7 @@ static void dumps(void) {
     size_t length = 99;
     memset(out, '#', sizeof out);
     expect(member_dump(&one, out, sizeof out, &length), POLICY_DONE, "a dump");
-    expect_text(out, length, ADD_ANN "\n{\"name\":\"AddRole\",\"role\":\"clerk\"}\n", "a dump");
+    expect_text(out, length, LINE(ADD_ANN) "\n" LINE("{\"name\":\"AddRole\",\"role\":\"clerk\"}") "\n", "a dump");
 }
 
 /* A member whose clock is at its end, and one that has sent all that it may. */

@@ -70,6 +70,17 @@ static void short_buffers(void) {
     applies("{\"name\":\"AddUser\",\"user\":\"bob\"}", POLICY_DONE, "{\"denied\":\"UserExists\",\"number\":1}");
 }
 
+/* A client line is applied as its command, whichever member it is for, and refused as a client line. */
+#define ADD_CY "{\"name\":\"AddUser\",\"user\":\"cy\"}"
+
+static void client_lines(void) {
+    applies(LINE(ADD_CY), POLICY_DONE, "\"Done\"");
+    applies("{\"command\":" ADD_CY ",\"at\":9}", POLICY_DONE, "{\"denied\":\"UserExists\",\"number\":1}");
+    applies(ADD_CY, POLICY_DONE, "{\"denied\":\"UserExists\",\"number\":1}");
+    applies("{\"command\":" ADD_CY "}", POLICY_COMMAND_MISSING_FIELD, "");
+    applies("{\"at\":1,\"command\":" ADD_CY ",\"name\":\"AddUser\"}", POLICY_COMMAND_EXTRA_FIELD, "");
+}
+
 /* The dump, which makes the same policy in another place. */
 static void dumps(void) {
     static uint8_t dump[1024], again[1024];
@@ -78,6 +89,8 @@ static void dumps(void) {
     struct policy_place other = {0};
     expect(policy_dump(&place, dump, 9, &length), POLICY_SHORT_BUFFER, "a dump in a short buffer");
     expect(policy_dump(&place, dump, sizeof dump, &length), POLICY_DONE, "a dump");
+    static const char first[] = LINE("{\"name\":\"AddUser\",\"user\":\"ann\"}") "\n";
+    expect(memcmp(dump, first, strlen(first)) == 0, 1, "the first line of a dump");
     expect(policy_open(&other, TEXT(HEAD LISTS)), POLICY_DONE, "open another");
     for (uint8_t *line = dump, *end; line < dump + length; line = end + 1) {
         end = memchr(line, '\n', (size_t)(dump + length - line));
@@ -154,6 +167,7 @@ static void each_sentence(void) {
     for (uint32_t status = 0; status < 1000; status++) known += strcmp(policy_status_text(status), "unknown status") != 0;
     expect(known, COUNT(sentences), "how many statuses have a sentence");
     expect(strcmp(policy_status_text(UINT32_MAX), "unknown status") == 0, 1, "the sentence of no status");
+    expect(strspn(policy_version(), "0123456789.") == strlen(policy_version()), 1, "the version has numbers alone");
 }
 
 int main(void) {
@@ -170,6 +184,7 @@ int main(void) {
     commands();
     each_check();
     short_buffers();
+    client_lines();
     dumps();
     expect(policy_close(&place), POLICY_DONE, "close");
     empty_place();

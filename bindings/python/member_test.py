@@ -74,7 +74,7 @@ class Groups(Case):
             told, other = shown(one), shown(two)
             self.assertEqual((told[1:3], len(told[1])), (other[1:3], 5))
             self.assertEqual((told[0], other[0]), (rows[1], rows[2]))
-            self.assertEqual([json.loads(command) for command in told[2][:2]], [ANN, CLERK[0]])
+            self.assertEqual([json.loads(line) for line in told[2][:2]], [{"at": 1, "command": command} for command in (ANN, CLERK[0])])
         with fochillun.Member.restore(FOUNDING, 2, rows[2]) as two:
             self.assertEqual((two.read(1), two.deliver(), two.message(2)), (0, None, rows[2][1]))
             bring(1, rows[1], two, rows[2])
@@ -173,7 +173,9 @@ class Errors(Case):
                 self.assertRaisesRegex(TypeError, "a member is not copied", way, one)
 
     def test_a_row_that_is_not_taken(self):
-        self.assertEqual(self.refuses("StampNotRising", fochillun.Member.restore, FOUNDING, 2, [b'{"stamp":[1,2]}', SENT_ANN]).number, 307)
+        refused = self.refuses("StampNotRising", fochillun.Member.restore, FOUNDING, 2, [b'{"stamp":[1,2]}', SENT_ANN])
+        self.assertEqual((refused.number, refused.message, refused.next), (307, 2, None))
+        self.assertEqual(str(refused), "message 2 is refused: the message could not follow those before it")
 
 
 class Threads(Case):

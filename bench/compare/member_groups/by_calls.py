@@ -83,7 +83,8 @@ class ByCalls:
         return {"stamp": b"[%d,%d%s]" % (waiting.clock, waiting.member, place), "waits": b"%d" % waiting.awaited}
 
     def dump(self):
-        return {"commands": b"[" + b",".join(self.member.dump()) + b"]"}
+        commands = [line.removeprefix(b'{"at":1,"command":').removesuffix(b"}") for line in self.member.dump()]
+        return {"commands": b"[" + b",".join(commands) + b"]"}
 
     def read(self, sender):
         return {"number": b"%d" % self.member.read(sender)}

@@ -105,6 +105,18 @@ class MemberRefused(Refused):
         self.next = told if number in (_REPEAT, _GAP, _BAD_SERIAL) else None
 
 
+class MessageRefused(MemberRefused):
+    """A message of `Member.restore` was refused. `message` is its number, from 1 on."""
+
+    def __init__(self, message, number, told=None):
+        super().__init__(number, told)
+        self.args = (message, number, told)
+        self.message = message
+
+    def __str__(self):
+        return f"message {self.message} is refused: {super().__str__()}"
+
+
 class LineRefused(Exception):
     """A line of `Monitor.load` was refused or denied. `line` is its number, from 1 on, and `answer` the `CommandRefused` or the `Denial`."""
 
@@ -307,8 +319,8 @@ class Monitor(_Held):
 
     @classmethod
     def load(cls, founding, lines):
-        """The monitor that has applied each of these lines in order: a command, or a client line as `rbac_monitor dump` writes it. Where a
-        line is refused or denied, `LineRefused` says which, and the monitor is closed."""
+        """The monitor that has applied each of these lines in order, client lines or commands, as `apply` takes them. Where a line is refused
+        or denied, `LineRefused` says which, and the monitor is closed."""
         monitor = cls(founding)
         try:
             for number, line in enumerate(lines, 1):
@@ -320,27 +332,28 @@ class Monitor(_Held):
 
     def _load_line(self, number, line):
         try:
-            answer = self.apply(_command_of(line))
+            answer = self.apply(_bytes(line).removesuffix(b"\n"))
         except CommandRefused as refused:
             raise LineRefused(number, refused) from refused
         if isinstance(answer, Denial):
             raise LineRefused(number, answer)
 
     def apply(self, command):
-        """Applies a command, a dict or the text of a JSON object, and gives its answer: a `Denial`, which is false, or else what JSON has,
+        """Applies a command, a dict or the text of a JSON object, by itself or in a client line, whose member is of no concern, and gives its
+        answer: a `Denial`, which is false, or else what JSON has,
         which is true. An empty review is {"names": []} and no denial, and CheckAccess is answered "Refused", a text: `check` is to be asked
         whether."""
         answer = json.loads(self.apply_text(_bytes(command)))
         return Denial(answer["denied"], answer["number"]) if isinstance(answer, dict) and "denied" in answer else answer
 
     def apply_text(self, text):
-        """Applies the command of these bytes, and gives the bytes of its answer."""
+        """Applies the command of these bytes, a client line or a command by itself, and gives the bytes of its answer."""
         # Where the buffer is too short, the command was applied. Only its answer is asked for again.
         return self._text(CommandRefused, self._calls.policy_apply, text, len(text), again=self._calls.policy_answer)
 
     def dump(self):
-        """The commands that make this policy, as the texts of JSON objects. A monitor that was just founded with the same file answers
-        each of them Done in this order, and has the same policy then."""
+        """The client lines that make this policy, as `rbac_monitor dump` writes them. A monitor that was just founded with the same file
+        answers each of them Done in this order, and has the same policy then."""
         return self._text(CommandRefused, self._calls.policy_dump).splitlines()
 
     def check(self, session, operation, target):
@@ -378,11 +391,22 @@ class Member(_Held):
 
     @classmethod
     def restore(cls, founding, number, messages):
-        """The member that has taken these messages of its row, in order: all that it ever sent."""
+        """The member that has taken these messages of its row, in order: all that it ever sent. Where one is refused, `MessageRefused` says
+        which, and the member is closed."""
         member = cls(founding, number)
-        for place, message in enumerate(messages, 1):
-            member.take_own(place, message)
+        try:
+            for place, message in enumerate(messages, 1):
+                member._take_of_row(place, message)
+        except BaseException:
+            member.close()
+            raise
         return member
+
+    def _take_of_row(self, place, message):
+        try:
+            self.take_own(place, message)
+        except MemberRefused as refused:
+            raise MessageRefused(place, refused.number, refused.next) from refused
 
     def submit(self, caller, serial, command):
         """Submits a command as that of a caller, whose commands at this member have the serials 0, 1 and so on. Gives the number of the
@@ -428,7 +452,7 @@ class Member(_Held):
         return self._text(MemberRefused, self._calls.member_next_answer, sender, number, *_lent(message)) or None
 
     def dump(self):
-        """The commands that make the member's policy, as the texts of JSON objects."""
+        """The client lines that make the member's policy, as `Monitor.dump` gives them."""
         return self._text(MemberRefused, self._calls.member_dump).splitlines()
 
     def read(self, sender):
@@ -472,15 +496,6 @@ class Member(_Held):
 def _bytes(value):
     """The text of a value, unless it is one. It has no spaces, since a text may only be so long."""
     return value if isinstance(value, bytes) else (value if isinstance(value, str) else json.dumps(value, separators=(",", ":"))).encode()
-
-
-def _command_of(line):
-    """The command of a client line. Any other line is the command itself, or is refused as one."""
-    try:
-        value = json.loads(_bytes(line))
-    except (ValueError, RecursionError):
-        return line
-    return value["command"] if isinstance(value, dict) and value.keys() == {"at", "command"} else line
 
 
 def _lent(value):

@@ -23,6 +23,10 @@ class MemberRefused(Refused):
     next: int | None
     def __init__(self, number: int, told: int | None = ...) -> None: ...
 
+class MessageRefused(MemberRefused):
+    message: int
+    def __init__(self, message: int, number: int, told: int | None = ...) -> None: ...
+
 class LineRefused(Exception):
     line: int
     answer: CommandRefused | Denial

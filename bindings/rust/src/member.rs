@@ -198,7 +198,7 @@ impl Member {
         told.map(|text| Some(text).filter(|text| !text.is_empty()))
     }
 
-    /// The commands that make the member's policy, a JSON object a line.
+    /// The client lines that make the member's policy, as `Monitor::dump` tells them.
     pub fn dump(&mut self) -> Result<String, DumpError> {
         let place = &mut self.place;
         let dump = written_by(&mut self.text, |out, written| unsafe {

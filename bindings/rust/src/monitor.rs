@@ -55,7 +55,8 @@ impl Monitor {
         })
     }
 
-    /// Applies the command of a JSON object, and gives its answer's text, which is JSON. That a command is denied is an answer.
+    /// Applies the command of a JSON object, which is that command or a client line, whose member is of no concern, and gives its answer's
+    /// text, which is JSON. That a command is denied is an answer.
     pub fn apply(&mut self, command: &str) -> Result<&str, ApplyError> {
         let place = &mut self.place;
         let mut is_applied = false;
@@ -93,8 +94,8 @@ impl Monitor {
         })
     }
 
-    /// The commands that make this policy, a JSON object a line. A monitor that was just opened with the same founding answers each of
-    /// them `"Done"` in this order, and has the same policy then.
+    /// The client lines that make this policy, as `rbac_monitor dump` writes them. A monitor that was just opened with the same founding
+    /// answers each of them `"Done"` in this order, and has the same policy then.
     pub fn dump(&mut self) -> Result<String, DumpError> {
         let mut text = vec![0; 4096];
         let dump = written_by(&mut text, |out, written| unsafe {

@@ -91,7 +91,7 @@ impl Pool {
         free.or_else(waited).expect(FIRST_STAYS)
     }
 
-    /// The commands that make this policy, as [`Monitor::dump`] tells them.
+    /// The client lines that make this policy, as [`Monitor::dump`] tells them.
     pub fn dump(&self) -> Result<String, DumpError> {
         self.places[0].hold().as_mut().expect(FIRST_STAYS).dump()
     }

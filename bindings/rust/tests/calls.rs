@@ -100,14 +100,43 @@ fn a_dump_makes_the_policy_again() {
     assert_eq!(dump.lines().count(), 205);
     assert_eq!(
         dump.lines().next(),
-        Some(r#"{"name":"AddUser","user":"ann"}"#)
+        Some(r#"{"at":1,"command":{"name":"AddUser","user":"ann"}}"#)
     );
     let mut again = Monitor::open(format!("{HEAD}{LISTS}").as_bytes()).unwrap();
-    for command in dump.lines() {
-        assert_eq!(again.apply(command), Ok("\"Done\""));
+    for line in dump.lines() {
+        assert_eq!(again.apply(line), Ok("\"Done\""));
     }
     assert_eq!(again.dump().unwrap(), dump);
     assert_eq!(again.check("s1", "read", "ledger"), Ok(true));
+}
+
+#[test]
+fn a_dump_is_what_the_program_writes() {
+    let examples = concat!(env!("CARGO_MANIFEST_DIR"), "/../../examples");
+    let founding = std::fs::read(format!("{examples}/hospital.toml")).unwrap();
+    let dump = std::fs::read_to_string(format!("{examples}/hospital.dump.jsonl")).unwrap();
+    let mut monitor = Monitor::open(&founding).unwrap();
+    for line in dump.lines() {
+        assert_eq!(monitor.apply(line), Ok("\"Done\""));
+    }
+    assert_eq!(monitor.dump().unwrap(), dump);
+}
+
+#[test]
+fn a_client_line_is_applied_as_its_command() {
+    let mut monitor = clerk();
+    let denied = Ok(r#"{"denied":"UserExists","number":1}"#);
+    for text in [
+        r#"{"name":"AddUser","user":"ann"}"#,
+        r#"{"at":1,"command":{"name":"AddUser","user":"ann"}}"#,
+        r#"{"command":{"name":"AddUser","user":"ann"},"at":9}"#,
+    ] {
+        assert_eq!(monitor.apply(text), denied);
+    }
+    assert_eq!(
+        monitor.apply(r#"{"command":{"name":"AddUser","user":"ann"}}"#),
+        Err(ApplyError::MissingField)
+    );
 }
 
 #[test]

@@ -191,7 +191,11 @@ fn a_text_longer_than_the_buffer_is_whole() {
     assert_eq!(one.message(1).unwrap(), wanted);
     one.receive(2, 1, r#"{"stamp":[9,2]}"#).unwrap();
     while one.deliver().unwrap().is_some() {}
-    assert_eq!(one.dump().unwrap(), format!("{}\n", commands.join("\n")));
+    let line = |command: &String| format!("{{\"at\":1,\"command\":{command}}}\n");
+    assert_eq!(
+        one.dump().unwrap(),
+        commands.iter().map(line).collect::<String>()
+    );
 }
 
 #[test]

@@ -1,2 +1,1 @@
 mod NoEffect
-pub mod TextLemmas

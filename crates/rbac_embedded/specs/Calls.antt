@@ -9,7 +9,7 @@ use Rattle.rbac_terms.specs.declared.command.Command.{Command}
 use Rattle.rbac_terms.specs.declared.command.Command.TheVariants.{CheckAccess}
 use Rattle.rbac_text.specs.Steps.{◌>>=◌}
 use Rattle.rbac_founding.specs.FoundingFile.{founding_of, Reading as ReadingFile}
-use Rattle.rbac_text.specs.ReadCommand.{command}
+use Rattle.rbac_text.specs.Asked.{asked}
 use Rattle.rbac_text.specs.Fields.{Reading}
 use Rattle.rbac_text.specs.AnswerText.{answer_text}
 use Rattle.rbac_embedded.specs.Kept.{Kept}
@@ -24,13 +24,13 @@ founded file = do
 
 -- what a command leaves: its effect, and the text of its reply
 abbrev pub after : Command → Kept → Kept
-after asked kept = record { state = effect asked kept.state; answer = answer_text (reply asked kept.state) }
+after command kept = record { state = effect command kept.state; answer = answer_text (reply command kept.state) }
 
--- what the text of a command leaves, or why it is refused
+-- what a text leaves, a client line or a command by itself, or why it is refused
 abbrev pub applied : List ℕ → Kept → Reading Kept
 applied text kept = do
-  asked ← command text
-  Ok (after asked kept)
+  command ← asked text
+  Ok (after command kept)
 
 -- what the answer to CheckAccess tells
 abbrev pub told : Answer → Verdict

@@ -2,7 +2,7 @@
 use Rattle.std.specs.Prelude.{ℕ, ⊤, nat_le, if◌then◌else◌, Option, Some, None, List, ◌++◌, length, drop, Ok, Err}
 use Rattle.rbac_embedded.specs.Kept.{Kept}
 use Rattle.rbac_embedded.specs.Calls.{applied, founded, verdict}
-use Rattle.rbac_embedded.specs.Dump.{dump_text, IsReadBack}
+use Rattle.rbac_dump.specs.DumpText.{dump_text, IsReadBack}
 use Rattle.rbac_founding.specs.FoundingFile.{Reading as ReadingFile}
 use Rattle.rbac_text.specs.Fields.{Reading}
 use Rattle.rbac_embedded.specs.declared.status.Status.{Status}
@@ -107,7 +107,7 @@ abbrev pub dump_length : Option Kept → ℕ
 dump_length None = 0
 dump_length (Some kept) = length (dump_text kept.state)
 
--- the lines of a dump read as just its commands
+-- the lines of a dump are read as just its commands
 abbrev pub IsDumpRead : Option Kept → Type 0
 IsDumpRead None = ⊤
 IsDumpRead (Some kept) = IsReadBack kept.state

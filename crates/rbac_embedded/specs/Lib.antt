@@ -1,5 +1,4 @@
 pub mod Kept
 pub mod Calls
-pub mod Dump
 pub mod Status
 pub mod Holding

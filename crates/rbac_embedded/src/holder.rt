@@ -71,7 +71,7 @@ impl Holder {
         }
     }
 
-    /// Applies the command that a text stands for, and puts its answer's text into the buffer, where that has room for all of it. Its
+    /// Applies the command that a text asks for, and puts its answer's text into the buffer, where that has room for all of it. Its
     /// length is written in each case. Where the buffer is too short, the command was applied nevertheless, once, and `answer` gives the
     /// text.
     pub fn apply(
@@ -122,7 +122,7 @@ impl Holder {
         }
     }
 
-    /// The commands that make the policy again, as `apply` puts a text, each in a line that reads as just that command. Changes nothing.
+    /// The lines that make the policy again, as `apply` puts a text: it reads them as just the commands of the dump. Changes nothing.
     pub fn dump(&self, alloc: Global, out: &mut [u8], written: &mut usize) -> Status
         ensures told { status_number result ≢ no_memory → result ≡ dump_status out.old self.now }
         ensures buffer { status_number result ≢ no_memory → out.new ≡ dump_buffer out.old self.now }

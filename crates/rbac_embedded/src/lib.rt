@@ -2,13 +2,11 @@
 #![tactic(auto)]
 
 pub mod buffer;
-mod dumping;
 mod holder;
 mod monitor;
 pub mod status;
 pub mod verdict;
 
-pub use dumping::dump_lines;
 pub use holder::Holder;
 pub use monitor::Monitor;
 pub use status::Status;

@@ -4,15 +4,15 @@ ghost use Rattle.sorted_keys.specs.Keys.{has};
 ghost use Rattle.rbac_terms.specs.Name.{pair_cmp};
 ghost use Rattle.rbac_terms.specs.Reviews.{session_permissions};
 ghost use Rattle.rbac_text.specs.AnswerText.{answer_text};
+ghost use Rattle.rbac_dump.specs.DumpText.{dump_text, IsReadBack};
 ghost use Rattle.rbac_embedded.specs.Calls.{after, applied, founded, verdict};
-ghost use Rattle.rbac_embedded.specs.Dump.{dump_text, IsReadBack};
 
-use crate::dumping::dump_lines;
 use crate::verdict::{Verdict, check};
 use rbac_decide::Policy;
+use rbac_dump::dump_lines;
 use rbac_founding::{FoundingRefusal, read_founding};
 use rbac_terms::{Answer, Command};
-use rbac_text::{LineRefusal, put_answer, read_command};
+use rbac_text::{LineRefusal, put_answer, read_asked};
 use std::alloc::{AllocError, Global};
 use std::marker::Model;
 
@@ -72,8 +72,8 @@ impl Monitor {
         Ok(())
     }
 
-    /// Applies the command that a text stands for, and keeps the text of its answer. A command that is denied is applied too: it changes
-    /// nothing, and its answer is the denial.
+    /// Applies the command that a text asks for, a client line or a command by itself, and keeps the text of its answer. A command that is
+    /// denied is applied too: it changes nothing, and its answer is the denial.
     ///
     /// # Errors
     /// Why the text is refused, and `NoMemory` where memory ends. Nothing has changed then, the last answer's text neither.
@@ -82,7 +82,7 @@ impl Monitor {
         ensures first_refusal { IfErr result (λ refusal. refusal ≢ LineRefusal.NoMemory → applied text.now self.old ≡ Err refusal) }
         ensures unchanged { OnErr result (self.new ≡ self.old) }
     {
-        let command = read_command(alloc, text)?;
+        let command = read_asked(alloc, text)?;
         let answered = self.answer_command(alloc, &command);
         drop(command);
         match answered {
@@ -99,8 +99,8 @@ impl Monitor {
         check(&self.policy, session, operation, object)
     }
 
-    /// The commands of the policy's dump, each as a JSON object in a line, which reads as just that command. A policy that was just founded
-    /// with its vocabulary answers each of them Done in this order, and they leave this very state (`commands_of`).
+    /// The lines of the policy's dump, which `apply` reads as just the dump's commands. A policy that was just founded with its vocabulary
+    /// answers each of them Done in this order, and they leave this very state (`dump_lines`).
     ///
     /// # Errors
     /// `AllocError` where there is no memory for them.

@@ -11,7 +11,7 @@ use Rattle.rbac_words.specs.declared.message.Message.TheVariants.{Ack}
 use Rattle.rbac_words.specs.declared.stamp.Stamp.{Stamp}
 use Rattle.rbac_text.specs.ReadCommand.{command}
 use Rattle.rbac_text.specs.Fields.{Reading}
-use Rattle.rbac_embedded.specs.Dump.{dump_text}
+use Rattle.rbac_dump.specs.DumpText.{dump_text}
 use Rattle.rbac_embedded.specs.declared.status.Status.TheVariants.{BadCommand}
 use Rattle.rbac_message_text.specs.MessageText.{longest_message, message_text}
 use Rattle.rbac_message_text.specs.Message.{message_read, commands_read}

@@ -295,7 +295,7 @@ impl MemberHolder {
         tell_text(texts::record_at(alloc, member, number), out, written)
     }
 
-    /// The commands that make the member's policy, each in a line.
+    /// The client lines that make the member's policy.
     pub fn dump(&self, alloc: Global, out: &mut [u8], written: &mut usize) -> MemberStatus
         ensures told { status_number result ≢ no_memory → result ≡ text_status (asked (policy_dump) self.now) out.old }
         ensures buffer { status_number result ≢ no_memory → out.new ≡ text_buffer (asked (policy_dump) self.now) out.old }

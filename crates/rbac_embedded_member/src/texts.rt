@@ -11,7 +11,8 @@ ghost use Rattle.rbac_embedded_member.specs.Texts.{answer_text, batch_told, item
 
 use crate::status::MemberStatus;
 use crate::steps::refused;
-use rbac_embedded::{Status, dump_lines};
+use rbac_dump::dump_lines;
+use rbac_embedded::Status;
 use rbac_member::{Member, Record};
 use rbac_message_text::{put_message, put_record};
 use rbac_words::{Commands, Message, Refusal, Stamp};

@@ -3,7 +3,7 @@ use Rattle.std.proofs.Common.{◌≡◌, ◌<◌, ℕ, List, length, Err, refl}
 use Rattle.line_engine.specs.Lines.{clip, longest_line}
 use Rattle.rbac_founding.proofs.LongLemmas.{front_value}
 use Rattle.rbac_text.proofs.ValueLemmas.{value_of_long}
-use Rattle.rbac_lines.specs.Client.{client}
+use Rattle.rbac_text.specs.Client.{client}
 use Rattle.rbac_lines.specs.Event.{event}
 use Rattle.rbac_text.specs.declared.refusal.LineRefusal.TheVariants.{TooLong}
 

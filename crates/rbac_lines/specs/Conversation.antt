@@ -4,7 +4,7 @@ use Rattle.line_engine.specs.Runs.{TakesAll}
 use Rattle.rbac_terms.specs.declared.command.Command.{Command}
 use Rattle.rbac_lines.specs.declared.refusal.DeskRefusal.TheVariants.{NoMemory}
 use Rattle.rbac_text.specs.Fields.{Reading}
-use Rattle.rbac_lines.specs.Client.{client}
+use Rattle.rbac_text.specs.Client.{client}
 use Rattle.rbac_lines.specs.Text.{Reply, reply_text, line_refusal_text}
 
 -- what a desk tells: the desk before, the member and the command that it was asked for, its reply, the desk after

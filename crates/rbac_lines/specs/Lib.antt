@@ -1,4 +1,3 @@
-pub mod Client
 pub mod Conversation
 pub mod Event
 pub mod Text

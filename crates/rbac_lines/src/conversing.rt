@@ -8,11 +8,11 @@ ghost use Rattle.rbac_lines.specs.Output.{most_reads};
 ghost use Rattle.rbac_lines.specs.Conversation.{Answers, AnswersLine, Conversation};
 
 use crate::desk::Desk;
-use crate::reading::read_client;
 use crate::refusal::DeskRefusal;
 use crate::running::MOST_READS;
 use crate::text::{put_reply, refuse};
 use line_engine::{RunFault, Summary, Taking, Watched, run_lines};
+use rbac_text::read_client;
 use rbac_words::{Answer, Command};
 use std::alloc::{AllocError, Global};
 use std::io::{Read, Write};

@@ -6,7 +6,7 @@ ghost use Rattle.rbac_lines.specs.Event.{event, event_of, submit, batch, receive
 
 mod client;
 
-pub use client::{kept_line_asks_the_same, read_client};
+pub use client::kept_line_asks_the_same;
 use rbac_text::LineRefusal;
 use rbac_text::reading::fields::{Object, object_in, objects_in, only_keys, text_in, whole_in};
 use rbac_text::reading::{command_of, commands_of, value_of};

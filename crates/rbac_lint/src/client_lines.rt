@@ -1,7 +1,7 @@
 //! What is wrong with client lines, and the policy that they leave.
 ghost use Rattle.std.specs.Prelude.{◌≡◌, [], IfOk, IfSome, IsOk, OnOk};
 ghost use Rattle.line_engine.specs.Lines.{lines};
-ghost use Rattle.rbac_lines.specs.Client.{client};
+ghost use Rattle.rbac_text.specs.Client.{client};
 ghost use Rattle.rbac_lint.specs.Clean.{AreRead};
 
 use crate::finding::{Finding, Place, fault, findings_text};
@@ -84,7 +84,7 @@ impl Taking for ClientLinting {
     type Over = ClientLines;
 
     ghost use Rattle.std.specs.Prelude.{⊤};
-    ghost use Rattle.rbac_lines.specs.Client.{client};
+    ghost use Rattle.rbac_text.specs.Client.{client};
     ghost use Rattle.rbac_lint.specs.Clean.{LintsBy};
 
     ghost State = { ⊤ };

@@ -13,7 +13,8 @@ use Rattle.sorted_keys.specs.Keys.{has, with_key}
 use Rattle.sorted_keys.proofs.Members.{has-with_key}
 use Rattle.rbac_terms.specs.declared.command.Command.{Command}
 use Rattle.rbac_terms.proofs.NameLemmas.{names_total}
-use Rattle.rbac_pages.specs.DifferenceText.{asking_line, is_line_of, line_cmp, marked_text, only_in}
+use Rattle.rbac_text.specs.Lines.{asking_line}
+use Rattle.rbac_pages.specs.DifferenceText.{is_line_of, line_cmp, marked_text, only_in}
 
 -- ---- The set of lines
 

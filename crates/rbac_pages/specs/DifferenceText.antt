@@ -7,11 +7,7 @@ use Rattle.std.specs.declared.cmp.Ordering.{Ordering}
 use Rattle.rbac_terms.specs.State.{State}
 use Rattle.rbac_terms.specs.declared.command.Command.{Command}
 use Rattle.rbac_dump.specs.Dump.{dump_of}
-use Rattle.rbac_pages.specs.DumpText.{asking, room}
-
--- the line of a command, with its line feed
-abbrev pub asking_line : Command → List ℕ
-asking_line command = asking command ++ codes "\n"
+use Rattle.rbac_text.specs.Lines.{asking_line, room}
 
 -- lines are ordered by bytes
 abbrev pub line_cmp : List ℕ → List ℕ → Ordering

@@ -1,6 +1,5 @@
 pub mod DiagramText
 pub mod DifferenceText
-pub mod DumpText
 pub mod GraphText
 pub mod PageText
 pub mod RefusedText

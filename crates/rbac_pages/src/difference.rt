@@ -1,13 +1,14 @@
 //! What one policy has that another has not, as lines of their dumps.
 ghost use Rattle.std.specs.Prelude.{◌≡◌, ◌++◌, List, ℕ, codes, IfOk, OnOk};
 ghost use Rattle.sorted_keys.specs.Keys.{has};
-ghost use Rattle.rbac_pages.specs.DifferenceText.{asking_line, line_cmp, is_line_of, only_in, marked_text, difference_text};
+ghost use Rattle.rbac_text.specs.Lines.{asking_line};
+ghost use Rattle.rbac_pages.specs.DifferenceText.{line_cmp, is_line_of, only_in, marked_text, difference_text};
 
-use crate::dump_text::{COMMAND_ROOM, client_lines};
 use crate::text::{Teller, put_all};
 use rbac_decide::Policy;
 use rbac_dump::commands_of;
 use rbac_terms::Command;
+use rbac_text::{COMMAND_ROOM, client_lines};
 use std::alloc::{AllocError, Global};
 use std::collections::BTreeSet;
 use std::marker::Model;
@@ -65,7 +66,8 @@ struct OnlyTeller<'m> {
 impl Teller<Command, u8> for OnlyTeller<'_> {
     ghost use Rattle.std.specs.Prelude.{[], ◌++◌, if◌then◌else◌};
     ghost use Rattle.sorted_keys.specs.Keys.{has};
-    ghost use Rattle.rbac_pages.specs.DifferenceText.{asking_line, line_cmp};
+    ghost use Rattle.rbac_text.specs.Lines.{asking_line};
+    ghost use Rattle.rbac_pages.specs.DifferenceText.{line_cmp};
 
     ghost told_of = { λ teller command. if has line_cmp (asking_line command) teller.others then [] else teller.mark.now ++ asking_line command };
 

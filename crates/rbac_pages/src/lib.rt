@@ -4,7 +4,6 @@
 
 mod diagram;
 mod difference;
-mod dump_text;
 mod explanation;
 mod grantees;
 mod granting;
@@ -18,7 +17,6 @@ mod trace;
 
 pub use diagram::Diagram;
 pub use difference::difference_lines;
-pub use dump_text::{COMMAND_ROOM, client_lines, dump_lines};
 pub use explanation::{Explanation, Verdict};
 pub use grantees::who;
 pub use granting::why;

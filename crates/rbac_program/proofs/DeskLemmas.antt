@@ -10,7 +10,7 @@ use Rattle.rbac_lines.specs.Conversation.{Asks, Answers, AnswersLine, Conversati
 use Rattle.std.specs.Io.KnownBytes.{Appends}
 use Rattle.line_engine.specs.Lines.{clip, lines}
 use Rattle.line_engine.specs.Runs.{TakesAll}
-use Rattle.rbac_lines.specs.Client.{client}
+use Rattle.rbac_text.specs.Client.{client}
 use Rattle.rbac_program.specs.Serving.{Told, PassOf, AsksPasses}
 
 -- a pass that was found and told so

@@ -5,7 +5,7 @@ use Rattle.rbac_terms.specs.Effect.{reply}
 use Rattle.rbac_terms.specs.declared.command.Command.{Command}
 use Rattle.rbac_terms.specs.declared.command.Command.TheVariants.{CheckAccess}
 use Rattle.rbac_text.specs.ReadCommand.{command}
-use Rattle.rbac_pages.specs.DumpText.{dump_text}
+use Rattle.rbac_dump.specs.DumpText.{dump_text}
 use Rattle.rbac_pages.specs.GranteeText.{TellsWho}
 use Rattle.rbac_pages.specs.GraphText.{graph_text}
 use Rattle.rbac_pages.specs.PageText.{page_text}

@@ -5,7 +5,7 @@ use Rattle.line_engine.specs.Output.{Taker, state_after, refused_count}
 use Rattle.rbac_terms.specs.State.{State}
 use Rattle.rbac_terms.specs.Effect.{effect}
 use Rattle.rbac_terms.specs.declared.command.Command.{Command}
-use Rattle.rbac_lines.specs.Client.{client}
+use Rattle.rbac_text.specs.Client.{client}
 use Rattle.rbac_text.specs.Fields.{Reading}
 use Rattle.rbac_lines.specs.Text.{refused_text, line_refusal_text}
 

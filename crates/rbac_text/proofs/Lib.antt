@@ -11,3 +11,6 @@ pub mod OneLine
 pub mod ReadBack
 pub mod LineLemmas
 pub mod CutLines
+pub mod AskingLemmas
+pub mod AskedLines
+pub mod AskedCommands

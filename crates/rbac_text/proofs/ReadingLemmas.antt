@@ -9,6 +9,11 @@ pub seen-ok_or : {V T E : Type 0} (view_of : V → T) (found : Option V) (refusa
 seen-ok_or view_of None refusal = refl
 seen-ok_or view_of (Some value) refusal = refl
 
+-- a view of what may be there is there where that is
+pub is_some-map : {V T : Type 0} (view_of : V → T) (found : Option V) → is_some found ≡ is_some (option_map view_of found)
+is_some-map view_of None = refl
+is_some-map view_of (Some value) = refl
+
 -- a test of each image
 pub list_any-map : {X Y : Type 0} (p : X → Bool) (f : Y → X) (ys : List Y) → list_any p (map f ys) ≡ list_any (λ y. p (f y)) ys
 list_any-map p f [] = refl

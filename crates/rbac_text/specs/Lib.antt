@@ -6,6 +6,8 @@ pub mod Value
 pub mod Command
 pub mod CommandArray
 pub mod ReadCommand
+pub mod Client
+pub mod Asked
 pub mod Pieces
 pub mod AnswerText
 pub mod CommandText

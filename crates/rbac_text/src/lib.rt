@@ -13,8 +13,8 @@ mod refusal;
 mod writing;
 
 pub use answer::put_answer;
-pub use law::written_command_is_read;
-pub use lines::put_lines;
-pub use reading::read_command;
+pub use law::{what_is_read_is_asked, written_command_is_read};
+pub use lines::{COMMAND_ROOM, client_lines};
+pub use reading::{read_asked, read_client, read_command};
 pub use refusal::LineRefusal;
 pub use writing::{command_word, put_command, put_commands};

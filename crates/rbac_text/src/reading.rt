@@ -3,12 +3,16 @@ ghost use Rattle.std.specs.Prelude.{◌≡◌, ◌≢◌, IfOk, IfErr, Ok, Err};
 ghost use Rattle.serde_json.specs.View.{view};
 ghost use Rattle.rbac_text.specs.Value.{value_of, value_within};
 
+mod asked;
+mod client;
 mod command_array;
 mod command_text;
 mod commands;
 pub mod fields;
 
 use crate::refusal::LineRefusal;
+pub use asked::read_asked;
+pub use client::read_client;
 pub use command_array::commands_of;
 pub use command_text::read_command;
 pub use commands::command_of;

@@ -41,7 +41,8 @@ impl Library {
         let mut output = Vec::new();
         for (place, line) in case.lines().into_iter().enumerate() {
             let number = place + 1;
-            let told = text_of(line).map_or(Err("no command".to_owned()), |text| self.ask(&mut monitor, text));
+            let told = text_of(line)
+                .map_or(Err("no command".to_owned()), |text| self.ask(&mut monitor, asked_by(place, line, text), text));
             let written = match told {
                 Ok(answer) => writeln!(output, "{{\"answer\":{answer},\"line\":{number}}}"),
                 Err(refusal) => writeln!(output, "{{\"line\":{number},\"refused\":\"{refusal}\"}}"),
@@ -54,10 +55,10 @@ impl Library {
         Played::new(0, output, String::new())
     }
 
-    /// The answer's text, or why the text is no command. A check that the other call answers otherwise shows both.
-    fn ask(&self, monitor: &mut Monitor, text: &str) -> Result<String, String> {
+    /// The answer's text, or why what is asked is no command. A check that the other call answers otherwise shows both.
+    fn ask(&self, monitor: &mut Monitor, asked: &str, text: &str) -> Result<String, String> {
         self.commands.set(self.commands.get() + 1);
-        let answer = monitor.apply(text).map_err(|refusal| format!("{refusal:?}"))?.to_owned();
+        let answer = monitor.apply(asked).map_err(|refusal| format!("{refusal:?}"))?.to_owned();
         let Some([session, operation, object]) = checked_words(text) else {
             return Ok(answer);
         };
@@ -67,14 +68,19 @@ impl Library {
     }
 }
 
-/// The commands that the policy tells make it again: each is answered Done, and then the other policy tells the same.
+/// Each second line is asked whole, and of the others the command alone.
+fn asked_by<'l>(place: usize, line: &'l [u8], text: &'l str) -> &'l str {
+    str::from_utf8(line).ok().filter(|_| place % 2 == 0).unwrap_or(text)
+}
+
+/// The lines that the policy tells make it again: each is answered Done, and then the other policy tells the same.
 fn remade(monitor: &mut Monitor, founding: &[u8]) -> Result<(), String> {
     let text = monitor.dump().map_err(|error| error.to_string())?;
     let mut again = Monitor::open(founding).map_err(|error| error.to_string())?;
-    for command in text.lines() {
-        match again.apply(command) {
+    for line in text.lines() {
+        match again.apply(line) {
             Ok("\"Done\"") => {}
-            other => return Err(format!("a dump has {command}, which is answered {other:?}")),
+            other => return Err(format!("a dump has {line}, which is answered {other:?}")),
         }
     }
     let told = again.dump().map_err(|error| error.to_string())?;

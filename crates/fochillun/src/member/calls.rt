@@ -281,7 +281,7 @@ pub extern "C" fn member_next_answer(
     status.number()
 }
 
-/// Puts the commands that make the member's policy into the buffer, each in a line.
+/// Puts the client lines that make the member's policy into the buffer.
 #[unsafe(no_mangle)]
 pub extern "C" fn member_dump(
     place: &mut MemberPlace,

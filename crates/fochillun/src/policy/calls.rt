@@ -20,7 +20,7 @@ pub extern "C" fn policy_open(place: &mut PolicyPlace, alloc: Global, founding: 
     status.number()
 }
 
-/// Applies the command of a JSON object, and puts its answer's text into the buffer.
+/// Applies the command that a text asks for, a client line or a command by itself, and puts its answer's text into the buffer.
 #[unsafe(no_mangle)]
 pub extern "C" fn policy_apply(
     place: &mut PolicyPlace,
@@ -80,7 +80,7 @@ pub extern "C" fn policy_check(
     status.number()
 }
 
-/// Puts the commands that make the policy again into the buffer, each in a line that reads as just that command.
+/// Puts the client lines that make the policy again into the buffer, which an apply reads as just the dump's commands.
 #[unsafe(no_mangle)]
 pub extern "C" fn policy_dump(
     place: &mut PolicyPlace,

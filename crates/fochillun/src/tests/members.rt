@@ -220,7 +220,7 @@ fn two_members_bring_each_other_their_messages(rt: HostRuntime) {
         &rt,
         alloc,
         &mut second,
-        b"{\"name\":\"AddUser\",\"user\":\"ann\"}\n",
+        b"{\"at\":1,\"command\":{\"name\":\"AddUser\",\"user\":\"ann\"}}\n",
     );
     expect_told(&rt, check(alloc, &mut first, b"read"), (10, 1));
     expect_told(&rt, check(alloc, &mut first, b""), (52, 1));

@@ -1,6 +1,8 @@
 //! The calls of another language on a policy.
 
-use super::clerk::{ADD_ANN, CHECKS, DONE, FOUNDING, OTHERS, REFUSED_COMMANDS, REFUSED_FOUNDINGS};
+use super::clerk::{
+    ADD_ANN, CHECKS, DONE, FOUNDING, LINES, OTHERS, REFUSED_COMMANDS, REFUSED_FOUNDINGS,
+};
 use crate::policy::calls::{
     policy_answer, policy_apply, policy_check, policy_close, policy_dump, policy_open,
 };
@@ -159,11 +161,12 @@ fn no_buffer_at_all_has_the_command_applied(rt: HostRuntime) {
     expect_end(&rt, rt.alloc(), place);
 }
 
-const DUMP: &[u8] = br#"{"name":"AddUser","user":"ann"}
-{"name":"AddRole","role":"clerk"}
-{"name":"AssignUser","user":"ann","role":"clerk"}
-{"name":"GrantPermission","operation":"read","object":"ledger","role":"clerk"}
-{"name":"CreateSession","user":"ann","session":"s1","roles":["clerk"]}
+/// What `rbac_monitor dump` writes of this policy too.
+const DUMP: &[u8] = br#"{"at":1,"command":{"name":"AddUser","user":"ann"}}
+{"at":1,"command":{"name":"AddRole","role":"clerk"}}
+{"at":1,"command":{"name":"AssignUser","user":"ann","role":"clerk"}}
+{"at":1,"command":{"name":"GrantPermission","operation":"read","object":"ledger","role":"clerk"}}
+{"at":1,"command":{"name":"CreateSession","user":"ann","session":"s1","roles":["clerk"]}}
 "#;
 
 /// The dump, in a buffer of so many bytes.
@@ -193,6 +196,38 @@ fn a_dump_is_the_commands_of_the_policy(rt: HostRuntime) {
     expect_dump(&rt, rt.alloc(), &mut place, 400, 0, DUMP, DUMP.len());
     expect_dump(&rt, rt.alloc(), &mut place, 9, 42, b"", DUMP.len());
     expect_again(&rt, rt.alloc(), &mut place, 9, 0, DONE, 6);
+    expect_end(&rt, rt.alloc(), place);
+}
+
+fn expect_client_lines(rt: &impl Abort, alloc: Global, place: &mut PolicyPlace) {
+    for line in LINES {
+        expect_answer(rt, alloc, place, line, 0, DONE);
+    }
+}
+
+#[test]
+fn client_lines_are_applied_as_their_commands(rt: HostRuntime) {
+    let mut place = PolicyPlace::empty();
+    expect_open(&rt, rt.alloc(), &mut place, FOUNDING, 0);
+    expect_client_lines(&rt, rt.alloc(), &mut place);
+    expect_dump(&rt, rt.alloc(), &mut place, 400, 0, DUMP, DUMP.len());
+    expect_end(&rt, rt.alloc(), place);
+}
+
+fn expect_dump_lines(rt: &impl Abort, alloc: Global, place: &mut PolicyPlace) {
+    for line in DUMP.split(|byte| *byte == b'\n') {
+        if !line.is_empty() {
+            expect_answer(rt, alloc, place, line, 0, DONE);
+        }
+    }
+}
+
+#[test]
+fn a_dump_is_applied_line_by_line(rt: HostRuntime) {
+    let mut place = PolicyPlace::empty();
+    expect_open(&rt, rt.alloc(), &mut place, FOUNDING, 0);
+    expect_dump_lines(&rt, rt.alloc(), &mut place);
+    expect_dump(&rt, rt.alloc(), &mut place, 400, 0, DUMP, DUMP.len());
     expect_end(&rt, rt.alloc(), place);
 }
 

@@ -197,10 +197,10 @@ fn sends_and_delivers_by_calls(rt: HostRuntime) {
         status,
         &out,
         written,
-        b"{\"name\":\"AddUser\",\"user\":\"ann\"}\n",
+        b"{\"at\":1,\"command\":{\"name\":\"AddUser\",\"user\":\"ann\"}}\n",
     );
     let status = holder.dump(alloc, &mut [0; 5], &mut written);
-    assert_eq!(rt; (status.number(), written), (42, 32));
+    assert_eq!(rt; (status.number(), written), (42, 51));
     assert_eq!(rt; holder.close(), DONE);
 }
 

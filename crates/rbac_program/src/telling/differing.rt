@@ -2,7 +2,7 @@
 
 ghost use Rattle.std.specs.Prelude.{◌≡◌, true, false, IfOk};
 ghost use Rattle.rbac_pages.specs.DifferenceText.{difference_text};
-ghost use Rattle.rbac_pages.specs.DumpText.{lines_text};
+ghost use Rattle.rbac_text.specs.Lines.{lines_text};
 ghost use Rattle.rbac_program.specs.Differing.{HasWay};
 
 use crate::fault::Fault;
@@ -11,9 +11,10 @@ use crate::telling::lines::{serve, served_of, write_whole};
 use crate::words::Difference;
 use rbac_decide::Policy;
 use rbac_lines::RunFault;
-use rbac_pages::{COMMAND_ROOM, client_lines, difference_lines};
+use rbac_pages::difference_lines;
 use rbac_telling::{LeadingRefusal, Served, commands_between};
 use rbac_terms::Command;
+use rbac_text::{COMMAND_ROOM, client_lines};
 use std::alloc::Global;
 use std::fs;
 use std::io::Write;

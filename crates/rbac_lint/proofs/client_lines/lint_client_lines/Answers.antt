@@ -2,7 +2,7 @@ use Rattle.std.proofs.Common.{◌≡◌, IfOk, IfSome, subst}
 use Rattle.line_engine.specs.Lines.{lines}
 use Rattle.rbac_lines.proofs.EventLemmas.{client_clip}
 use Rattle.rbac_lines.proofs.RunLemmas.{whole_taking}
-use Rattle.rbac_lines.specs.Client.{client}
+use Rattle.rbac_text.specs.Client.{client}
 use Rattle.rbac_lint.specs.Clean.{AreRead}
 use Rattle.rbac_lint.proofs.CleanLemmas.{all_read}
 use Rattle.rbac_lint.proofs.client_lines.lint_client_lines.Goals as goal

@@ -1,6 +1,5 @@
 use Rattle.std.proofs.Common.{◌∙◌, ap, append-nil}
-use Rattle.rbac_pages.specs.DifferenceText.{asking_line}
-use Rattle.rbac_pages.specs.DumpText.{lines_text}
+use Rattle.rbac_text.specs.Lines.{asking_line, lines_text}
 use Rattle.rbac_pages.proofs.difference.line_of.Goals as goal
 
 pub returns : goal.returns

@@ -1,12 +1,12 @@
 use Rattle.std.proofs.Common.{◌≡◌, ◌≤◌, ◌∙◌, map, length, subst, arith, IfOk, Ok, sym}
 use Rattle.std.specs.List.{AllByRecursion as Each}
 use Rattle.line_engine.specs.Lines.{lines}
-use Rattle.rbac_lines.specs.Client.{client}
 use Rattle.rbac_dump.specs.Dump.{dump_of}
-use Rattle.rbac_pages.specs.DumpText.{room}
+use Rattle.rbac_text.specs.Client.{client}
+use Rattle.rbac_text.specs.Lines.{room}
 use Rattle.rbac_text.specs.Command.{command_fields}
 use Rattle.rbac_text.specs.CommandText.{command_text, AreFields}
-use Rattle.rbac_pages.proofs.dump_text.dump_lines.Goals as goal
+use Rattle.rbac_dump.proofs.dump_text.dump_lines.Goals as goal
 
 pub returns-clause-asks : goal.returns-clause-asks
 returns-clause-asks c =

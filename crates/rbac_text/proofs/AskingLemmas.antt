@@ -16,13 +16,13 @@ use Rattle.rbac_text.specs.Steps.{◌>>=◌}
 use Rattle.rbac_text.specs.declared.refusal.LineRefusal.TheVariants.{NotObject}
 use Rattle.rbac_text.specs.Fields.{Reading}
 use Rattle.rbac_text.proofs.ValueLemmas.{value_of_json}
-use Rattle.rbac_lines.specs.Client.{client, client_of}
+use Rattle.rbac_text.specs.Client.{client, client_of}
 use Rattle.rbac_text.specs.Command.{command_fields}
 use Rattle.rbac_text.specs.CommandText.{command_text, AreFields}
 use Rattle.rbac_text.specs.CommandObject.{command_object}
 use Rattle.rbac_text.proofs.ObjectLemmas.{command_json, command_printed, command_numbered, command_flat, command_data, json_read}
 use Rattle.rbac_text.proofs.OneLine.{IsOneLine, one_line-append, one_line-known, one_line-command}
-use Rattle.rbac_pages.specs.DumpText.{asking, IsAsked}
+use Rattle.rbac_text.specs.Lines.{asking, IsAsked}
 use Rattle.rbac_text.proofs.CommandBack.{command_back}
 
 -- ---- It is one line
