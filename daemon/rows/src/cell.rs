@@ -1,5 +1,6 @@
 //! What a cell of a row says: one line of JSON.
 use crate::name::RowName;
+use bytes::Bytes;
 use serde::{Deserialize, Serialize};
 use serde_json::value::RawValue;
 use sha2::{Digest, Sha256};
@@ -40,11 +41,32 @@ pub struct Cell {
     pub writer: String,
     /// Up to which message the rows of members 1, 2 and so on were taken.
     pub taken: Vec<u64>,
-    /// The identities of the calls whose commands the message has, in their order; none for a call without one.
+    /// The calls whose commands the message has, in their order.
     #[serde(default, skip_serializing_if = "Vec::is_empty")]
-    pub calls: Vec<Option<String>>,
+    pub calls: Vec<Call>,
     /// The message, by its text.
     pub message: Box<RawValue>,
+}
+
+/// A call of a caller, whose commands stand together in one message.
+#[derive(Clone, Debug, PartialEq, Eq, Serialize, Deserialize)]
+#[serde(deny_unknown_fields)]
+pub struct Call {
+    /// How many commands it has.
+    pub commands: usize,
+    /// By what it can be asked again.
+    #[serde(default, skip_serializing_if = "Option::is_none")]
+    pub identity: Option<Identity>,
+}
+
+/// By what a call can be asked again, in its generation, at its member: there no two calls have the same one.
+#[derive(Clone, Debug, PartialEq, Eq, Hash, Serialize, Deserialize)]
+#[serde(deny_unknown_fields)]
+pub struct Identity {
+    /// Who asked, as the process knows its callers.
+    pub caller: String,
+    /// What the caller named the call.
+    pub id: String,
 }
 
 /// The hash of a cell's text: SHA-256, in hexadecimal.
@@ -116,6 +138,27 @@ impl Chain {
         &self.before
     }
 
+    /// The next cell, with a message of the member.
+    pub fn cell(
+        &self,
+        writer: &str,
+        taken: Vec<u64>,
+        calls: Vec<Call>,
+        message: Box<RawValue>,
+    ) -> Cell {
+        Cell {
+            version: VERSION,
+            generation: self.generation,
+            member: self.member,
+            number: self.next,
+            before: self.before.clone(),
+            writer: writer.to_owned(),
+            taken,
+            calls,
+            message,
+        }
+    }
+
     /// Takes the text of the next cell.
     ///
     /// # Errors
@@ -126,9 +169,22 @@ impl Chain {
             number: self.next,
             why,
         })?;
+        self.follow(text);
+        Ok(cell)
+    }
+
+    /// Takes the texts of the next cells, in order.
+    ///
+    /// # Errors
+    /// Where one is not what it has to be. Those before it were taken then.
+    pub fn take_all(&mut self, texts: &[Bytes]) -> Result<Vec<Cell>, Lost> {
+        texts.iter().map(|text| self.take(text)).collect()
+    }
+
+    /// Goes on behind a cell that [`Chain::cell`] has made of it, by its text.
+    pub fn follow(&mut self, text: &[u8]) {
         self.before = hash_of(text);
         self.next += 1;
-        Ok(cell)
     }
 
     fn read(&self, text: &[u8]) -> Result<Cell, Why> {
@@ -150,7 +206,7 @@ impl Chain {
 
 #[cfg(test)]
 mod tests {
-    use super::{hash_of, Cell, Chain, Why, VERSION};
+    use super::{hash_of, Cell, Chain, Why};
     use crate::name::RowName;
     use serde_json::value::RawValue;
 
@@ -160,18 +216,9 @@ mod tests {
         Chain::of(RowName::of_node("n2", 1).unwrap(), 1, 2, FOUNDING)
     }
 
-    fn cell(number: u64, before: &str) -> Cell {
-        Cell {
-            version: VERSION,
-            generation: 1,
-            member: 2,
-            number,
-            before: before.to_owned(),
-            writer: "w".to_owned(),
-            taken: vec![0, 0],
-            calls: Vec::new(),
-            message: RawValue::from_string(r#"{"stamp":[1,2]}"#.to_owned()).unwrap(),
-        }
+    fn next_cell(chain: &Chain) -> Cell {
+        let message = RawValue::from_string(r#"{"stamp":[1,2]}"#.to_owned()).unwrap();
+        chain.cell("w", vec![0, 0], Vec::new(), message)
     }
 
     fn text(cell: &Cell) -> Vec<u8> {
@@ -181,8 +228,8 @@ mod tests {
     #[test]
     fn cells_follow_one_another_from_the_founding_on() {
         let mut chain = chain();
-        for number in 1..4 {
-            let next = cell(number, chain.before());
+        for _ in 1..4 {
+            let next = next_cell(&chain);
             let taken = chain.take(&text(&next)).unwrap();
             assert_eq!(taken.message.get(), r#"{"stamp":[1,2]}"#);
         }
@@ -191,7 +238,7 @@ mod tests {
 
     #[test]
     fn a_cell_of_another_place_or_chain_is_not_taken() {
-        let first = cell(1, &hash_of(FOUNDING));
+        let first = next_cell(&chain());
         let lost = |change: fn(&mut Cell)| {
             let mut changed: Cell = serde_json::from_slice(&text(&first)).unwrap();
             change(&mut changed);
@@ -213,7 +260,7 @@ mod tests {
 
     #[test]
     fn what_is_no_cell_is_not_taken() {
-        let more = String::from_utf8(text(&cell(1, &hash_of(FOUNDING)))).unwrap();
+        let more = String::from_utf8(text(&next_cell(&chain()))).unwrap();
         let more = more.replacen('{', r#"{"colour":1,"#, 1);
         for told in ["", "{}", "nothing", r#"{"version":1}"#, &more] {
             let lost = chain().take(told.as_bytes()).unwrap_err();

@@ -51,10 +51,7 @@ impl Follower {
     /// Where one is not what it has to be, or the engine is broken: what is read of the row then is told no more.
     pub async fn there(&mut self) -> Result<Vec<Cell>, FollowFault> {
         match self.engine.get(self.chain.row(), self.chain.next()).await {
-            Ok(texts) => {
-                let cells = texts.iter().map(|text| self.chain.take(text));
-                Ok(cells.collect::<Result<Vec<Cell>, Lost>>()?)
-            }
+            Ok(texts) => Ok(self.chain.take_all(&texts)?),
             Err(Fault::Silent(_)) => Ok(Vec::new()),
             Err(fault) => Err(fault.into()),
         }

@@ -3,10 +3,8 @@
 //! `number sum text`, with a tab before each further text, and a line feed before and after it all. So a record that was torn ends at the next
 //! one's first line feed, and is no record, since its sum is another.
 use bytes::Bytes;
-use sha2::{Digest, Sha256};
+use crc32fast::Hasher;
 use std::ops::Range;
-
-const SUM_LENGTH: usize = 16;
 
 /// The cells of one record: the first one's number, and where each text lies in the record's line.
 #[derive(Debug, PartialEq, Eq)]
@@ -41,11 +39,12 @@ pub(super) fn read(line: &[u8]) -> Option<Record> {
     })
 }
 
+/// Tells a record that was torn. Who changes a text meets the hash in the next one.
 fn sum_of(first: u64, told: &[u8]) -> String {
-    let sum = Sha256::new()
-        .chain_update(first.to_le_bytes())
-        .chain_update(told);
-    hex::encode(sum.finalize())[..SUM_LENGTH].to_owned()
+    let mut sum = Hasher::new();
+    sum.update(&first.to_le_bytes());
+    sum.update(told);
+    format!("{:08x}", sum.finalize())
 }
 
 /// Where each text lies, of which the first begins there.

@@ -277,6 +277,24 @@ async fn a_sync_that_fails_ends_it_for_good() {
     assert_eq!(all(&other).await, texts(&["one"]));
 }
 
+#[tokio::test]
+async fn after_a_sync_that_failed_another_process_keeps_what_it_tells() {
+    for seed in 0..20 {
+        let disk = ForgetfulDisk::new();
+        let engine = Files::over(Arc::new(disk.clone()), "rows");
+        assert_eq!(set(&engine, 1, &["one"]).await, Ok(Told::Set));
+        disk.go_wrong(Wrong::Sync);
+        let told = set(&engine, 2, &["a text that is dropped"]).await;
+        assert!(matches!(told, Err(Fault::Broken(_))), "{told:?}");
+        disk.go_wrong(Wrong::Nothing);
+        let other = Files::over(Arc::new(disk.clone()), "rows");
+        assert_eq!(set(&other, 2, &["two"]).await, Ok(Told::Set));
+        disk.lose_power(&mut StdRng::seed_from_u64(seed));
+        let anew = Files::over(Arc::new(disk), "rows");
+        assert_eq!(all(&anew).await, texts(&["one", "two"]), "seed {seed}");
+    }
+}
+
 #[tokio::test(start_paused = true)]
 async fn what_became_of_a_set_is_found_where_replies_are_lost() {
     let disk = ForgetfulDisk::new();

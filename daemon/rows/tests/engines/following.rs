@@ -2,7 +2,7 @@
 
 use crate::doubles::LossyEngine;
 use bytes::Bytes;
-use rows::cell::{hash_of, Cell, Chain, Lost, Why, VERSION};
+use rows::cell::{Call, Chain, Identity, Lost, Why};
 use rows::{sure_set, Engine, Files, FollowFault, Follower, RowName, Told};
 use serde_json::value::RawValue;
 use std::path::Path;
@@ -14,23 +14,22 @@ fn chain() -> Chain {
     Chain::of(RowName::of_node("n1", 1).unwrap(), 1, 1, FOUNDING)
 }
 
-/// The cells from a number on, each behind the one before it.
-fn cells(writer: &str, mut number: u64, mut before: String, count: usize) -> Vec<Bytes> {
+/// So many cells of a row, from where it was read to.
+fn cells(writer: &str, mut chain: Chain, count: usize) -> Vec<Bytes> {
     let mut told = Vec::new();
     while told.len() < count {
-        let cell = Cell {
-            version: VERSION,
-            generation: 1,
-            member: 1,
-            number,
-            before,
-            writer: writer.to_owned(),
-            taken: vec![number - 1],
-            calls: vec![None, Some("a call".to_owned())],
-            message: RawValue::from_string(format!(r#"{{"stamp":[{number},1]}}"#)).unwrap(),
-        };
+        let number = chain.next();
+        let message = RawValue::from_string(format!(r#"{{"stamp":[{number},1]}}"#)).unwrap();
+        let calls = vec![Call {
+            commands: 2,
+            identity: Some(Identity {
+                caller: "ann".to_owned(),
+                id: format!("call {number}"),
+            }),
+        }];
+        let cell = chain.cell(writer, vec![number - 1], calls, message);
         let text = serde_json::to_vec(&cell).unwrap();
-        (number, before) = (number + 1, hash_of(&text));
+        chain.take(&text).unwrap();
         told.push(text.into());
     }
     told
@@ -46,7 +45,7 @@ async fn set(engine: &dyn Engine, first: u64, told: &[Bytes]) {
 #[tokio::test(flavor = "multi_thread")]
 async fn each_cell_is_given_once_in_order() {
     let folder = tempfile::tempdir().unwrap();
-    let all = cells("w", 1, hash_of(FOUNDING), 100);
+    let all = cells("w", chain(), 100);
     let writer = Files::of(folder.path());
     let reader = Arc::new(LossyEngine::of(Files::of(folder.path()), 3));
     let mut follower = Follower::of(reader, chain()).await.unwrap();
@@ -83,7 +82,7 @@ fn take_back(folder: &Path, length: u64) {
 #[tokio::test]
 async fn a_row_that_lost_its_end_is_told() {
     let folder = tempfile::tempdir().unwrap();
-    let first = cells("w", 1, hash_of(FOUNDING), 4);
+    let first = cells("w", chain(), 4);
     set(&Files::of(folder.path()), 1, &first[..2]).await;
     let length = std::fs::metadata(folder.path().join("n1/g1.row"))
         .unwrap()
@@ -96,7 +95,11 @@ async fn a_row_that_lost_its_end_is_told() {
     let read = follower.chain().clone();
     take_back(folder.path(), length);
     // Whoever was made anew of the shorter row goes on otherwise.
-    let other = cells("other", 3, hash_of(&first[1]), 3);
+    let mut chain_of_two = chain();
+    for text in &first[..2] {
+        chain_of_two.take(text).unwrap();
+    }
+    let other = cells("other", chain_of_two, 3);
     set(&Files::of(folder.path()), 3, &other).await;
     let mut follower = Follower::of(Arc::new(Files::of(folder.path())), read)
         .await

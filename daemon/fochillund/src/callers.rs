@@ -1,0 +1,190 @@
+//! Callers: HTTP/1.1 and JSON over a unix socket.
+//!
+//! `POST /v1/commands` with generation, member, commands and perhaps an id; `GET /v1/state`; `GET /v1/records?from=N`.
+mod replies;
+mod requests;
+
+use crate::process::Options;
+use crate::row_member::{NewCall, Reply};
+use hyper::server::conn::Http;
+use hyper::service::service_fn;
+use hyper::{Body, Method, Request, Response};
+use replies::Told;
+use requests::{asked_of, from_of, Asked};
+use rows::cell::Identity;
+use serde::{Deserialize, Serialize};
+use std::convert::Infallible;
+use std::io;
+use std::path::Path;
+use std::sync::Arc;
+use std::time::Duration;
+use tokio::net::{UnixListener, UnixStream};
+use tokio::sync::{mpsc, oneshot};
+
+/// What callers ask of a member.
+#[derive(Debug)]
+pub(crate) enum Question {
+    Call(NewCall, oneshot::Sender<Reply>),
+    State(oneshot::Sender<State>),
+    /// The records from this number on, as many as are told at once.
+    Records(u64, oneshot::Sender<Vec<String>>),
+}
+
+/// What a member tells of itself.
+#[derive(Clone, Debug, Serialize, Deserialize)]
+pub struct State {
+    /// The generation.
+    pub generation: u64,
+    /// The member, from 1 on.
+    pub member: u32,
+    /// Its node.
+    pub node: String,
+    /// The process that is it now.
+    pub process: u32,
+    /// How many messages of each member it took; of itself, how many it sent.
+    pub taken: Vec<u64>,
+    /// How many records its history has.
+    pub records: u64,
+    /// The nodes of whom a message is missing, without which the next command can't be delivered.
+    pub waits_for: Vec<String>,
+    /// Whether a cell of its row is being set.
+    pub sets: bool,
+    /// How many calls wait to be sent.
+    pub queued: usize,
+    /// How many are sent and not answered.
+    pub sent: usize,
+}
+
+/// What the connections of a member share.
+struct Callers {
+    generation: u64,
+    member: u32,
+    patience: Duration,
+    questions: mpsc::Sender<Question>,
+}
+
+/// Takes calls at the member's socket, from now on. A socket that an earlier process left is replaced.
+pub(crate) fn serve(options: &Options, questions: mpsc::Sender<Question>) -> io::Result<()> {
+    let callers = Arc::new(Callers {
+        generation: crate::founding::GENERATION,
+        member: options.member,
+        patience: options.patience,
+        questions,
+    });
+    let listener = listener(&options.socket)?;
+    tokio::spawn(async move {
+        loop {
+            match listener.accept().await {
+                Ok((stream, _)) => {
+                    tokio::spawn(serve_one(Arc::clone(&callers), stream));
+                }
+                // As where too many files are open: later it may go.
+                Err(_) => tokio::time::sleep(Duration::from_millis(100)).await,
+            }
+        }
+    });
+    Ok(())
+}
+
+/// The new socket takes the place of the old one at once: a caller finds the one or the other. Two processes may do so at one time.
+fn listener(socket: &Path) -> io::Result<UnixListener> {
+    let new = socket.with_extension(format!("{}.new", std::process::id()));
+    match std::fs::remove_file(&new) {
+        Err(error) if error.kind() != io::ErrorKind::NotFound => return Err(error),
+        _ => {}
+    }
+    let listener = UnixListener::bind(&new)?;
+    std::fs::rename(&new, socket)?;
+    Ok(listener)
+}
+
+async fn serve_one(callers: Arc<Callers>, stream: UnixStream) {
+    let Ok(peer) = stream.peer_cred() else {
+        return;
+    };
+    let caller = format!("uid {}", peer.uid());
+    let answer = service_fn(|request| {
+        let (callers, caller) = (Arc::clone(&callers), caller.clone());
+        async move { Ok::<_, Infallible>(callers.answer(&caller, request).await) }
+    });
+    let connection = Http::new()
+        .http1_only(true)
+        .serve_connection(stream, answer);
+    if let Err(error) = connection.await {
+        tracing::debug!("a connection ended: {error}");
+    }
+}
+
+impl Callers {
+    async fn answer(&self, caller: &str, request: Request<Body>) -> Response<Body> {
+        let told = match (request.method(), request.uri().path()) {
+            (&Method::POST, "/v1/commands") => self.answer_call(caller, request).await,
+            (&Method::GET, "/v1/state") => self.ask(Question::State).await.map(Told::State),
+            (&Method::GET, "/v1/records") => self.answer_records(&request).await,
+            (_, "/v1/commands" | "/v1/state" | "/v1/records") => Err(Told::NoMethod),
+            _ => Err(Told::NoPath),
+        };
+        told.unwrap_or_else(|refused| refused).response()
+    }
+
+    async fn answer_call(&self, caller: &str, request: Request<Body>) -> Result<Told, Told> {
+        let asked = asked_of(request).await?;
+        self.check(&asked)?;
+        let call = NewCall {
+            identity: asked.id.map(|id| Identity {
+                caller: caller.to_owned(),
+                id,
+            }),
+            commands: asked.commands,
+        };
+        let (tell, told) = oneshot::channel();
+        self.put(Question::Call(call, tell)).await?;
+        match tokio::time::timeout(self.patience, told).await {
+            Ok(Ok(Ok(records))) => Ok(Told::Records {
+                generation: self.generation,
+                member: self.member,
+                records,
+            }),
+            Ok(Ok(Err(refusal))) => Err(Told::Refused(refusal)),
+            Ok(Err(_)) => Err(Told::Ends),
+            Err(_) => Err(Told::Waits(self.ask(Question::State).await?)),
+        }
+    }
+
+    /// Nothing of a call for another generation or member is carried out.
+    fn check(&self, asked: &Asked) -> Result<(), Told> {
+        if asked.generation < self.generation {
+            return Err(Told::OldGeneration(self.generation));
+        }
+        if asked.generation > self.generation {
+            return Err(Told::NoGeneration(self.generation));
+        }
+        if asked.member != self.member {
+            return Err(Told::OtherMember(self.member));
+        }
+        Ok(())
+    }
+
+    async fn answer_records(&self, request: &Request<Body>) -> Result<Told, Told> {
+        let from = from_of(request.uri())?;
+        let records = self.ask(|tell| Question::Records(from, tell)).await?;
+        Ok(Told::Records {
+            generation: self.generation,
+            member: self.member,
+            records,
+        })
+    }
+
+    async fn ask<T>(
+        &self,
+        question: impl FnOnce(oneshot::Sender<T>) -> Question,
+    ) -> Result<T, Told> {
+        let (tell, told) = oneshot::channel();
+        self.put(question(tell)).await?;
+        told.await.map_err(|_| Told::Ends)
+    }
+
+    async fn put(&self, question: Question) -> Result<(), Told> {
+        self.questions.send(question).await.map_err(|_| Told::Ends)
+    }
+}

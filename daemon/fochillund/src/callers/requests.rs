@@ -1,0 +1,58 @@
+//! What callers send.
+use super::replies::Told;
+use hyper::body::HttpBody;
+use hyper::{Body, Request, Uri};
+use serde::Deserialize;
+use serde_json::value::RawValue;
+
+/// The most bytes of a request's body.
+const MOST_BYTES: usize = 1 << 20;
+
+/// The most bytes of a call's id.
+const LONGEST_ID: usize = 128;
+
+/// A call.
+#[derive(Debug, Deserialize)]
+#[serde(deny_unknown_fields)]
+pub(super) struct Asked {
+    pub(super) generation: u64,
+    pub(super) member: u32,
+    pub(super) id: Option<String>,
+    pub(super) commands: Box<RawValue>,
+}
+
+/// Reads a call.
+pub(super) async fn asked_of(request: Request<Body>) -> Result<Asked, Told> {
+    let body = body_of(request).await?;
+    let asked: Asked =
+        serde_json::from_slice(&body).map_err(|error| Told::BadRequest(error.to_string()))?;
+    let is_id = |id: &String| !id.is_empty() && id.len() <= LONGEST_ID;
+    if !asked.id.as_ref().is_none_or(is_id) {
+        let why = format!("an id has 1 to {LONGEST_ID} bytes");
+        return Err(Told::BadRequest(why));
+    }
+    Ok(asked)
+}
+
+async fn body_of(request: Request<Body>) -> Result<Vec<u8>, Told> {
+    let mut body = request.into_body();
+    let mut read = Vec::new();
+    while let Some(part) = body.data().await {
+        let part = part.map_err(|error| Told::BadRequest(error.to_string()))?;
+        if read.len() + part.len() > MOST_BYTES {
+            return Err(Told::TooLong(MOST_BYTES));
+        }
+        read.extend_from_slice(&part);
+    }
+    Ok(read)
+}
+
+/// The number of the first record that is asked for: `from=N`, or else 1.
+pub(super) fn from_of(uri: &Uri) -> Result<u64, Told> {
+    let from = match uri.query() {
+        None => Some(1),
+        Some(query) => query.strip_prefix("from=").and_then(|it| it.parse().ok()),
+    };
+    let bad = || Told::BadRequest("the query is from=N, with N from 1 on".to_owned());
+    from.filter(|from| *from > 0).ok_or_else(bad)
+}

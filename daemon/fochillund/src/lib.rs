@@ -1,0 +1,14 @@
+//! A member of a group as a process of its own, over rows of set-once cells.
+//!
+//! The library decides: the order of commands, what is acknowledged, and each answer. What is here moves messages: [`RowMember`] sets each of its
+//! member's in the member's row before anything rests on it, and takes those of the others from theirs.
+pub mod ask;
+pub mod callers;
+pub mod founding;
+pub mod group;
+pub mod process;
+pub mod row_member;
+mod stop;
+
+pub use row_member::{check_ends, RowMember};
+pub use stop::Stop;

@@ -1,0 +1,83 @@
+//! Calls: what a caller asks, and what it is told.
+use fochillun::MemberError;
+use rows::cell::{Call, Identity};
+use serde::Deserialize;
+use serde_json::value::RawValue;
+use thiserror::Error;
+
+/// The most commands of a call, and of a message.
+pub const MOST_COMMANDS: usize = 64;
+
+/// The most bytes of the commands of a message, unless one call has more.
+pub const MOST_BYTES: usize = 256 * 1024;
+
+/// The longest text of a message that has one call's commands, a stamp of small numbers and the serial 0: the library takes messages of
+/// 1,048,576 bytes, and greater numbers take some more of them.
+pub(super) const LONGEST_MESSAGE: usize = 1_048_576 - 64;
+
+/// The most calls that wait to be sent.
+pub const MOST_WAITING: usize = 4096;
+
+/// A call of a caller: its commands stand in one message, in their order.
+#[derive(Clone, Debug)]
+pub struct NewCall {
+    /// By what it is known when it is asked again. Without one it is carried out each time.
+    pub identity: Option<Identity>,
+    /// Its commands, a JSON array of 1 to 64 objects.
+    pub commands: Box<RawValue>,
+}
+
+/// Why a call is not carried out.
+#[derive(Clone, Copy, Debug, PartialEq, Eq, Error)]
+pub enum Refusal {
+    /// The commands are none.
+    #[error("{0}")]
+    Commands(MemberError),
+    /// The identity is that of a call that has other commands.
+    #[error("this id was given to other commands")]
+    OtherCommands,
+    /// As many calls wait as may.
+    #[error("too many calls wait")]
+    Busy,
+    /// The member has sent as many messages as it may.
+    #[error("the member has sent as many messages as it may")]
+    Full,
+}
+
+/// What a caller is told: the records of its commands, in their order, or why there are none.
+pub type Reply = Result<Vec<String>, Refusal>;
+
+/// The commands of a message's text, each as the library writes it.
+#[derive(Deserialize)]
+struct Sent<'t> {
+    #[serde(borrow, default)]
+    commands: Vec<&'t RawValue>,
+}
+
+/// The texts of the commands of a message's text.
+pub(super) fn commands_of(message: &str) -> Vec<&str> {
+    let sent: Sent<'_> = serde_json::from_str(message).expect("a message is a JSON object");
+    sent.commands.into_iter().map(RawValue::get).collect()
+}
+
+/// A call whose commands were read.
+#[derive(Debug)]
+pub(super) struct ReadCall {
+    pub(super) identity: Option<Identity>,
+    /// Each command as the library writes it, so that two calls have the same commands where these are the same.
+    pub(super) commands: Vec<String>,
+}
+
+impl ReadCall {
+    pub(super) fn bytes(&self) -> usize {
+        self.commands.iter().map(|text| text.len() + 1).sum()
+    }
+
+    /// What its cell says of it.
+    pub(super) fn told(&self) -> Call {
+        Call {
+            commands: self.commands.len(),
+            identity: self.identity.clone(),
+        }
+    }
+}

@@ -1,0 +1,358 @@
+//! A member over its row, where it could go wrong: each test is named for what has to hold.
+use bytes::Bytes;
+use fochillun::{Member, MemberError};
+use fochillund::row_member::{MemberFault, NewCall, Refusal, Reply, MOST_BYTES, MOST_WAITING};
+use fochillund::{check_ends, RowMember};
+use rows::cell::{Cell, Chain, Identity, Why};
+use rows::RowName;
+use serde_json::value::RawValue;
+
+type Held = RowMember<u32>;
+
+fn founding(members: u32, more: &str) -> String {
+    format!(
+        "version = 1\nmembers = {members}\n{more}operations = []\nobjects = []\npermissions = []\n"
+    )
+}
+
+fn chain_of(founding: &str, member: u32) -> Chain {
+    let row = RowName::of_node(&format!("n{member}"), 1).unwrap();
+    Chain::of(row, 1, member, founding.as_bytes())
+}
+
+fn cells_of(founding: &str, member: u32, row: &[Bytes]) -> (Chain, Vec<Cell>) {
+    let mut chain = chain_of(founding, member);
+    let cells = row.iter().map(|text| chain.take(text).unwrap()).collect();
+    (chain, cells)
+}
+
+fn made_of(founding: &str, members: u32, member: u32, row: &[Bytes]) -> Held {
+    let (chain, cells) = cells_of(founding, member, row);
+    let (text, writer) = (founding.as_bytes(), format!("w{}", row.len()));
+    RowMember::restore(text, members, member, writer, chain, &cells).unwrap()
+}
+
+fn call(id: Option<&str>, commands: &str) -> NewCall {
+    NewCall {
+        identity: id.map(|id| Identity {
+            caller: "ann".to_owned(),
+            id: id.to_owned(),
+        }),
+        commands: RawValue::from_string(commands.to_owned()).unwrap(),
+    }
+}
+
+fn add_user(user: &str) -> String {
+    format!(r#"[{{"name":"AddUser","user":"{user}"}}]"#)
+}
+
+/// Sets the next cell in the row.
+fn set(held: &mut Held, row: &mut Vec<Bytes>) {
+    let (number, text) = held.next_cell().unwrap().expect("a cell");
+    assert_eq!(number, row.len() as u64 + 1);
+    row.push(text);
+    held.was_set().unwrap();
+}
+
+/// What one caller is told now.
+fn told(held: &mut Held) -> Vec<(u32, Reply)> {
+    held.take_told()
+}
+
+fn refused(held: &mut Held, asked: NewCall) -> Refusal {
+    held.ask(asked, 99);
+    match told(held).pop() {
+        Some((99, Err(refusal))) => refusal,
+        other => panic!("{other:?}"),
+    }
+}
+
+/// How many commands each call of a cell has.
+fn calls_in(text: &[u8]) -> Vec<usize> {
+    let cell: Cell = serde_json::from_slice(text).unwrap();
+    cell.calls.iter().map(|call| call.commands).collect()
+}
+
+#[test]
+fn a_message_has_no_effect_before_its_cell_is_set() {
+    let founding = founding(1, "");
+    let mut held = made_of(&founding, 1, 1, &[]);
+    held.ask(call(None, &add_user("bob")), 1);
+    let (number, text) = held.next_cell().unwrap().unwrap();
+    assert_eq!(number, 1);
+    held.turn().unwrap();
+    assert_eq!(held.next_cell().unwrap(), None);
+    assert_eq!((held.history_length(), held.taken()), (0, vec![0]));
+    assert!(told(&mut held).is_empty());
+    held.was_set().unwrap();
+    assert_eq!((held.history_length(), held.taken()), (1, vec![1]));
+    let record = held.records(1..2).pop().unwrap();
+    assert_eq!(told(&mut held), [(1, Ok(vec![record]))]);
+    assert_eq!(calls_in(&text), [1]);
+}
+
+#[test]
+fn an_id_asked_again_after_a_restore_is_answered_of_the_history() {
+    let founding = founding(1, "");
+    let (mut held, mut row) = (made_of(&founding, 1, 1, &[]), Vec::new());
+    held.ask(call(None, &add_user("bob")), 0);
+    held.ask(call(Some("a"), &add_user("bob")), 1);
+    set(&mut held, &mut row);
+    let first = told(&mut held).pop().unwrap().1.unwrap();
+    assert!(first[0].contains("UserExists"));
+    let mut anew = made_of(&founding, 1, 1, &row);
+    anew.ask(call(Some("a"), &add_user("bob")), 2);
+    assert_eq!(anew.next_cell().unwrap(), None);
+    assert_eq!(told(&mut anew), [(2, Ok(first.clone()))]);
+    let spaced = r#" [ {"user" : "bob", "name":"AddUser"} ]"#;
+    anew.ask(call(Some("a"), spaced.trim()), 3);
+    assert_eq!(told(&mut anew), [(3, Ok(first))]);
+}
+
+#[test]
+fn an_id_with_other_commands_is_refused() {
+    let founding = founding(1, "");
+    let (mut held, mut row) = (made_of(&founding, 1, 1, &[]), Vec::new());
+    let other = || call(Some("a"), &add_user("eve"));
+    held.ask(call(Some("a"), &add_user("bob")), 1);
+    assert_eq!(refused(&mut held, other()), Refusal::OtherCommands);
+    row.push(held.next_cell().unwrap().unwrap().1);
+    assert_eq!(refused(&mut held, other()), Refusal::OtherCommands);
+    held.was_set().unwrap();
+    assert_eq!(told(&mut held).len(), 1);
+    assert_eq!(refused(&mut held, other()), Refusal::OtherCommands);
+    let mut anew = made_of(&founding, 1, 1, &row);
+    assert_eq!(refused(&mut anew, other()), Refusal::OtherCommands);
+    assert_eq!(anew.next_cell().unwrap(), None);
+    assert_eq!(anew.history_length(), 1);
+}
+
+#[test]
+fn a_cell_whose_calls_are_not_those_of_its_message_stops() {
+    let founding = founding(1, "");
+    let (mut held, mut row) = (made_of(&founding, 1, 1, &[]), Vec::new());
+    held.ask(call(Some("a"), &add_user("bob")), 1);
+    set(&mut held, &mut row);
+    let (chain, mut cells) = cells_of(&founding, 1, &row);
+    cells[0].calls[0].commands = 2;
+    let text = founding.as_bytes();
+    let made = Held::restore(text, 1, 1, "w".to_owned(), chain, &cells);
+    assert_eq!(made.err(), Some(MemberFault::Calls(1)));
+}
+
+#[test]
+fn an_id_of_another_caller_is_another() {
+    let founding = founding(1, "");
+    let (mut held, mut row) = (made_of(&founding, 1, 1, &[]), Vec::new());
+    held.ask(call(Some("a"), &add_user("bob")), 1);
+    let mut other = call(Some("a"), &add_user("eve"));
+    other.identity.as_mut().unwrap().caller = "bob".to_owned();
+    held.ask(other, 2);
+    set(&mut held, &mut row);
+    assert_eq!((told(&mut held).len(), held.history_length()), (2, 2));
+}
+
+#[test]
+fn calls_that_wait_go_together_up_to_64_commands() {
+    let founding = founding(1, "");
+    let (mut held, mut row) = (made_of(&founding, 1, 1, &[]), Vec::new());
+    for number in 0..70 {
+        held.ask(call(None, &add_user(&format!("u{number}"))), number);
+    }
+    set(&mut held, &mut row);
+    assert_eq!(calls_in(&row[0]), [1; 64]);
+    let answered: Vec<u32> = told(&mut held).iter().map(|(waiter, _)| *waiter).collect();
+    assert_eq!(answered, (0..64).collect::<Vec<_>>());
+    set(&mut held, &mut row);
+    assert_eq!(calls_in(&row[1]), [1; 6]);
+    assert_eq!(held.next_cell().unwrap(), None);
+    let two = |at: u32| {
+        format!(
+            "[{0},{0}]",
+            add_user(&format!("v{at}")).trim_matches(['[', ']'])
+        )
+    };
+    for number in 0..33 {
+        held.ask(call(None, &two(number)), number);
+    }
+    set(&mut held, &mut row);
+    assert_eq!(calls_in(&row[2]), [2; 32]);
+}
+
+/// A command of some 64 bytes for each of these roles, and so many for another one.
+fn long_command(roles: usize, more: usize) -> String {
+    let role = "r".repeat(58);
+    let roles: Vec<String> = (0..roles).map(|at| format!("\"{role}{at:03}\",")).collect();
+    let (roles, more) = (roles.concat(), "q".repeat(more));
+    format!(r#"{{"name":"CreateSession","user":"bob","session":"s","roles":[{roles}"{more}"]}}"#)
+}
+
+#[test]
+fn calls_that_wait_go_together_up_to_256_kilobytes() {
+    let founding = founding(1, "");
+    let (mut held, mut row) = (made_of(&founding, 1, 1, &[]), Vec::new());
+    let long = long_command(950, 1);
+    for number in 0..5 {
+        held.ask(call(None, &format!("[{long}]")), number);
+    }
+    held.ask(call(None, &format!("[{0},{0},{0},{0},{0}]", long)), 5);
+    held.ask(call(None, &add_user("bob")), 6);
+    let fit = MOST_BYTES / (long.len() + 1);
+    assert!(fit < 5);
+    for calls in [vec![1; fit], vec![1; 5 - fit], vec![5], vec![1]] {
+        set(&mut held, &mut row);
+        assert_eq!(calls_in(row.last().unwrap()), calls);
+    }
+    assert_eq!(told(&mut held).len(), 7);
+}
+
+/// The commands of a call whose message has just this length, where it is the member's first.
+fn call_of_length(founding: &str, length: usize) -> String {
+    let command = long_command(0, 1);
+    let mut first = Member::open(founding.as_bytes(), 1).unwrap();
+    let message = first.next_submit_batch(0, 0, &format!("[{command}]"));
+    let begin = format!("{},", long_command(950, 1)).repeat(17);
+    let left = length - begin.len() - message.unwrap().len();
+    let call = format!("[{begin}{}]", long_command(left / 64, 1 + left % 64));
+    assert!(call.len() < length);
+    call
+}
+
+#[test]
+fn a_call_that_no_message_has_room_for_is_refused_alone() {
+    let founding = founding(1, "");
+    let (mut held, mut row) = (made_of(&founding, 1, 1, &[]), Vec::new());
+    // The next stamp and the next serial have more digits than the first ones.
+    for at in 0..12 {
+        held.ask(call(None, &add_user(&format!("u{at}"))), at);
+        set(&mut held, &mut row);
+    }
+    told(&mut held);
+    let (mut taken, mut refused) = (0, 0);
+    for less in [100, 70, 64, 60, 6, 5, 4, 3, 2, 1, 0] {
+        let commands = call_of_length(&founding, 1_048_576 - less);
+        held.ask(call(None, &commands), 1);
+        match told(&mut held).pop() {
+            Some((1, Err(Refusal::Commands(MemberError::MessageTooLong)))) => refused += 1,
+            None => {
+                set(&mut held, &mut row);
+                assert!(matches!(told(&mut held)[..], [(1, Ok(_))]));
+                taken += 1;
+            }
+            other => panic!("{other:?}"),
+        }
+    }
+    assert_eq!((taken, refused), (3, 8));
+}
+
+#[test]
+fn a_full_queue_refuses() {
+    let founding = founding(1, "");
+    let mut held = made_of(&founding, 1, 1, &[]);
+    for number in 0..MOST_WAITING as u32 {
+        let id = (number == 7).then_some("a");
+        held.ask(call(id, &add_user("bob")), number);
+    }
+    assert!(told(&mut held).is_empty());
+    let refusal = refused(&mut held, call(None, &add_user("eve")));
+    assert_eq!(refusal, Refusal::Busy);
+    held.ask(call(Some("a"), &add_user("bob")), 5000);
+    assert!(told(&mut held).is_empty());
+    set(&mut held, &mut Vec::new());
+    let answered = told(&mut held);
+    assert!(answered
+        .iter()
+        .any(|(waiter, reply)| *waiter == 5000 && reply.is_ok()));
+    held.ask(call(None, &add_user("eve")), 5001);
+    assert!(told(&mut held).is_empty());
+}
+
+#[test]
+fn a_row_at_its_limit_refuses_and_what_was_sent_is_answered() {
+    let founding = founding(2, "sent_limit = 1\n");
+    let (mut one, mut two) = (made_of(&founding, 2, 1, &[]), made_of(&founding, 2, 2, &[]));
+    let (mut row, mut theirs) = (Vec::new(), Vec::new());
+    one.ask(call(Some("a"), &add_user("bob")), 1);
+    set(&mut one, &mut row);
+    one.ask(call(None, &add_user("eve")), 2);
+    assert_eq!(one.next_cell().unwrap(), None);
+    assert_eq!(told(&mut one), [(2, Err(Refusal::Full))]);
+    let refusal = refused(&mut one, call(None, &add_user("eve")));
+    assert_eq!(refusal, Refusal::Full);
+    one.ask(call(Some("a"), &add_user("bob")), 3);
+    let mut chains = [1, 2].map(|member| chain_of(&founding, member));
+    two.put_cell(1, chains[0].take(&row[0]).unwrap());
+    set(&mut two, &mut theirs);
+    one.put_cell(2, chains[1].take(&theirs[0]).unwrap());
+    one.turn().unwrap();
+    let answered: Vec<u32> = told(&mut one).iter().map(|(waiter, _)| *waiter).collect();
+    assert_eq!((answered, one.history_length()), (vec![1, 3], 1));
+}
+
+#[test]
+fn a_row_that_lost_its_end_is_told_at_recovery() {
+    let founding = founding(2, "");
+    let (mut one, mut row) = (made_of(&founding, 2, 1, &[]), Vec::new());
+    let (mut two, mut theirs) = (made_of(&founding, 2, 2, &[]), Vec::new());
+    let mut chain = chain_of(&founding, 1);
+    for user in ["ann", "bob"] {
+        one.ask(call(None, &add_user(user)), 1);
+        set(&mut one, &mut row);
+        two.put_cell(1, chain.take(row.last().unwrap()).unwrap());
+    }
+    set(&mut two, &mut theirs);
+    two.ask(call(None, &add_user("eve")), 1);
+    set(&mut two, &mut theirs);
+    let lost = MemberFault::LostEnd {
+        member: 1,
+        there: 1,
+        taken: 2,
+    };
+    let cells = |row: &[Bytes]| cells_of(&founding, 2, row).1;
+    assert_eq!(check_ends(&cells(&theirs), &[2, 0]), Ok(()));
+    assert_eq!(check_ends(&cells(&theirs), &[1, 9]), Err(lost.clone()));
+    assert_eq!(check_ends(&[], &[0, 0]), Ok(()));
+    // Made anew it has taken nothing yet when it sends: its last cell tells of less.
+    let mut anew = made_of(&founding, 2, 2, &theirs);
+    anew.ask(call(None, &add_user("joe")), 1);
+    set(&mut anew, &mut theirs);
+    assert_eq!(cells(&theirs).last().unwrap().taken, [0, 2]);
+    assert_eq!(check_ends(&cells(&theirs), &[1, 3]), Err(lost));
+}
+
+#[test]
+fn a_cell_of_another_chain_stops() {
+    let founding = founding(1, "");
+    let (mut one, mut row) = (made_of(&founding, 1, 1, &[]), Vec::new());
+    let (mut other, mut others) = (made_of(&founding, 1, 1, &[]), Vec::new());
+    for user in ["bob", "eve"] {
+        one.ask(call(None, &add_user(user)), 1);
+        set(&mut one, &mut row);
+        other.ask(call(None, &add_user("joe")), 1);
+        set(&mut other, &mut others);
+    }
+    let mut chain = chain_of(&founding, 1);
+    chain.take(&row[0]).unwrap();
+    assert_eq!(chain.take(&others[1]).unwrap_err().why, Why::OtherChain);
+    assert_eq!(chain.take(&row[0]).unwrap_err().why, Why::OtherPlace);
+    chain.take(&row[1]).unwrap();
+    let mut elsewhere = chain_of("another founding", 1);
+    assert_eq!(elsewhere.take(&row[0]).unwrap_err().why, Why::OtherChain);
+}
+
+#[test]
+fn what_is_no_command_is_refused_and_sends_nothing() {
+    let founding = founding(1, "");
+    let mut held = made_of(&founding, 1, 1, &[]);
+    let refusals = [
+        ("[]", MemberError::BadBatch),
+        ("7", MemberError::WrongKind),
+        (r#"[{"name":"Fly"}]"#, MemberError::UnknownWord),
+        (r#"[{"name":"AddUser","user":"a b"}]"#, MemberError::BadName),
+    ];
+    for (commands, why) in refusals {
+        let refusal = refused(&mut held, call(Some("a"), commands));
+        assert_eq!(refusal, Refusal::Commands(why), "{commands}");
+    }
+    assert_eq!(held.next_cell().unwrap(), None);
+}

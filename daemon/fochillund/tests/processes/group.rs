@@ -1,0 +1,140 @@
+//! A group of real processes in a folder of its own.
+use fochillund::ask::Members;
+use fochillund::founding::LEAST_SENT_LIMIT;
+use fochillund::group::{node, socket};
+use std::path::{Path, PathBuf};
+use std::process::{Child, Command, Stdio};
+use std::time::Duration;
+use tempfile::TempDir;
+
+/// Processes of members, each of which ends with this.
+pub struct Group {
+    folder: TempDir,
+    /// Of each member, the latest last.
+    processes: Vec<Vec<Child>>,
+}
+
+/// The founding of a group.
+pub fn founding(members: u32) -> String {
+    format!(
+        r#"version = 1
+members = {members}
+sent_limit = {LEAST_SENT_LIMIT}
+operations = ["read", "write"]
+objects = ["chart", "rota"]
+permissions = [["read", "chart"], ["read", "rota"], ["write", "chart"], ["write", "rota"]]
+"#
+    )
+}
+
+impl Group {
+    /// So many members, of which none runs yet.
+    pub fn of(members: u32) -> Group {
+        let folder = tempfile::tempdir().unwrap();
+        std::fs::write(folder.path().join("founding.toml"), founding(members)).unwrap();
+        let processes = (0..members).map(|_| Vec::new()).collect();
+        Group { folder, processes }
+    }
+
+    /// The same with all members running.
+    pub fn started(members: u32) -> Group {
+        let mut group = Group::of(members);
+        (1..=members).for_each(|member| group.start(member, &[]));
+        group
+    }
+
+    pub fn members(&self) -> u32 {
+        self.processes.len() as u32
+    }
+
+    pub fn folder(&self) -> &Path {
+        self.folder.path()
+    }
+
+    pub fn founding(&self) -> PathBuf {
+        self.folder().join("founding.toml")
+    }
+
+    pub fn socket(&self, member: u32) -> PathBuf {
+        socket(self.folder(), member)
+    }
+
+    /// A process that is to be a member, with these words more.
+    pub fn spawn(&self, member: u32, more: &[&str]) -> Child {
+        self.spawn_by(&["env"], member, more)
+    }
+
+    /// The same, started by another program's words.
+    pub fn spawn_by(&self, words: &[&str], member: u32, more: &[&str]) -> Child {
+        let nodes: Vec<String> = (1..=self.members()).map(node).collect();
+        let mut command = Command::new(words[0]);
+        command
+            .args(&words[1..])
+            .arg(env!("CARGO_BIN_EXE_fochillund"));
+        command.arg("member").arg("--folder").arg(self.folder());
+        command.arg("--founding").arg(self.founding());
+        command.arg("--nodes").arg(nodes.join(","));
+        command.arg("--node").arg(node(member)).args(more);
+        command.stdout(Stdio::null()).stderr(Stdio::null());
+        command.spawn().unwrap()
+    }
+
+    /// Starts a process of a member, beside those that there are.
+    pub fn start(&mut self, member: u32, more: &[&str]) {
+        let process = self.spawn(member, more);
+        self.processes[member as usize - 1].push(process);
+    }
+
+    /// The same for a machine that knows nothing of their lock.
+    pub fn start_elsewhere(&mut self, member: u32) {
+        // It may not be there yet.
+        let _ = std::fs::remove_file(self.folder().join(node(member)).with_extension("lock"));
+        self.start(member, &[]);
+    }
+
+    /// The latest process of a member.
+    pub fn process(&mut self, member: u32) -> Option<&mut Child> {
+        self.processes[member as usize - 1].last_mut()
+    }
+
+    /// The earliest process of a member.
+    pub fn first_process(&mut self, member: u32) -> &mut Child {
+        &mut self.processes[member as usize - 1][0]
+    }
+
+    /// Kills a member's processes.
+    pub fn kill(&mut self, member: u32) {
+        for mut process in self.processes[member as usize - 1].drain(..) {
+            process.kill().unwrap();
+            process.wait().unwrap();
+        }
+    }
+
+    /// Starts each member anew of which a process has ended, or none runs: of two at one socket the other may not be found there. Gives the statuses
+    /// of those that ended.
+    pub fn keep(&mut self) -> Vec<Option<i32>> {
+        let mut statuses = Vec::new();
+        for member in 1..=self.members() {
+            let processes = &mut self.processes[member as usize - 1];
+            let ended = processes.iter_mut().filter_map(|it| it.try_wait().unwrap());
+            let ended: Vec<Option<i32>> = ended.map(|status| status.code()).collect();
+            if !ended.is_empty() || processes.is_empty() {
+                self.kill(member);
+                self.start(member, &[]);
+            }
+            statuses.extend(ended);
+        }
+        statuses
+    }
+
+    /// A client of its members.
+    pub fn client(&self) -> Members {
+        Members::of(self.folder(), Duration::from_secs(60))
+    }
+}
+
+impl Drop for Group {
+    fn drop(&mut self) {
+        (1..=self.members()).for_each(|member| self.kill(member));
+    }
+}

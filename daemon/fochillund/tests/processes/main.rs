@@ -1,0 +1,7 @@
+//! Members as processes: what callers are told, and groups in which processes are killed, stopped and doubled.
+mod callers;
+mod chaos;
+mod command;
+mod group;
+#[path = "../judge/mod.rs"]
+mod judge;
