@@ -1,9 +1,10 @@
 //! What a cell of a row says: one line of JSON.
 use crate::name::RowName;
 use bytes::Bytes;
+use ring::digest::{digest, SHA256};
+use serde::de::IgnoredAny;
 use serde::{Deserialize, Serialize};
 use serde_json::value::RawValue;
-use sha2::{Digest, Sha256};
 use thiserror::Error;
 
 /// The version of the founding's cell and of all others. A reader takes no other.
@@ -48,6 +49,35 @@ pub struct Cell {
     pub message: Box<RawValue>,
 }
 
+/// What the cell of another member brings. Whose calls its commands were, that member alone asks, when it is made anew.
+#[derive(Debug)]
+pub struct Sent {
+    /// The cell's number in the row.
+    pub number: u64,
+    /// The message, by its text.
+    pub message: Box<RawValue>,
+}
+
+/// A cell, as far as another member reads it.
+#[derive(Deserialize)]
+#[serde(deny_unknown_fields)]
+struct SentCell<'t> {
+    version: u32,
+    generation: u64,
+    member: u32,
+    number: u64,
+    #[serde(borrow)]
+    before: &'t str,
+    #[serde(rename = "writer")]
+    _writer: IgnoredAny,
+    #[serde(rename = "taken")]
+    _taken: IgnoredAny,
+    #[serde(default, rename = "calls")]
+    _calls: IgnoredAny,
+    #[serde(borrow)]
+    message: &'t RawValue,
+}
+
 /// A call of a caller, whose commands stand together in one message.
 #[derive(Clone, Debug, PartialEq, Eq, Serialize, Deserialize)]
 #[serde(deny_unknown_fields)]
@@ -71,7 +101,7 @@ pub struct Identity {
 
 /// The hash of a cell's text: SHA-256, in hexadecimal.
 pub fn hash_of(text: &[u8]) -> String {
-    hex::encode(Sha256::digest(text))
+    hex::encode(digest(&SHA256, text))
 }
 
 /// A cell that is not what it has to be at its place. An engine that shows one has lost what it had told, or somebody else writes there: the
@@ -164,11 +194,12 @@ impl Chain {
     /// # Errors
     /// Where it is not what it has to be. Nothing was taken then.
     pub fn take(&mut self, text: &[u8]) -> Result<Cell, Lost> {
-        let cell = self.read(text).map_err(|why| Lost {
-            row: self.row.clone(),
-            number: self.next,
-            why,
-        })?;
+        let cell: Cell = self.read(text)?;
+        self.check(
+            cell.version,
+            (cell.generation, cell.member, cell.number),
+            &cell.before,
+        )?;
         self.follow(text);
         Ok(cell)
     }
@@ -181,26 +212,56 @@ impl Chain {
         texts.iter().map(|text| self.take(text)).collect()
     }
 
+    /// Takes the text of the next cell of another member's row.
+    ///
+    /// # Errors
+    /// As of `take`.
+    pub fn take_sent(&mut self, text: &[u8]) -> Result<Sent, Lost> {
+        let cell: SentCell<'_> = self.read(text)?;
+        self.check(
+            cell.version,
+            (cell.generation, cell.member, cell.number),
+            cell.before,
+        )?;
+        self.follow(text);
+        Ok(Sent {
+            number: cell.number,
+            message: cell.message.to_owned(),
+        })
+    }
+
     /// Goes on behind a cell that [`Chain::cell`] has made of it, by its text.
     pub fn follow(&mut self, text: &[u8]) {
         self.before = hash_of(text);
         self.next += 1;
     }
 
-    fn read(&self, text: &[u8]) -> Result<Cell, Why> {
-        let cell: Cell =
-            serde_json::from_slice(text).map_err(|error| Why::NoCell(error.to_string()))?;
-        if cell.version != VERSION {
-            return Err(Why::NoCell(format!("it is of version {}", cell.version)));
+    fn read<'t, T: Deserialize<'t>>(&self, text: &'t [u8]) -> Result<T, Lost> {
+        let read = serde_json::from_slice(text);
+        read.map_err(|error| self.lost(Why::NoCell(error.to_string())))
+    }
+
+    /// Whether a cell of this version, that says that it stands at this place behind this hash, is the next one.
+    fn check(&self, version: u32, place: (u64, u32, u64), before: &str) -> Result<(), Lost> {
+        if version != VERSION {
+            let why = format!("it is of version {version}");
+            return Err(self.lost(Why::NoCell(why)));
         }
-        if (cell.generation, cell.member, cell.number) != (self.generation, self.member, self.next)
-        {
-            return Err(Why::OtherPlace);
+        if place != (self.generation, self.member, self.next) {
+            return Err(self.lost(Why::OtherPlace));
         }
-        if cell.before != self.before {
-            return Err(Why::OtherChain);
+        if before != self.before {
+            return Err(self.lost(Why::OtherChain));
         }
-        Ok(cell)
+        Ok(())
+    }
+
+    fn lost(&self, why: Why) -> Lost {
+        Lost {
+            row: self.row.clone(),
+            number: self.next,
+            why,
+        }
     }
 }
 

@@ -24,9 +24,16 @@ pub enum Fault {
     /// A text is none that a cell can hold: it has a byte that ends a line, or a tab. Nothing is set.
     #[error("the text of a cell is one line, and has no tab")]
     BadText,
+    /// There are more cells, or bytes, than one set of this engine has room for. Nothing is set.
+    #[error("a set of this engine has at most {0}")]
+    TooMuch(&'static str),
     /// There is no room. Nothing is set.
     #[error("the engine is full")]
     Full,
+    /// The engine does not let this process do it, or is set up so that what it tells could be lost. Nothing is set, and asking again mends
+    /// nothing: an operator does.
+    #[error("the engine refuses: {0}")]
+    Refused(String),
     /// The engine does not answer.
     #[error("the engine is silent: {0}")]
     Silent(String),

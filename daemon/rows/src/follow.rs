@@ -1,6 +1,7 @@
 //! Following a row: each of its cells, in order, once.
-use crate::cell::{Cell, Chain, Lost};
+use crate::cell::{Chain, Lost, Sent};
 use crate::engine::{Engine, Fault, Tidings};
+use crate::sure::sure_get;
 use std::sync::Arc;
 use std::time::Duration;
 use thiserror::Error;
@@ -45,23 +46,22 @@ impl Follower {
         &self.chain
     }
 
-    /// The cells that are there and were not given yet, in order; none where there is none, or the engine is silent.
+    /// The cells that are there and were not given yet, in order: returns once the engine answers. It may be dropped at any time.
     ///
     /// # Errors
     /// Where one is not what it has to be, or the engine is broken: what is read of the row then is told no more.
-    pub async fn there(&mut self) -> Result<Vec<Cell>, FollowFault> {
-        match self.engine.get(self.chain.row(), self.chain.next()).await {
-            Ok(texts) => Ok(self.chain.take_all(&texts)?),
-            Err(Fault::Silent(_)) => Ok(Vec::new()),
-            Err(fault) => Err(fault.into()),
-        }
+    pub async fn there(&mut self) -> Result<Vec<Sent>, FollowFault> {
+        let (row, next) = (self.chain.row(), self.chain.next());
+        let texts = sure_get(&*self.engine, row, next).await?;
+        let sent = texts.iter().map(|text| self.chain.take_sent(text));
+        Ok(sent.collect::<Result<_, _>>()?)
     }
 
     /// The next cells, at least one: returns once there is one. It may be dropped at any time, and asked again.
     ///
     /// # Errors
     /// As of `there`.
-    pub async fn next(&mut self) -> Result<Vec<Cell>, FollowFault> {
+    pub async fn next(&mut self) -> Result<Vec<Sent>, FollowFault> {
         loop {
             let cells = self.there().await?;
             if !cells.is_empty() {

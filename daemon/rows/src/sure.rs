@@ -1,4 +1,4 @@
-//! Setting cells over an engine whose replies can be lost.
+//! Setting and reading cells over an engine that may be silent, and whose replies can be lost.
 use crate::engine::{Engine, Fault, Told};
 use crate::name::RowName;
 use bytes::Bytes;
@@ -12,7 +12,7 @@ const LONGEST_PAUSE: Duration = Duration::from_millis(500);
 /// numbers by who calls this. It ends only when it is sure; a caller that waits no longer has to end the process.
 ///
 /// # Errors
-/// `BadText` and `Full`, where nothing is set, and `Broken`. A silent engine is asked again.
+/// `BadText`, `TooMuch`, `Full` and `Refused`, where nothing is set, and `Broken`. A silent engine is asked again.
 pub async fn sure_set(
     engine: &dyn Engine,
     row: &RowName,
@@ -23,8 +23,14 @@ pub async fn sure_set(
     let mut was_tried = false;
     loop {
         match engine.set(row, first, texts).await {
-            Ok(Told::Taken) if was_tried => return found(engine, row, first, texts).await,
+            Ok(Told::Taken) if was_tried => {
+                let there = sure_get(engine, row, first).await?;
+                let is_own = there.starts_with(texts);
+                return Ok(if is_own { Told::Set } else { Told::Taken });
+            }
             Ok(Told::Unsure) | Err(Fault::Silent(_)) => was_tried = true,
+            // What was tried before may still be set.
+            Err(Fault::Full) if was_tried => {}
             told => return told,
         }
         tokio::time::sleep(pause).await;
@@ -32,20 +38,16 @@ pub async fn sure_set(
     }
 }
 
-/// Whether cells that are taken have these texts.
-async fn found(
-    engine: &dyn Engine,
-    row: &RowName,
-    first: u64,
-    texts: &[Bytes],
-) -> Result<Told, Fault> {
+/// The texts from a number on: returns once the engine answers. A row that can't be read is none that is empty.
+///
+/// # Errors
+/// As of `get`, but that a silent engine is asked again.
+pub async fn sure_get(engine: &dyn Engine, row: &RowName, first: u64) -> Result<Vec<Bytes>, Fault> {
     let mut pause = FIRST_PAUSE;
     loop {
         match engine.get(row, first).await {
-            Ok(there) if there.starts_with(texts) => return Ok(Told::Set),
-            Ok(_) => return Ok(Told::Taken),
             Err(Fault::Silent(_)) => tokio::time::sleep(pause).await,
-            Err(fault) => return Err(fault),
+            told => return told,
         }
         pause = LONGEST_PAUSE.min(pause * 2);
     }

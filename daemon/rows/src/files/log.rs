@@ -5,10 +5,14 @@
 use super::disk::RowFile;
 use super::record;
 use crate::engine::{Fault, Told};
+use crate::text::check_texts;
 use bytes::Bytes;
 use std::io::{self, ErrorKind};
 
 const MOST_READ: u64 = 1 << 20;
+
+/// What is read with no thread of its own: so much that was not read before, and so many cells.
+const MOST_AT_ONCE: (u64, usize) = (1 << 18, 16);
 
 /// Where a cell's text lies in the file.
 #[derive(Clone, Copy, Debug)]
@@ -50,9 +54,7 @@ impl Log {
 
     /// Sets cells from a number on.
     pub(super) fn set(&mut self, first: u64, texts: &[Bytes]) -> Result<Told, Fault> {
-        if texts.is_empty() || !texts.iter().all(|text| record::is_text(text)) {
-            return Err(Fault::BadText);
-        }
+        check_texts(texts)?;
         self.unless_broken(|log| log.append(first, texts))
     }
 
@@ -60,13 +62,27 @@ impl Log {
     pub(super) fn get(&mut self, first: u64) -> Result<Vec<Bytes>, Fault> {
         self.unless_broken(|log| {
             log.settle()?;
-            let from = usize::try_from(first.max(1) - 1)
-                .map_or(log.cells.len(), |at| at.min(log.cells.len()));
-            log.cells[from..]
-                .iter()
-                .map(|place| log.text(*place))
-                .collect()
+            log.texts_from(first)
         })
+    }
+
+    /// The same where it needs no wait for the disk: all that is in the file is kept, and little of it is asked for.
+    pub(super) fn get_at_once(&mut self, first: u64) -> Option<Result<Vec<Bytes>, Fault>> {
+        let (length, mark) = (self.file.length().ok()?, self.file.mark().ok()?);
+        let is_read = length.saturating_sub(self.read_to) <= MOST_AT_ONCE.0;
+        let is_last = first + MOST_AT_ONCE.1 as u64 > self.next();
+        (mark == length && is_read && is_last).then(|| {
+            self.unless_broken(|log| {
+                log.read_up_to(mark)?;
+                log.texts_from(first)
+            })
+        })
+    }
+
+    fn texts_from(&self, first: u64) -> Result<Vec<Bytes>, Fault> {
+        let from = usize::try_from(first.max(1) - 1).unwrap_or(usize::MAX);
+        let places = self.cells.iter().skip(from);
+        places.map(|place| self.text(*place)).collect()
     }
 
     /// Once something broke, nothing is asked of the file again: a sync that failed may have dropped what it was to keep.

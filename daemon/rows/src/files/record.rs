@@ -13,11 +13,6 @@ pub(super) struct Record {
     pub(super) texts: Vec<Range<usize>>,
 }
 
-/// Whether a cell can hold this text.
-pub(super) fn is_text(text: &[u8]) -> bool {
-    !text.iter().any(|byte| matches!(byte, b'\n' | b'\t'))
-}
-
 /// The record of these cells.
 pub(super) fn written(first: u64, texts: &[Bytes]) -> Vec<u8> {
     let told = texts.join(&b'\t');
@@ -61,7 +56,7 @@ fn ranges(begin: usize, told: &[u8]) -> Vec<Range<usize>> {
 
 #[cfg(test)]
 mod tests {
-    use super::{is_text, read, written};
+    use super::{read, written};
     use bytes::Bytes;
 
     fn line_of(first: u64, texts: &[&'static str]) -> Vec<u8> {
@@ -90,11 +85,5 @@ mod tests {
             changed[at] ^= 1;
             assert_eq!(read(&changed), None, "{at}");
         }
-    }
-
-    #[test]
-    fn a_text_is_one_line_without_a_tab() {
-        assert!(is_text(b"{\"a\":1}") && is_text(b""));
-        assert!(!is_text(b"a\nb") && !is_text(b"a\tb"));
     }
 }

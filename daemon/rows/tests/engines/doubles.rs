@@ -124,13 +124,13 @@ impl RowFile for ForgetfulFile {
 }
 
 /// An engine of which each other reply is lost, before or after what was asked was done.
-pub struct LossyEngine<E> {
-    engine: E,
+pub struct LossyEngine {
+    engine: Arc<dyn Engine>,
     random: Mutex<StdRng>,
 }
 
-impl<E> LossyEngine<E> {
-    pub fn of(engine: E, seed: u64) -> LossyEngine<E> {
+impl LossyEngine {
+    pub fn of(engine: Arc<dyn Engine>, seed: u64) -> LossyEngine {
         LossyEngine {
             engine,
             random: Mutex::new(StdRng::seed_from_u64(seed)),
@@ -143,7 +143,7 @@ impl<E> LossyEngine<E> {
 }
 
 #[async_trait]
-impl<E: Engine> Engine for LossyEngine<E> {
+impl Engine for LossyEngine {
     async fn set(&self, row: &RowName, first: u64, texts: &[Bytes]) -> Result<Told, Fault> {
         if self.loses() {
             return Ok(Told::Unsure);

@@ -2,7 +2,7 @@
 
 use crate::doubles::LossyEngine;
 use bytes::Bytes;
-use rows::cell::{Call, Chain, Identity, Lost, Why};
+use rows::cell::{Call, Cell, Chain, Identity, Lost, Why};
 use rows::{sure_set, Engine, Files, FollowFault, Follower, RowName, Told};
 use serde_json::value::RawValue;
 use std::path::Path;
@@ -47,7 +47,7 @@ async fn each_cell_is_given_once_in_order() {
     let folder = tempfile::tempdir().unwrap();
     let all = cells("w", chain(), 100);
     let writer = Files::of(folder.path());
-    let reader = Arc::new(LossyEngine::of(Files::of(folder.path()), 3));
+    let reader = Arc::new(LossyEngine::of(Arc::new(Files::of(folder.path())), 3));
     let mut follower = Follower::of(reader, chain()).await.unwrap();
     let texts = all.clone();
     let setting = tokio::spawn(async move {
@@ -60,12 +60,27 @@ async fn each_cell_is_given_once_in_order() {
         given.extend(follower.next().await.unwrap());
     }
     setting.await.unwrap();
-    let given: Vec<Vec<u8>> = given
-        .iter()
-        .map(|cell| serde_json::to_vec(cell).unwrap())
-        .collect();
-    assert_eq!(given, all);
+    for (number, (sent, text)) in (1..).zip(given.iter().zip(&all)) {
+        let cell: Cell = serde_json::from_slice(text).unwrap();
+        assert_eq!(
+            (sent.number, sent.message.get()),
+            (number, cell.message.get())
+        );
+    }
+    assert_eq!(given.len(), all.len());
     assert_eq!(follower.chain().next(), 101);
+}
+
+#[tokio::test(start_paused = true)]
+async fn a_row_that_is_silent_is_not_empty() {
+    let folder = tempfile::tempdir().unwrap();
+    let all = cells("w", chain(), 5);
+    set(&Files::of(folder.path()), 1, &all).await;
+    for seed in 0..20 {
+        let reader = Arc::new(LossyEngine::of(Arc::new(Files::of(folder.path())), seed));
+        let mut follower = Follower::of(reader, chain()).await.unwrap();
+        assert_eq!(follower.there().await.unwrap().len(), all.len());
+    }
 }
 
 /// Takes the row's file back to what it was, as an old copy of a folder does.

@@ -1,0 +1,178 @@
+//! What is asked over one connection.
+use super::faults::{fault_of_read, told_of_set};
+use super::target::{Driver, Link, Target};
+use super::tls::MakeTls;
+use crate::engine::{Fault, Told};
+use crate::name::RowName;
+use bytes::Bytes;
+use futures_util::{pin_mut, TryStreamExt};
+use std::future::Future;
+use std::sync::atomic::{AtomicU64, Ordering};
+use std::sync::Arc;
+use std::time::Duration;
+use tokio::sync::mpsc;
+use tokio_postgres::types::{ToSql, Type};
+use tokio_postgres::{Client, Statement};
+
+/// A connection that is ready.
+pub(super) struct Session {
+    client: Client,
+    warnings: Arc<AtomicU64>,
+    tidings: mpsc::UnboundedReceiver<String>,
+    tls: MakeTls,
+    patience: Duration,
+    channel: String,
+    insert: Statement,
+    select: Statement,
+    confirm: Statement,
+    notify: Statement,
+    _driver: Driver,
+}
+
+/// Writes to the log, in a transaction of its own, so that its commit waits for the standbys.
+const CONFIRM: &str = "SELECT pg_logical_emit_message(true, 'rows'::text, ''::text)";
+
+const NOTIFY: &str = "SELECT pg_notify($1, told) FROM unnest($2::text[]) AS told";
+
+impl Session {
+    pub(super) async fn of(target: &Target, link: Link) -> Result<Session, Fault> {
+        let (client, table) = (&link.client, &target.table);
+        let types = [Type::TEXT, Type::INT8, Type::BYTEA_ARRAY];
+        let prepared = async {
+            Ok((
+                client.prepare_typed(&table.insert(), &types).await?,
+                client.prepare_typed(&table.select(), &types[..2]).await?,
+                client.prepare(CONFIRM).await?,
+                client.prepare(NOTIFY).await?,
+            ))
+        };
+        let prepared: Result<_, tokio_postgres::Error> = prepared.await;
+        let (insert, select, confirm, notify) = prepared.map_err(|error| fault_of_read(&error))?;
+        Ok(Session {
+            client: link.client,
+            warnings: link.warnings,
+            tidings: link.tidings,
+            tls: target.tls.clone(),
+            patience: target.answer_timeout,
+            channel: table.channel().to_owned(),
+            insert,
+            select,
+            confirm,
+            notify,
+            _driver: link.driver,
+        })
+    }
+
+    pub(super) fn is_open(&self) -> bool {
+        !self.client.is_closed()
+    }
+
+    /// How many warnings came.
+    fn warned(&self) -> u64 {
+        self.warnings.load(Ordering::SeqCst)
+    }
+
+    /// Sets cells, and tells whether the session is used again.
+    pub(super) async fn set(
+        &self,
+        row: &RowName,
+        first: u64,
+        texts: &[Bytes],
+    ) -> (Result<Told, Fault>, bool) {
+        let Ok(number) = i64::try_from(first) else {
+            return (Ok(Told::Gap), true);
+        };
+        let cells: Vec<&[u8]> = texts.iter().map(AsRef::as_ref).collect();
+        let words: [&(dyn ToSql + Sync); 3] = [&row.as_str(), &number, &cells];
+        let warned = self.warned();
+        let asked = self.client.execute(&self.insert, &words);
+        match tokio::time::timeout(self.patience, asked).await {
+            Err(_) => {
+                tracing::warn!("PostgreSQL: a set of {row} was not answered in time");
+                (Ok(Told::Unsure), false)
+            }
+            // It is committed here, and nobody waited for the standby.
+            Ok(Ok(_)) if self.warned() != warned => (Ok(Told::Unsure), true),
+            Ok(Ok(0)) => (Ok(Told::Gap), true),
+            Ok(Ok(count)) if count == texts.len() as u64 => (Ok(Told::Set), true),
+            Ok(Ok(_)) => (Ok(Told::Unsure), true),
+            Ok(Err(error)) => {
+                let told = told_of_set(&error);
+                let is_usual = told == Ok(Told::Taken);
+                (told, is_usual)
+            }
+        }
+    }
+
+    /// The texts of a row, each of which no failure takes back any more.
+    pub(super) async fn get(&self, row: &RowName, first: u64) -> Result<Vec<Bytes>, Fault> {
+        let mut expected = i64::try_from(first.max(1)).unwrap_or(i64::MAX);
+        let words: [&(dyn ToSql + Sync); 2] = [&row.as_str(), &expected];
+        let rows = self.client.query_raw(&self.select, words);
+        let rows = self.in_time(rows).await?;
+        pin_mut!(rows);
+        let (mut texts, mut has_standbys) = (Vec::new(), false);
+        while let Some(cell) = self.in_time(rows.try_next()).await? {
+            if cell.get::<_, i64>(0) != expected {
+                return Err(Fault::Broken(format!("cell {expected} of {row} is gone")));
+            }
+            expected += 1;
+            texts.push(Bytes::copy_from_slice(cell.get(1)));
+            has_standbys = cell.get(2);
+        }
+        if has_standbys {
+            self.confirm().await?;
+        }
+        Ok(texts)
+    }
+
+    /// Returns once the standbys have all that was seen on this connection. A cell is seen before they have it where the wait of its set was cancelled,
+    /// or the server crashed amid it; and would be lost where a standby is promoted then.
+    async fn confirm(&self) -> Result<(), Fault> {
+        let warned = self.warned();
+        let asked = self.client.execute(&self.confirm, &[]);
+        match tokio::time::timeout(self.patience, asked).await {
+            Ok(Ok(_)) if self.warned() == warned => Ok(()),
+            Ok(Err(error)) => Err(fault_of_read(&error)),
+            Ok(Ok(_)) => Err(behind()),
+            Err(_) => {
+                // Else the server has it wait on, and one more at each try.
+                let token = self.client.cancel_token();
+                let cancelled = token.cancel_query(self.tls.clone());
+                let _ = tokio::time::timeout(self.patience, cancelled).await;
+                Err(behind())
+            }
+        }
+    }
+
+    pub(super) async fn listen(&self) -> Result<(), Fault> {
+        let words = format!(r#"LISTEN "{}""#, self.channel);
+        self.in_time(self.client.batch_execute(&words)).await
+    }
+
+    /// Tells all who listen that these rows have more cells.
+    pub(super) async fn notify(&self, rows: &[String]) -> Result<(), Fault> {
+        let words: [&(dyn ToSql + Sync); 2] = [&self.channel, &rows];
+        let told = self.client.execute(&self.notify, &words);
+        self.in_time(told).await.map(|_| ())
+    }
+
+    /// The next row that has more cells; none where the connection has ended.
+    pub(super) async fn told(&mut self) -> Option<String> {
+        self.tidings.recv().await
+    }
+
+    async fn in_time<T>(
+        &self,
+        asked: impl Future<Output = Result<T, tokio_postgres::Error>>,
+    ) -> Result<T, Fault> {
+        match tokio::time::timeout(self.patience, asked).await {
+            Ok(answered) => answered.map_err(|error| fault_of_read(&error)),
+            Err(_) => Err(Fault::Silent("no answer in time".to_owned())),
+        }
+    }
+}
+
+fn behind() -> Fault {
+    Fault::Silent("the standbys don't have yet what was read".to_owned())
+}

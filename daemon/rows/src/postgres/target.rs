@@ -1,0 +1,182 @@
+//! Where the server is, and how it is reached.
+use super::faults::fault_of_connect;
+use super::hosts::{hosts_of, is_local};
+use super::session::Session;
+use super::settings::Settings;
+use super::table::Table;
+use super::tls::MakeTls;
+use super::Options;
+use crate::engine::Fault;
+use std::fs;
+use std::future::{poll_fn, Future};
+use std::path::PathBuf;
+use std::sync::atomic::{AtomicU64, Ordering};
+use std::sync::Arc;
+use std::time::Duration;
+use tokio::io::{AsyncRead, AsyncWrite};
+use tokio::sync::mpsc;
+use tokio::task::JoinHandle;
+use tokio_postgres::config::SslMode;
+use tokio_postgres::error::Severity;
+use tokio_postgres::{AsyncMessage, Client, Config, Connection};
+
+/// Where to, and how.
+pub(super) struct Target {
+    /// One for each host.
+    configs: Vec<Config>,
+    password: Option<PathBuf>,
+    pub(super) tls: MakeTls,
+    connect_timeout: Duration,
+    pub(super) answer_timeout: Duration,
+    pub(super) table: Table,
+}
+
+impl Target {
+    pub(super) fn of(options: &Options) -> Result<Target, Fault> {
+        let mut configs = hosts_of(&options.server)?;
+        let authority = options.authority.as_deref();
+        let tls = authority.map(crate::tls::client_config).transpose()?;
+        for config in &mut configs {
+            let is_local = config.get_hosts().iter().all(is_local);
+            if tls.is_none() && !is_local {
+                let why = "a host that is not this machine is asked over TLS: name its authority";
+                return Err(Fault::Refused(why.to_owned()));
+            }
+            config.ssl_mode(match tls {
+                Some(_) => SslMode::Require,
+                None => SslMode::Disable,
+            });
+        }
+        Ok(Target {
+            configs,
+            password: options.password.clone(),
+            tls: MakeTls(tls.map(Arc::new)),
+            connect_timeout: options.connect_timeout,
+            answer_timeout: options.answer_timeout,
+            table: Table::of(&options.schema)?,
+        })
+    }
+
+    /// Has the table made where it is not there, and says what there is to say of the server.
+    pub(super) async fn found(&self) -> Result<(), Fault> {
+        self.first_host(|link| self.found_over(link)).await
+    }
+
+    async fn found_over(&self, link: Link) -> Result<(), Fault> {
+        if link.settings.is_alone() {
+            tracing::info!("PostgreSQL: synchronous_standby_names is empty: one machine's disk is all that keeps the rows");
+        }
+        self.table.make(&link.client).await
+    }
+
+    /// A connection to a server that may be relied on.
+    pub(super) async fn connect(&self) -> Result<Session, Fault> {
+        self.first_host(|link| self.begin_over(link)).await
+    }
+
+    async fn begin_over(&self, link: Link) -> Result<Session, Fault> {
+        self.table.check(&link.client).await?;
+        Session::of(self, link).await
+    }
+
+    /// Does this with the first host where it can be done in time. Where none is, it tells of one that an operator has to mend, or else of the last.
+    async fn first_host<T, F>(&self, work: impl Fn(Link) -> F) -> Result<T, Fault>
+    where
+        F: Future<Output = Result<T, Fault>>,
+    {
+        let mut told = Fault::Silent("no host".to_owned());
+        for config in &self.configs {
+            let work = async { work(self.link(config).await?).await };
+            let late = |_| Err(Fault::Silent("no connection in time".to_owned()));
+            match tokio::time::timeout(self.connect_timeout, work)
+                .await
+                .unwrap_or_else(late)
+            {
+                Ok(done) => return Ok(done),
+                Err(fault) if !matches!(told, Fault::Refused(_)) => told = fault,
+                Err(_) => {}
+            }
+        }
+        Err(told)
+    }
+
+    async fn link(&self, config: &Config) -> Result<Link, Fault> {
+        let config = self.with_password(config)?;
+        let made = config.connect(self.tls.clone()).await;
+        let (client, connection) = made.map_err(|error| fault_of_connect(&error))?;
+        let warnings = Arc::new(AtomicU64::new(0));
+        let (tell, tidings) = mpsc::unbounded_channel();
+        let driver = Driver(tokio::spawn(drive(connection, Arc::clone(&warnings), tell)));
+        let settings = Settings::ask(&client).await?;
+        settings.check()?;
+        settings.fix(&client, self.answer_timeout).await?;
+        Ok(Link {
+            client,
+            settings,
+            warnings,
+            tidings,
+            driver,
+        })
+    }
+
+    /// With what the file has now.
+    fn with_password(&self, config: &Config) -> Result<Config, Fault> {
+        let mut config = config.clone();
+        if let Some(file) = &self.password {
+            let password = fs::read_to_string(file)
+                .map_err(|error| Fault::Refused(format!("{}: {error}", file.display())))?;
+            config.password(password.trim_end_matches(['\r', '\n']));
+        }
+        Ok(config)
+    }
+}
+
+/// A connection whose server was asked for its settings.
+pub(super) struct Link {
+    pub(super) client: Client,
+    settings: Settings,
+    pub(super) warnings: Arc<AtomicU64>,
+    pub(super) tidings: mpsc::UnboundedReceiver<String>,
+    pub(super) driver: Driver,
+}
+
+/// What reads and writes the socket; without it the connection is closed.
+pub(super) struct Driver(JoinHandle<()>);
+
+impl Drop for Driver {
+    fn drop(&mut self) {
+        self.0.abort();
+    }
+}
+
+/// Moves what is asked and answered, counts warnings and gives tidings on. What the server told before an answer was counted before the answer is
+/// had.
+async fn drive<S, T>(
+    mut connection: Connection<S, T>,
+    warnings: Arc<AtomicU64>,
+    tell: mpsc::UnboundedSender<String>,
+) where
+    S: AsyncRead + AsyncWrite + Unpin,
+    T: AsyncRead + AsyncWrite + Unpin,
+{
+    loop {
+        match poll_fn(|context| connection.poll_message(context)).await {
+            Some(Ok(AsyncMessage::Notice(notice))) => {
+                if notice.parsed_severity() == Some(Severity::Warning) {
+                    tracing::warn!("PostgreSQL: {}", notice.message());
+                    warnings.fetch_add(1, Ordering::SeqCst);
+                }
+            }
+            Some(Ok(AsyncMessage::Notification(told))) => {
+                // Nobody hears it where nobody listens.
+                let _ = tell.send(told.payload().to_owned());
+            }
+            Some(Ok(_)) => {}
+            Some(Err(error)) => {
+                tracing::debug!("PostgreSQL: a connection ends: {error}");
+                return;
+            }
+            None => return,
+        }
+    }
+}
