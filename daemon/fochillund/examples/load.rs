@@ -7,7 +7,6 @@
 //! long a member is made anew that has 60,000 cells.
 use bytes::Bytes;
 use fochillund::ask::Members;
-use fochillund::founding::LEAST_SENT_LIMIT;
 use fochillund::group::{node, socket};
 use rows::{sure_set, Files, RowName};
 use std::path::{Path, PathBuf};
@@ -15,6 +14,7 @@ use std::process::{Child, Command, Stdio};
 use std::time::{Duration, Instant};
 
 const MEMBERS: u32 = 3;
+const MOST_SENT: i64 = 65_536;
 const CHECK: &str = r#"[{"name":"CheckAccess","session":"s","operation":"read","object":"chart"}]"#;
 
 struct Group {
@@ -166,7 +166,7 @@ async fn load(group: &Group, callers: u32, lasts: Duration, set: f64) {
 }
 
 async fn made_anew(folder: &Path) {
-    let mut group = start(folder, 1, 65_536);
+    let mut group = start(folder, 1, MOST_SENT);
     group.is_up(1).await;
     let mut client = group.client();
     for number in 0..60_000 {
@@ -200,7 +200,7 @@ async fn main() {
     let folder = PathBuf::from(words.first().expect("a folder")).join("load");
     let lasts = words.get(1).and_then(|it| it.parse().ok()).unwrap_or(5);
     let lasts = Duration::from_secs(lasts);
-    let group = start(&folder, MEMBERS, LEAST_SENT_LIMIT);
+    let group = start(&folder, MEMBERS, MOST_SENT);
     group.is_up(MEMBERS).await;
     let set = bare_set(&folder, lasts / 4).await;
     println!("a bare set: p50 {set:.2} ms");

@@ -4,6 +4,7 @@
 mod replies;
 mod requests;
 
+use crate::engine::EngineState;
 use crate::process::Options;
 use crate::row_member::{NewCall, Reply};
 use hyper::server::conn::Http;
@@ -25,7 +26,7 @@ use tokio::sync::{mpsc, oneshot};
 #[derive(Debug)]
 pub(crate) enum Question {
     Call(NewCall, oneshot::Sender<Reply>),
-    State(oneshot::Sender<State>),
+    State(oneshot::Sender<Box<State>>),
     /// The records from this number on, as many as are told at once.
     Records(u64, oneshot::Sender<Vec<String>>),
 }
@@ -53,6 +54,8 @@ pub struct State {
     pub queued: usize,
     /// How many are sent and not answered.
     pub sent: usize,
+    /// How the engine of the rows does.
+    pub engine: EngineState,
 }
 
 /// What the connections of a member share.

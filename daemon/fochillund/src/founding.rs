@@ -1,8 +1,9 @@
 //! What a group over rows is founded with: set once, the same for all who join.
 use bytes::Bytes;
 use rows::cell::{Founding, VERSION};
-use rows::{sure_set, Engine, Fault, RowName};
+use rows::{sure_get, sure_set, Engine, Fault, RowName};
 use std::collections::BTreeSet;
+use std::time::Duration;
 use thiserror::Error;
 use toml::value::Table;
 
@@ -14,6 +15,9 @@ pub const GENERATION: u64 = 1;
 
 /// The least `sent_limit` of a group over rows. A row that ends early ends the group.
 pub const LEAST_SENT_LIMIT: i64 = 16_384;
+
+/// After this time a node that may not found the group looks whether another has.
+const PAUSE: Duration = Duration::from_millis(500);
 
 /// How many messages a member sends where the founding file does not say.
 const SENT_LIMIT: i64 = 65_536;
@@ -94,11 +98,17 @@ pub async fn join(
     founding: &Founding,
 ) -> Result<Result<Bytes, FoundingFault>, Fault> {
     let row = RowName::founding();
-    if engine.get(&row, 1).await?.is_empty() {
-        let text = serde_json::to_vec(founding).expect("a founding is JSON");
-        sure_set(engine, &row, 1, &[text.into()]).await?;
+    let text = Bytes::from(serde_json::to_vec(founding).expect("a founding is JSON"));
+    while sure_get(engine, &row, 1).await?.is_empty() {
+        match sure_set(engine, &row, 1, std::slice::from_ref(&text)).await {
+            Err(Fault::Refused(why)) => {
+                tracing::info!("another node has to found the group: {why}");
+                tokio::time::sleep(PAUSE).await;
+            }
+            told => drop(told?),
+        }
     }
-    let there = engine.get(&row, 1).await?;
+    let there = sure_get(engine, &row, 1).await?;
     let text = there
         .first()
         .ok_or(Fault::Broken("the founding's cell is not there".to_owned()))?;

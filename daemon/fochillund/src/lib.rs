@@ -4,6 +4,7 @@
 //! member's in the member's row before anything rests on it, and takes those of the others from theirs.
 pub mod ask;
 pub mod callers;
+pub mod engine;
 pub mod founding;
 pub mod group;
 pub mod process;

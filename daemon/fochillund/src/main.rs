@@ -1,6 +1,7 @@
 //! The program: one member of a group over rows, a group of such processes on this machine, and a client of it.
 use clap::{Parser, Subcommand};
 use fochillund::ask::Members;
+use fochillund::engine::Place;
 use fochillund::founding::founding_of;
 use fochillund::group::{node, prepare, Group};
 use fochillund::process::{run, Options};
@@ -44,9 +45,14 @@ enum Verb {
     /// Is one member. Status 2: not started rightly; 3: fenced, another process is this member; 4: rows have lost cells, don't start it again
     /// blindly; 5: the rows can't be set or read
     Member {
-        /// The folder of the rows
+        /// The folder of this process: its lock and its socket, and the rows, where they are files and --rows names no other folder
         #[arg(long)]
         folder: PathBuf,
+        #[command(flatten)]
+        place: Place,
+        /// Take the member over at once from a process that is it elsewhere: that one is fenced
+        #[arg(long = "take-over")]
+        takes_over: bool,
         /// The founding file, the same for all members
         #[arg(long)]
         founding: PathBuf,
@@ -99,6 +105,8 @@ async fn start(verb: Verb) -> Result<u8, String> {
         Verb::Ask { folder, patience } => ask(&folder, patience).await,
         Verb::Member {
             folder,
+            place,
+            takes_over,
             founding,
             nodes,
             node,
@@ -106,14 +114,16 @@ async fn start(verb: Verb) -> Result<u8, String> {
             patience,
             ends_with_stdin,
         } => {
-            let place = nodes.iter().position(|named| *named == node);
-            let place = place.ok_or_else(|| format!("{node} is none of the nodes"))?;
+            let member = nodes.iter().position(|named| *named == node);
+            let member = member.ok_or_else(|| format!("{node} is none of the nodes"))?;
             let founding = founding_of(&read(&founding)?, &nodes);
             let options = Options {
                 socket: socket.unwrap_or_else(|| folder.join(&node).with_extension("sock")),
                 folder,
+                place,
+                takes_over,
                 founding: founding.map_err(|fault| fault.to_string())?,
-                member: place as u32 + 1,
+                member: member as u32 + 1,
                 patience: Duration::from_secs(patience),
             };
             Ok(be_member(options, ends_with_stdin).await)

@@ -3,14 +3,16 @@ mod joining;
 mod lock;
 
 use crate::callers::{Question, State};
+use crate::engine::{Heard, Place};
 use crate::founding::GENERATION;
-use crate::row_member::{Reply, RowMember};
+use crate::row_member::{NewCall, Reply, RowMember};
 use crate::stop::Stop;
 use bytes::Bytes;
 use joining::{join_group, Joined};
 use lock::Lock;
-use rows::cell::{Cell, Founding};
-use rows::{sure_set, Engine, Fault, Files, Follower, RowName, Told, SWEEP};
+use rows::cell::{Cell, Founding, Sent};
+use rows::{sure_set, Engine, Fault, Follower, RowName, Told, SWEEP};
+use serde_json::value::RawValue;
 use std::future::Future;
 use std::path::PathBuf;
 use std::pin::Pin;
@@ -24,11 +26,21 @@ const ROOM: usize = 1024;
 /// The most records that are told at once.
 const MOST_RECORDS: u64 = 1000;
 
+/// After this time a set is tried again for which the engine had no room.
+const FULL_PAUSE: Duration = Duration::from_millis(500);
+
+/// A command that changes nothing. By it a process makes a cell of its own, so that it is known which process is the member now.
+const NO_CHANGE: &str = r#"[{"name":"SsdRoleSets"}]"#;
+
 /// What a process is started with.
 #[derive(Clone, Debug)]
 pub struct Options {
-    /// The folder of the rows.
+    /// The folder of the process: its lock, and the rows where they are files.
     pub folder: PathBuf,
+    /// Where the rows are.
+    pub place: Place,
+    /// Whether it sets a cell at once, so that each other process of this member is fenced, on whatever machine.
+    pub takes_over: bool,
     /// What the group is founded with.
     pub founding: Founding,
     /// The number of the member, from 1 on: the place of its node.
@@ -48,7 +60,7 @@ impl Options {
 
 type Waiter = oneshot::Sender<Reply>;
 type Setting = Pin<Box<dyn Future<Output = Result<Told, Fault>>>>;
-type Read = Result<(u32, Vec<Cell>), Stop>;
+type Read = Result<(u32, Vec<Sent>), Stop>;
 
 /// Runs the member until it has to end.
 pub async fn run(options: Options) -> Stop {
@@ -61,8 +73,9 @@ async fn start(options: &Options) -> Result<Stop, Stop> {
     let lock = Lock::take(&options.folder, options.node()).await;
     let _lock = lock.map_err(Stop::Lock)?;
     let began = Instant::now();
-    let engine: Arc<dyn Engine> = Arc::new(Files::of(&options.folder));
-    let joined = join_group(&engine, options).await?;
+    let engine = Arc::new(Heard::of(opened(options).await?));
+    let as_engine: Arc<dyn Engine> = Arc::clone(&engine) as _;
+    let joined = join_group(&as_engine, options).await?;
     let (questions, asked) = mpsc::channel(ROOM);
     crate::callers::serve(options, questions).map_err(Stop::Socket)?;
     tracing::info!(
@@ -76,24 +89,41 @@ async fn start(options: &Options) -> Result<Stop, Stop> {
     Ok(Process::of(options, engine, joined).go_on(asked).await)
 }
 
+/// The engine, once it answers: it may be started at the same time.
+async fn opened(options: &Options) -> Result<Arc<dyn Engine>, Fault> {
+    loop {
+        match options.place.open(&options.folder).await {
+            Err(Fault::Silent(why)) => tracing::info!("{}: the rows: {why}", options.node()),
+            told => return told,
+        }
+        tokio::time::sleep(FULL_PAUSE).await;
+    }
+}
+
 struct Process {
     member: RowMember<Waiter>,
     nodes: Vec<String>,
     number: u32,
-    engine: Arc<dyn Engine>,
+    engine: Arc<Heard>,
     row: RowName,
     read: mpsc::Receiver<Read>,
     setting: Option<Setting>,
 }
 
 impl Process {
-    fn of(options: &Options, engine: Arc<dyn Engine>, joined: Joined) -> Process {
+    fn of(options: &Options, engine: Arc<Heard>, mut joined: Joined) -> Process {
         let (tell, read) = mpsc::channel(ROOM);
+        if options.takes_over {
+            let commands = RawValue::from_string(NO_CHANGE.to_owned()).expect("it is JSON");
+            let (identity, waiter) = (None, oneshot::channel().0);
+            joined.member.ask(NewCall { identity, commands }, waiter);
+        }
         for (member, follower) in joined.followers {
             tokio::spawn(follow(member, follower, tell.clone()));
         }
         let (next, row) = (joined.cells as u64 + 1, joined.row.clone());
-        tokio::spawn(watch(Arc::clone(&engine), row, next, joined.writer, tell));
+        let watched = Arc::clone(&engine) as _;
+        tokio::spawn(watch(watched, row, next, joined.writer, tell));
         Process {
             member: joined.member,
             nodes: options.founding.nodes.clone(),
@@ -115,9 +145,13 @@ impl Process {
 
     /// Begins to set what is to be set, tells what is to be told, and waits for the next event.
     async fn step(&mut self, asked: &mut mpsc::Receiver<Question>) -> Result<(), Stop> {
-        match &self.setting {
-            None => self.setting = self.begin()?,
-            Some(_) => self.member.turn()?,
+        if self.setting.is_some() {
+            self.member.turn()?;
+        } else {
+            // Who is about to ask goes into the same message.
+            tokio::task::yield_now().await;
+            self.take_questions(asked);
+            self.setting = self.begin()?;
         }
         for (waiter, reply) in self.member.take_told() {
             // Who waits no longer asks again.
@@ -135,9 +169,7 @@ impl Process {
             }
             Some(question) = asked.recv() => {
                 self.take_question(question);
-                while let Ok(question) = asked.try_recv() {
-                    self.take_question(question);
-                }
+                self.take_questions(asked);
                 Ok(())
             }
         }
@@ -170,11 +202,17 @@ impl Process {
         Ok(())
     }
 
+    fn take_questions(&mut self, asked: &mut mpsc::Receiver<Question>) {
+        while let Ok(question) = asked.try_recv() {
+            self.take_question(question);
+        }
+    }
+
     fn take_question(&mut self, question: Question) {
         match question {
             Question::Call(call, waiter) => self.member.ask(call, waiter),
             Question::State(waiter) => {
-                let _ = waiter.send(self.state());
+                let _ = waiter.send(Box::new(self.state()));
             }
             Question::Records(from, waiter) => {
                 let to = self
@@ -200,12 +238,19 @@ impl Process {
             sets: waits.row,
             queued: waits.queued,
             sent: waits.sent,
+            engine: self.engine.state(),
         }
     }
 }
 
+/// Sets a cell. Where the engine is full nothing is set, and the same text is tried until somebody has made room.
 async fn set(engine: &dyn Engine, row: &RowName, first: u64, text: Bytes) -> Result<Told, Fault> {
-    sure_set(engine, row, first, &[text]).await
+    loop {
+        match sure_set(engine, row, first, std::slice::from_ref(&text)).await {
+            Err(Fault::Full) => tokio::time::sleep(FULL_PAUSE).await,
+            told => return told,
+        }
+    }
 }
 
 /// Returns once what is being set is; never where nothing is.

@@ -14,9 +14,9 @@ use bytes::Bytes;
 use call::{commands_of, ReadCall, LONGEST_MESSAGE};
 use fochillun::{Member, MemberError, OpenError, RestoreError};
 use history::{History, Place};
-use inbox::Inbox;
+use inbox::{Inbox, Wanted};
 use queue::{Batch, Queue};
-use rows::cell::{Cell, Chain};
+use rows::cell::{Cell, Chain, Sent};
 use serde::Deserialize;
 use serde_json::value::RawValue;
 use thiserror::Error;
@@ -90,6 +90,10 @@ pub struct RowMember<W> {
     history: History<W>,
     setting: Option<Setting<W>>,
     told: Vec<(W, Reply)>,
+    /// The clock of the last message of the member's own; 0 before the first.
+    sent_clock: u64,
+    /// How many messages the member has taken, its own too.
+    steps: u64,
     has_just_acknowledged: bool,
     is_full: bool,
     records: u64,
@@ -121,10 +125,15 @@ struct Stamped {
     stamp: (u64, u32),
 }
 
-/// The clock of a message's stamp.
-fn clock_of(message: &str) -> u64 {
-    let stamped: Stamped = serde_json::from_str(message).expect("a message has a stamp");
-    stamped.stamp.0
+/// The clock of a message's stamp; none where it has none.
+fn clock_of(message: &str) -> Option<u64> {
+    let stamped: Option<Stamped> = serde_json::from_str(message).ok();
+    stamped.map(|it| it.stamp.0)
+}
+
+/// The same of a message that the library has made.
+fn own_clock(message: &str) -> u64 {
+    clock_of(message).expect("a message that the library makes has a stamp")
 }
 
 impl<W> RowMember<W> {
@@ -165,6 +174,8 @@ impl<W> RowMember<W> {
             history,
             setting: None,
             told: Vec::new(),
+            sent_clock: cells.last().map_or(0, |cell| own_clock(cell.message.get())),
+            steps: 0,
             has_just_acknowledged: false,
             is_full: false,
             records: 0,
@@ -242,7 +253,7 @@ impl<W> RowMember<W> {
     }
 
     /// A cell of another member's row was read: the next one.
-    pub fn put_cell(&mut self, member: u32, cell: Cell) {
+    pub fn put_cell(&mut self, member: u32, cell: Sent) {
         self.inboxes[member as usize - 1].put(cell);
     }
 
@@ -252,15 +263,22 @@ impl<W> RowMember<W> {
     /// Where a message can't be taken.
     pub fn turn(&mut self) -> Result<(), MemberFault> {
         for member in self.others() {
-            while !self.inboxes[member as usize - 1].wants_answer {
-                match self.answer_to_first(member)? {
-                    Some(None) => self.receive_first(member)?,
-                    Some(Some(_)) => self.inboxes[member as usize - 1].wants_answer = true,
-                    None => break,
-                }
-            }
+            while self.may_take_first(member)? && self.receive_first(member)? {}
         }
         self.deliver()
+    }
+
+    /// Whether there is a message of a member that can be taken with no acknowledgement. None is wanted where the member itself has sent
+    /// something later; of each other message the library says it.
+    fn may_take_first(&mut self, member: u32) -> Result<bool, MemberFault> {
+        let inbox = &self.inboxes[member as usize - 1];
+        let Some(message) = inbox.first() else {
+            return Ok(false);
+        };
+        if message.clock < self.sent_clock {
+            return Ok(true);
+        }
+        Ok(inbox.wanted.is_none() && self.ask_first(member)? == Asked::WantsNothing)
     }
 
     /// The cell that is to be set next: its number and text. None where there is none, or one is being set. Whoever asks it has to tell
@@ -275,7 +293,7 @@ impl<W> RowMember<W> {
         self.turn()?;
         let acknowledgement = self.acknowledgement()?;
         let (message, batch) = match (acknowledgement, self.next_submit()?) {
-            (Some(sent), Some(submitted)) if !self.goes_first(&submitted, &sent) => (sent, None),
+            (Some(sent), Some(submitted)) if !self.goes_first(&submitted) => (sent, None),
             (_, Some(submitted)) => (submitted, Some(self.queue.take())),
             (Some(sent), None) => (sent, None),
             (None, None) => return Ok(None),
@@ -284,9 +302,12 @@ impl<W> RowMember<W> {
         Ok(Some(self.begin(message, batch)))
     }
 
-    /// Whether a batch goes before an acknowledgement: where it acknowledges as much, or it is its turn.
-    fn goes_first(&self, submitted: &str, acknowledgement: &str) -> bool {
-        self.has_just_acknowledged || clock_of(submitted) >= clock_of(acknowledgement)
+    /// Whether a batch goes before an acknowledgement: where it is later than all that was read and wants one, or it is its turn.
+    fn goes_first(&self, submitted: &str) -> bool {
+        let clock = own_clock(submitted);
+        let wanting = self.inboxes.iter().filter(|inbox| inbox.wanted.is_some());
+        let mut first = wanting.filter_map(Inbox::first);
+        self.has_just_acknowledged || first.all(|message| message.clock < clock)
     }
 
     fn begin(&mut self, message: String, batch: Option<Batch<W>>) -> (u64, Bytes) {
@@ -315,9 +336,8 @@ impl<W> RowMember<W> {
         let taken = self.member.take_own(at, &setting.message);
         taken.map_err(|why| fault_of(self.number, number, why))?;
         self.chain.follow(&setting.cell);
-        self.inboxes
-            .iter_mut()
-            .for_each(|it| it.wants_answer = false);
+        self.sent_clock = own_clock(&setting.message);
+        self.steps += 1;
         if let Some(batch) = setting.batch {
             let places = self.history.sent(at, &batch.told());
             for (place, waiters) in places.into_iter().zip(batch.waiters) {
@@ -374,42 +394,61 @@ impl<W> RowMember<W> {
         (1..=self.inboxes.len() as u32).filter(move |member| *member != own)
     }
 
-    /// What the first message of a member that was read wants to be answered before it is taken, if anything; none where none was read.
-    fn answer_to_first(&mut self, member: u32) -> Result<Option<Option<String>>, MemberFault> {
-        let Some(message) = self.inboxes[member as usize - 1].first() else {
-            return Ok(None);
-        };
-        let text = message.text.get();
-        match self.member.next_answer(member, message.number, text) {
-            Ok(answer) => Ok(Some(answer)),
+    /// Asks what the first message of a member wants to be answered before it is taken, and keeps it.
+    fn ask_first(&mut self, member: u32) -> Result<Asked, MemberFault> {
+        let inbox = &mut self.inboxes[member as usize - 1];
+        inbox.wanted = None;
+        let message = inbox.first().expect("a message was read");
+        let (number, text) = (message.number, message.text.get());
+        let answer = match self.member.next_answer(member, number, text) {
+            Ok(answer) => answer,
             Err(MemberError::SentFull | MemberError::ClockFull) => {
                 self.be_full();
-                Ok(None)
+                return Ok(Asked::IsFull);
             }
-            Err(why) => Err(fault_of(member, message.number.into(), why)),
+            Err(why) => return Err(fault_of(member, number.into(), why)),
+        };
+        let asked_at = self.steps;
+        inbox.wanted = answer.map(|answer| Wanted { answer, asked_at });
+        match inbox.wanted {
+            Some(_) => Ok(Asked::WantsAnswer),
+            None => Ok(Asked::WantsNothing),
         }
     }
 
-    fn receive_first(&mut self, member: u32) -> Result<(), MemberFault> {
+    /// Takes the first message of a member, which sends nothing, and tells whether it did: not where no more can be sent.
+    fn receive_first(&mut self, member: u32) -> Result<bool, MemberFault> {
         let inbox = &mut self.inboxes[member as usize - 1];
         let message = inbox.first().expect("a message was read");
         let (number, text) = (message.number, message.text.get());
-        let received = self.member.receive(member, number, text);
-        received.map_err(|why| fault_of(member, number.into(), why))?;
+        match self.member.receive(member, number, text) {
+            Ok(sent) => assert_eq!(sent, None, "a message was sent that is in no cell"),
+            Err(MemberError::SentFull | MemberError::ClockFull) => {
+                self.be_full();
+                return Ok(false);
+            }
+            Err(why) => return Err(fault_of(member, number.into(), why)),
+        }
         inbox.drop_first();
-        Ok(())
+        self.steps += 1;
+        Ok(true)
     }
 
     /// The acknowledgement that lets most of what was read be taken, where one is wanted.
     fn acknowledgement(&mut self) -> Result<Option<String>, MemberFault> {
-        let mut wanted = None;
-        let wants_answer = |member: &u32| self.inboxes[*member as usize - 1].wants_answer;
-        for member in self.others().filter(wants_answer).collect::<Vec<u32>>() {
-            if let Some(Some(answer)) = self.answer_to_first(member)? {
-                wanted = wanted.max(Some((clock_of(&answer), answer)));
+        let mut latest: Option<(u64, String)> = None;
+        for member in self.others().collect::<Vec<u32>>() {
+            let wanted = self.inboxes[member as usize - 1].wanted.as_ref();
+            let asked_at = wanted.map(|wanted| wanted.asked_at);
+            if asked_at.is_some_and(|asked_at| asked_at != self.steps) {
+                self.ask_first(member)?;
+            }
+            if let Some(wanted) = &self.inboxes[member as usize - 1].wanted {
+                let told = (own_clock(&wanted.answer), wanted.answer.clone());
+                latest = latest.max(Some(told));
             }
         }
-        Ok(wanted.map(|(_, answer)| answer))
+        Ok(latest.map(|(_, answer)| answer))
     }
 
     /// The message that the calls that wait go into, as many as have room.
@@ -456,6 +495,15 @@ impl<W> RowMember<W> {
             }
         }
     }
+}
+
+/// What a message wants before it is taken.
+#[derive(Clone, Copy, Debug, PartialEq, Eq)]
+enum Asked {
+    WantsNothing,
+    WantsAnswer,
+    /// An acknowledgement that can't be sent.
+    IsFull,
 }
 
 fn fault_of(member: u32, number: u64, why: MemberError) -> MemberFault {

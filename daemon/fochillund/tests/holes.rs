@@ -211,7 +211,7 @@ fn call_of_length(founding: &str, length: usize) -> String {
     let command = long_command(0, 1);
     let mut first = Member::open(founding.as_bytes(), 1).unwrap();
     let message = first.next_submit_batch(0, 0, &format!("[{command}]"));
-    let begin = format!("{},", long_command(950, 1)).repeat(17);
+    let begin = format!("{},", long_command(950, 1)).repeat(16);
     let left = length - begin.len() - message.unwrap().len();
     let call = format!("[{begin}{}]", long_command(left / 64, 1 + left % 64));
     assert!(call.len() < length);
@@ -219,7 +219,7 @@ fn call_of_length(founding: &str, length: usize) -> String {
 }
 
 #[test]
-fn a_call_that_no_message_has_room_for_is_refused_alone() {
+fn a_call_that_no_cell_has_room_for_is_refused_alone() {
     let founding = founding(1, "");
     let (mut held, mut row) = (made_of(&founding, 1, 1, &[]), Vec::new());
     // The next stamp and the next serial have more digits than the first ones.
@@ -229,20 +229,23 @@ fn a_call_that_no_message_has_room_for_is_refused_alone() {
     }
     told(&mut held);
     let (mut taken, mut refused) = (0, 0);
-    for less in [100, 70, 64, 60, 6, 5, 4, 3, 2, 1, 0] {
-        let commands = call_of_length(&founding, 1_048_576 - less);
-        held.ask(call(None, &commands), 1);
+    for more in [-60, -1, 0, 1, 64, 3000, 4096, 40_000] {
+        let commands = call_of_length(&founding, (995_904 + more) as usize);
+        // In a cell each of its bytes takes six.
+        let id = format!("{}{more:08}", "\u{1}".repeat(120));
+        held.ask(call(Some(&id), &commands), 1);
         match told(&mut held).pop() {
             Some((1, Err(Refusal::Commands(MemberError::MessageTooLong)))) => refused += 1,
             None => {
                 set(&mut held, &mut row);
+                assert!(row.last().unwrap().len() <= 1_000_000);
                 assert!(matches!(told(&mut held)[..], [(1, Ok(_))]));
                 taken += 1;
             }
             other => panic!("{other:?}"),
         }
     }
-    assert_eq!((taken, refused), (3, 8));
+    assert_eq!((taken, refused), (3, 5));
 }
 
 #[test]
@@ -281,9 +284,9 @@ fn a_row_at_its_limit_refuses_and_what_was_sent_is_answered() {
     assert_eq!(refusal, Refusal::Full);
     one.ask(call(Some("a"), &add_user("bob")), 3);
     let mut chains = [1, 2].map(|member| chain_of(&founding, member));
-    two.put_cell(1, chains[0].take(&row[0]).unwrap());
+    two.put_cell(1, chains[0].take_sent(&row[0]).unwrap());
     set(&mut two, &mut theirs);
-    one.put_cell(2, chains[1].take(&theirs[0]).unwrap());
+    one.put_cell(2, chains[1].take_sent(&theirs[0]).unwrap());
     one.turn().unwrap();
     let answered: Vec<u32> = told(&mut one).iter().map(|(waiter, _)| *waiter).collect();
     assert_eq!((answered, one.history_length()), (vec![1, 3], 1));
@@ -298,7 +301,7 @@ fn a_row_that_lost_its_end_is_told_at_recovery() {
     for user in ["ann", "bob"] {
         one.ask(call(None, &add_user(user)), 1);
         set(&mut one, &mut row);
-        two.put_cell(1, chain.take(row.last().unwrap()).unwrap());
+        two.put_cell(1, chain.take_sent(row.last().unwrap()).unwrap());
     }
     set(&mut two, &mut theirs);
     two.ask(call(None, &add_user("eve")), 1);

@@ -14,7 +14,7 @@ pub(super) enum Told {
         member: u32,
         records: Vec<String>,
     },
-    State(State),
+    State(Box<State>),
     Refused(Refusal),
     BadRequest(String),
     TooLong(usize),
@@ -22,7 +22,7 @@ pub(super) enum Told {
     NoGeneration(u64),
     OtherMember(u32),
     /// The call stands, and waits.
-    Waits(State),
+    Waits(Box<State>),
     /// The process ends.
     Ends,
     NoMethod,
@@ -91,6 +91,7 @@ impl Told {
                 "stands": true,
                 "waits_for": state.waits_for,
                 "sets": state.sets,
+                "engine": state.engine,
             }),
             Told::Ends => refused(
                 "Ends",

@@ -6,7 +6,7 @@ use crate::stop::Stop;
 use bytes::Bytes;
 use rand::Rng;
 use rows::cell::{Cell, Chain};
-use rows::{Engine, Follower, RowName};
+use rows::{sure_get, Engine, Follower, RowName};
 use std::sync::Arc;
 
 /// A member that has its row, with the rows of the others read as far as they go.
@@ -68,7 +68,7 @@ async fn read_own(
     founding: &Bytes,
 ) -> Result<(Chain, Vec<Cell>), Stop> {
     let mut chain = chain_of(options, options.member, founding);
-    let texts = engine.get(chain.row(), 1).await?;
+    let texts = sure_get(engine, chain.row(), 1).await?;
     let cells = chain.take_all(&texts);
     Ok((chain, cells.map_err(|lost| Stop::Lost(lost.to_string()))?))
 }

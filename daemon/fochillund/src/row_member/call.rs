@@ -11,9 +11,9 @@ pub const MOST_COMMANDS: usize = 64;
 /// The most bytes of the commands of a message, unless one call has more.
 pub const MOST_BYTES: usize = 256 * 1024;
 
-/// The longest text of a message that has one call's commands, a stamp of small numbers and the serial 0: the library takes messages of
-/// 1,048,576 bytes, and greater numbers take some more of them.
-pub(super) const LONGEST_MESSAGE: usize = 1_048_576 - 64;
+/// The longest text of a message that has one call's commands, a stamp of small numbers and the serial 0: greater numbers, the call's id, hashes
+/// and what else stands in a cell take less than 4,096 bytes more. The library would take messages of 1,048,576.
+pub(super) const LONGEST_MESSAGE: usize = rows::MOST_BYTES - 4096;
 
 /// The most calls that wait to be sent.
 pub const MOST_WAITING: usize = 4096;

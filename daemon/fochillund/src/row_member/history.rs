@@ -1,6 +1,6 @@
 //! What became of the calls of this generation: in which message each was sent, and from which record on that was delivered.
+use ring::digest::{Context, SHA256};
 use rows::cell::{Call, Identity};
-use sha2::{Digest, Sha256};
 use std::collections::{HashMap, VecDeque};
 
 /// Where the commands of a call stand.
@@ -21,12 +21,12 @@ struct Undelivered {
 
 /// A key for an identity. Two that differ have different ones, as far as anybody can find.
 fn key(identity: &Identity) -> u128 {
-    let mut digest = Sha256::new();
-    digest.update((identity.caller.len() as u64).to_le_bytes());
-    digest.update(&identity.caller);
-    digest.update(&identity.id);
-    let digest: [u8; 32] = digest.finalize().into();
-    u128::from_le_bytes(digest[..16].try_into().expect("16 of 32 bytes"))
+    let mut digest = Context::new(&SHA256);
+    digest.update(&(identity.caller.len() as u64).to_le_bytes());
+    digest.update(identity.caller.as_bytes());
+    digest.update(identity.id.as_bytes());
+    let digest = digest.finish();
+    u128::from_le_bytes(digest.as_ref()[..16].try_into().expect("16 of 32 bytes"))
 }
 
 /// The calls of the member's row. Of each that has an identity 48 bytes or so are kept for as long as the generation lasts: a row has at most

@@ -1,27 +1,40 @@
 //! Messages of another member that were read of its row, and not yet taken.
-use rows::cell::Cell;
+use super::clock_of;
+use rows::cell::Sent;
+use serde_json::value::RawValue;
 use std::collections::VecDeque;
 
 /// A message as its cell has it.
 #[derive(Debug)]
 pub(super) struct Message {
     pub(super) number: u32,
-    pub(super) text: Box<serde_json::value::RawValue>,
+    /// Its stamp's clock; of a text that has none, one that no clock passes.
+    pub(super) clock: u64,
+    pub(super) text: Box<RawValue>,
+}
+
+/// The acknowledgement that a message wants before it is taken.
+#[derive(Debug)]
+pub(super) struct Wanted {
+    pub(super) answer: String,
+    /// How many messages the member had taken when this was asked: once it took another, its clock is another too.
+    pub(super) asked_at: u64,
 }
 
 /// The messages of one other member, in order.
 #[derive(Debug, Default)]
 pub(super) struct Inbox {
     messages: VecDeque<Message>,
-    /// Whether the first one wants to be answered before it is taken. So it does until the member sends something.
-    pub(super) wants_answer: bool,
+    /// What the first one wants, where that was asked.
+    pub(super) wanted: Option<Wanted>,
 }
 
 impl Inbox {
-    pub(super) fn put(&mut self, cell: Cell) {
+    pub(super) fn put(&mut self, sent: Sent) {
         self.messages.push_back(Message {
-            number: u32::try_from(cell.number).expect("a member sends at most 65,536 messages"),
-            text: cell.message,
+            number: u32::try_from(sent.number).expect("a member sends at most 65,536 messages"),
+            clock: clock_of(sent.message.get()).unwrap_or(u64::MAX),
+            text: sent.message,
         });
     }
 
@@ -31,5 +44,6 @@ impl Inbox {
 
     pub(super) fn drop_first(&mut self) {
         self.messages.pop_front();
+        self.wanted = None;
     }
 }

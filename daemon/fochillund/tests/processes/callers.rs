@@ -259,6 +259,35 @@ async fn a_process_that_is_asked_nothing_sees_that_it_was_replaced() {
 }
 
 #[tokio::test]
+async fn a_member_is_moved_by_one_command() {
+    let mut group = Group::started(2);
+    let first = group.process(1).unwrap().id();
+    assert_eq!(
+        answers(&post(&group, 1, &call(1, Some("a"), ANN)).await),
+        ["Done"]
+    );
+    // The other machine has a folder of its own, and the same rows.
+    let there = tempfile::tempdir().unwrap();
+    let rows = group.folder().to_str().unwrap().to_owned();
+    let more = ["--rows", &rows, "--take-over"];
+    let mut moved = group.spawn_in(there.path(), 1, &more);
+    assert_eq!(ended_of(group.first_process(1)), Some(3));
+    let mut client = fochillund::ask::Members::of(there.path(), Duration::from_secs(60));
+    let told = client.call(1, "a", ANN).await.unwrap();
+    assert_eq!(told.0.as_u16(), 200);
+    let state = client.state(1).await.unwrap();
+    assert_eq!(state.process, moved.id());
+    assert_ne!(state.process, first);
+    // Its own command stands behind the one that was answered, which was carried out once.
+    let records = client.records(1, 1).await.unwrap();
+    let told: Vec<&str> = records.iter().map(|record| record.get()).collect();
+    assert_eq!(told.len(), 2);
+    assert!(told[0].contains("AddUser") && told[1].contains("SsdRoleSets"));
+    moved.kill().unwrap();
+    moved.wait().unwrap();
+}
+
+#[tokio::test]
 async fn a_process_with_another_founding_stops() {
     let mut group = Group::started(1);
     assert_eq!(
@@ -299,6 +328,41 @@ async fn a_sync_that_fails_ends_the_process_before_anybody_is_told() {
         assert_eq!(told.status(), 503);
     }
     assert_eq!(ended(process), Some(5));
+}
+
+#[tokio::test]
+async fn a_member_whose_rows_are_full_goes_on_once_there_is_room() {
+    let group = Group::of(1);
+    let limited = "trap '' XFSZ; exec prlimit --fsize=4096: \"$0\" \"$@\"";
+    let more = ["--patience", "1"];
+    let mut process = group.spawn_by(&["sh", "-c", limited], 1, &more);
+    connected(&group, 1).await;
+    let mut asked = 0;
+    let waits = loop {
+        let told = post(&group, 1, &call(1, Some(&asked.to_string()), ANN)).await;
+        if told.0 != 200 {
+            break told;
+        }
+        asked += 1;
+        assert!(asked < 100, "a row of 4096 bytes has so many cells");
+    };
+    assert_eq!((waits.0, &waits.1["error"]), (503, &json!("Waits")));
+    assert_eq!(waits.1["engine"]["condition"], json!("full"));
+    let id = process.id().to_string();
+    let words = ["--pid", &id, "--fsize=unlimited:"];
+    let given = std::process::Command::new("prlimit").args(words).status();
+    assert!(given.unwrap().success());
+    let told = post(&group, 1, &call(1, Some(&asked.to_string()), ANN)).await;
+    assert_eq!(told.0, 200);
+    let state = told_state(&group).await;
+    assert_eq!(state["engine"]["condition"], json!("answers"));
+    assert_eq!(state["records"], json!(asked + 1));
+    process.kill().unwrap();
+    process.wait().unwrap();
+}
+
+async fn told_state(group: &Group) -> Value {
+    told(group, 1, Method::GET, "/v1/state", "").await.1
 }
 
 #[tokio::test]

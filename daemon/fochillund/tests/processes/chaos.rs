@@ -1,6 +1,7 @@
-//! Groups of processes that are killed, stopped and doubled while callers ask.
+//! Groups of processes that are killed, stopped and doubled while callers ask, over each engine, whose servers are killed too.
 use crate::group::{founding, Group};
 use crate::judge::{self, History};
+use crate::store::Store;
 use fochillund::callers::State;
 use nix::sys::signal::{kill, Signal};
 use nix::unistd::Pid;
@@ -13,12 +14,12 @@ use std::path::PathBuf;
 use std::sync::atomic::{AtomicBool, AtomicUsize, Ordering};
 use std::sync::Arc;
 use std::time::{Duration, Instant};
+use tokio::task::JoinHandle;
 
 const CALLERS: u64 = 5;
 const SIDE_BY_SIDE: usize = 4;
 /// After this time all processes are killed once more: a caller may know the socket of one that is gone.
 const PATIENCE: Duration = Duration::from_secs(8);
-const LASTS: Duration = Duration::from_millis(1200);
 
 /// A call that was answered.
 struct Answered {
@@ -101,17 +102,53 @@ async fn ask(folder: PathBuf, members: u32, seed: u64, shared: Arc<Shared>) -> V
     calls
 }
 
+/// How often things befell groups, and what came of it.
+#[derive(Clone, Copy, Debug, Default)]
+struct Figures {
+    runs: usize,
+    kills: usize,
+    kills_of_all: usize,
+    second_processes: usize,
+    pauses: usize,
+    engine_kills: usize,
+    calls: usize,
+    commands: usize,
+}
+
+impl Figures {
+    fn add(&mut self, more: Figures) {
+        self.runs += more.runs;
+        self.kills += more.kills;
+        self.kills_of_all += more.kills_of_all;
+        self.second_processes += more.second_processes;
+        self.pauses += more.pauses;
+        self.engine_kills += more.engine_kills;
+        self.calls += more.calls;
+        self.commands += more.commands;
+    }
+}
+
 /// What befalls the group at a moment. A process that is stopped goes on after a while.
-async fn befall(group: &mut Group, random: &mut StdRng) {
+async fn befall(group: &mut Group, random: &mut StdRng, figures: &mut Figures) {
     let member = random.gen_range(1..=group.members());
     match random.gen_range(0..10) {
-        0..=4 => group.kill(member),
-        5 => (1..=group.members()).for_each(|member| group.kill(member)),
-        6 | 7 => group.start_elsewhere(member),
+        0..=4 => {
+            figures.kills += 1;
+            group.kill(member);
+        }
+        5 => {
+            figures.kills_of_all += 1;
+            (1..=group.members()).for_each(|member| group.kill(member));
+        }
+        6 | 7 => {
+            figures.second_processes += 1;
+            group.start_elsewhere(member);
+        }
         _ => {
             let Some(process) = group.process(member) else {
                 return;
             };
+            figures.pauses += 1;
             let process = Pid::from_raw(process.id() as i32);
             kill(process, Signal::SIGSTOP).unwrap();
             tokio::time::sleep(Duration::from_millis(random.gen_range(20..200))).await;
@@ -151,7 +188,7 @@ async fn settled(group: &mut Group, length: usize) -> Vec<String> {
         if began.elapsed() > Duration::from_secs(30) {
             panic!("not settled: {:#?}", states(group).await);
         }
-        fits(&group.keep());
+        keep(group);
         let mut histories = Vec::new();
         for member in 1..=group.members() {
             histories.extend(history(group, member).await);
@@ -165,10 +202,13 @@ async fn settled(group: &mut Group, length: usize) -> Vec<String> {
     }
 }
 
-/// Processes end by a kill, or since another has replaced them.
-fn fits(statuses: &[Option<i32>]) {
-    let fit = [None, Some(3)];
-    assert!(statuses.iter().all(|it| fit.contains(it)), "{statuses:?}");
+/// Starts anew what has ended. Processes end by a kill, or since another has replaced them.
+fn keep(group: &mut Group) {
+    let ended = group.keep();
+    if ended.iter().any(|status| !matches!(status, None | Some(3))) {
+        let said = std::fs::read_to_string(group.said()).unwrap();
+        panic!("processes ended with {ended:?}:\n{said}");
+    }
 }
 
 /// Each call's records stand in the history, together and in order, behind those of each call that was answered before it was asked.
@@ -194,10 +234,11 @@ fn check_calls(calls: &[Answered], history: &[String]) {
     assert_eq!(history.len(), commands, "a call was carried out twice");
 }
 
-async fn chaos(seed: u64) {
+async fn chaos(store: &Store, seed: u64) -> Figures {
     let mut random = StdRng::seed_from_u64(seed);
     let members = random.gen_range(1..=4);
-    let mut group = Group::started(members);
+    let mut group = Group::over(members, store.words(&format!("g{seed}")));
+    group.start_all();
     let shared = Arc::new(Shared {
         moments: AtomicUsize::new(0),
         ends: AtomicBool::new(false),
@@ -209,29 +250,16 @@ async fn chaos(seed: u64) {
             tokio::spawn(ask(folder, members, seed, Arc::clone(&shared)))
         })
         .collect();
-    let began = Instant::now();
-    let mut seen = Vec::new();
-    while began.elapsed() < LASTS {
-        befall(&mut group, &mut random).await;
-        fits(&group.keep());
+    let (began, mut seen) = (Instant::now(), Vec::new());
+    let mut figures = Figures::default();
+    while began.elapsed() < store.lasts() {
+        befall(&mut group, &mut random, &mut figures).await;
+        keep(&mut group);
         let member = random.gen_range(1..=members);
         seen.extend(history(&group, member).await);
     }
     shared.ends.store(true, Ordering::SeqCst);
-    let mut last_kill = tokio::time::Instant::now();
-    let mut calls = Vec::new();
-    for mut caller in callers {
-        loop {
-            tokio::select! {
-                told = &mut caller => break calls.extend(told.unwrap()),
-                () = tokio::time::sleep(Duration::from_millis(50)) => fits(&group.keep()),
-                () = tokio::time::sleep_until(last_kill + PATIENCE) => {
-                    (1..=members).for_each(|member| group.kill(member));
-                    last_kill = tokio::time::Instant::now();
-                }
-            }
-        }
-    }
+    let calls = ended(&mut group, callers).await;
     let commands = calls.iter().map(|call| call.commands).sum();
     let history = settled(&mut group, commands).await;
     check_calls(&calls, &history);
@@ -240,30 +268,80 @@ async fn chaos(seed: u64) {
         founding: founding(1),
         records: history,
     }]);
+    (figures.runs, figures.calls, figures.commands) = (1, calls.len(), commands);
+    figures
 }
 
-/// How many runs there are: `CHAOS_RUNS`, or else 40; from the seed `CHAOS_SEED` on.
-fn seeds() -> std::ops::Range<u64> {
+/// Waits until all callers were answered, while members are kept, and gives what they asked.
+async fn ended(group: &mut Group, callers: Vec<JoinHandle<Vec<Answered>>>) -> Vec<Answered> {
+    let mut last_kill = tokio::time::Instant::now();
+    let mut calls = Vec::new();
+    for mut caller in callers {
+        loop {
+            tokio::select! {
+                told = &mut caller => break calls.extend(told.unwrap()),
+                () = tokio::time::sleep(Duration::from_millis(50)) => keep(group),
+                () = tokio::time::sleep_until(last_kill + PATIENCE) => {
+                    (1..=group.members()).for_each(|member| group.kill(member));
+                    last_kill = tokio::time::Instant::now();
+                }
+            }
+        }
+    }
+    calls
+}
+
+/// How many runs there are: `CHAOS_RUNS`, or else so many; from the seed `CHAOS_SEED` on.
+fn seeds(runs: u64) -> Vec<u64> {
     let number = |name: &str| std::env::var(name).ok().and_then(|it| it.parse().ok());
     let first = number("CHAOS_SEED").unwrap_or(0);
-    first..first + number("CHAOS_RUNS").unwrap_or(40)
+    (first..first + number("CHAOS_RUNS").unwrap_or(runs)).collect()
 }
 
-fn run(seed: u64) {
+fn run(store: &Store, seed: u64) -> Figures {
     println!("seed {seed}");
     let mut runtime = tokio::runtime::Builder::new_current_thread();
     let runtime = runtime.enable_all().build();
-    runtime.unwrap().block_on(chaos(seed));
+    runtime.unwrap().block_on(chaos(store, seed))
+}
+
+/// Runs groups side by side over one store, of which servers are killed meanwhile.
+fn whatever_befalls(store: &Store, runs: u64) {
+    let (mut figures, ends) = (Figures::default(), AtomicBool::new(false));
+    std::thread::scope(|scope| {
+        let killing = scope.spawn(|| store.befall_until(&ends));
+        for few in seeds(runs).chunks(SIDE_BY_SIDE) {
+            let running = few
+                .iter()
+                .map(|&seed| scope.spawn(move || run(store, seed)));
+            let running: Vec<_> = running.collect();
+            for each in running {
+                match each.join() {
+                    Ok(more) => figures.add(more),
+                    Err(fault) => {
+                        ends.store(true, Ordering::SeqCst);
+                        std::panic::resume_unwind(fault);
+                    }
+                }
+            }
+        }
+        ends.store(true, Ordering::SeqCst);
+        figures.engine_kills = killing.join().unwrap();
+    });
+    println!("chaos over {}: {figures:?}", store.name());
 }
 
 #[test]
 fn whatever_befalls_processes_each_call_is_answered_once_and_rightly() {
-    let seeds: Vec<u64> = seeds().collect();
-    for few in seeds.chunks(SIDE_BY_SIDE) {
-        std::thread::scope(|scope| {
-            for &seed in few {
-                scope.spawn(move || run(seed));
-            }
-        });
-    }
+    whatever_befalls(&Store::Files, 40);
+}
+
+#[test]
+fn whatever_befalls_processes_and_etcd_each_call_is_answered_once_and_rightly() {
+    whatever_befalls(&Store::etcd(3), 8);
+}
+
+#[test]
+fn whatever_befalls_processes_and_postgresql_each_call_is_answered_once_and_rightly() {
+    whatever_befalls(&Store::postgres(), 8);
 }

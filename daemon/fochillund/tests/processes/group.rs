@@ -2,6 +2,7 @@
 use fochillund::ask::Members;
 use fochillund::founding::LEAST_SENT_LIMIT;
 use fochillund::group::{node, socket};
+use std::fs::File;
 use std::path::{Path, PathBuf};
 use std::process::{Child, Command, Stdio};
 use std::time::Duration;
@@ -10,6 +11,8 @@ use tempfile::TempDir;
 /// Processes of members, each of which ends with this.
 pub struct Group {
     folder: TempDir,
+    /// What all processes are started with beside: where their rows are.
+    rows: Vec<String>,
     /// Of each member, the latest last.
     processes: Vec<Vec<Child>>,
 }
@@ -30,17 +33,31 @@ permissions = [["read", "chart"], ["read", "rota"], ["write", "chart"], ["write"
 impl Group {
     /// So many members, of which none runs yet.
     pub fn of(members: u32) -> Group {
+        Group::over(members, Vec::new())
+    }
+
+    /// The same over rows that these words name.
+    pub fn over(members: u32, rows: Vec<String>) -> Group {
         let folder = tempfile::tempdir().unwrap();
         std::fs::write(folder.path().join("founding.toml"), founding(members)).unwrap();
         let processes = (0..members).map(|_| Vec::new()).collect();
-        Group { folder, processes }
+        Group {
+            folder,
+            rows,
+            processes,
+        }
     }
 
     /// The same with all members running.
     pub fn started(members: u32) -> Group {
         let mut group = Group::of(members);
-        (1..=members).for_each(|member| group.start(member, &[]));
+        group.start_all();
         group
+    }
+
+    /// Starts a process of each member.
+    pub fn start_all(&mut self) {
+        (1..=self.members()).for_each(|member| self.start(member, &[]));
     }
 
     pub fn members(&self) -> u32 {
@@ -55,6 +72,11 @@ impl Group {
         self.folder().join("founding.toml")
     }
 
+    /// Where the processes say why they end.
+    pub fn said(&self) -> PathBuf {
+        self.folder().join("said")
+    }
+
     pub fn socket(&self, member: u32) -> PathBuf {
         socket(self.folder(), member)
     }
@@ -64,18 +86,29 @@ impl Group {
         self.spawn_by(&["env"], member, more)
     }
 
-    /// The same, started by another program's words.
+    /// The same in a folder of its own, as on another machine.
+    pub fn spawn_in(&self, folder: &Path, member: u32, more: &[&str]) -> Child {
+        self.spawn_as(&["env"], folder, member, more)
+    }
+
+    /// The same in the group's folder, started by another program's words.
     pub fn spawn_by(&self, words: &[&str], member: u32, more: &[&str]) -> Child {
+        self.spawn_as(words, self.folder(), member, more)
+    }
+
+    fn spawn_as(&self, words: &[&str], folder: &Path, member: u32, more: &[&str]) -> Child {
         let nodes: Vec<String> = (1..=self.members()).map(node).collect();
         let mut command = Command::new(words[0]);
         command
             .args(&words[1..])
             .arg(env!("CARGO_BIN_EXE_fochillund"));
-        command.arg("member").arg("--folder").arg(self.folder());
+        command.arg("member").arg("--folder").arg(folder);
         command.arg("--founding").arg(self.founding());
         command.arg("--nodes").arg(nodes.join(","));
-        command.arg("--node").arg(node(member)).args(more);
-        command.stdout(Stdio::null()).stderr(Stdio::null());
+        command.arg("--node").arg(node(member));
+        command.args(&self.rows).args(more);
+        let said = File::options().create(true).append(true).open(self.said());
+        command.stdout(Stdio::null()).stderr(said.unwrap());
         command.spawn().unwrap()
     }
 

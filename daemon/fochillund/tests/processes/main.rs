@@ -5,3 +5,5 @@ mod command;
 mod group;
 #[path = "../judge/mod.rs"]
 mod judge;
+mod store;
+mod unit;

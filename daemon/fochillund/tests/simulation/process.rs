@@ -86,7 +86,7 @@ impl Process {
         let from = self.read_of(member).min(row.len());
         let to = row.len().min(from.saturating_add(most));
         for text in &row[from..to] {
-            let cell = self.chains[member as usize - 1].take(text)?;
+            let cell = self.chains[member as usize - 1].take_sent(text)?;
             self.held.put_cell(member, cell);
         }
         Ok(to - from)

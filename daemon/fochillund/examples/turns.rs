@@ -1,0 +1,80 @@
+//! What three members take for a call beside rows, sockets and processes: 21 callers at each, all in one thread.
+use bytes::Bytes;
+use fochillund::row_member::NewCall;
+use fochillund::RowMember;
+use rows::cell::{Chain, Identity};
+use rows::RowName;
+use serde_json::value::RawValue;
+use std::time::Instant;
+
+const CHECK: &str = r#"[{"name":"CheckAccess","session":"s","operation":"read","object":"chart"}]"#;
+
+fn main() {
+    let rounds: usize = std::env::args()
+        .nth(1)
+        .and_then(|it| it.parse().ok())
+        .unwrap_or(2000);
+    let founding = "version = 1\nmembers = 3\noperations = [\"read\"]\nobjects = [\"chart\"]\npermissions = [[\"read\", \"chart\"]]\n";
+    let chain = |member: u32| {
+        Chain::of(
+            RowName::of_node(&format!("n{member}"), 1).unwrap(),
+            1,
+            member,
+            founding.as_bytes(),
+        )
+    };
+    let mut held: Vec<RowMember<u32>> = (1..=3)
+        .map(|m| {
+            RowMember::restore(founding.as_bytes(), 3, m, format!("w{m}"), chain(m), &[]).unwrap()
+        })
+        .collect();
+    let mut chains: Vec<Vec<Chain>> = (1..=3).map(|_| (1..=3).map(chain).collect()).collect();
+    let mut rows: Vec<Vec<Bytes>> = vec![Vec::new(); 3];
+    let (mut id, mut answered) = (0, 0);
+    for it in &mut held {
+        for caller in 0..21 {
+            it.ask(call(&mut id), caller);
+        }
+    }
+    let began = Instant::now();
+    for _ in 0..rounds {
+        for at in 0..3 {
+            for other in (0..3).filter(|it| *it != at) {
+                let next = chains[at][other].next() as usize - 1;
+                for text in &rows[other][next..] {
+                    let cell = chains[at][other].take_sent(text).unwrap();
+                    held[at].put_cell(other as u32 + 1, cell);
+                }
+            }
+            held[at].turn().unwrap();
+            let next = held[at].next_cell().unwrap();
+            for (waiter, reply) in held[at].take_told() {
+                assert!(reply.is_ok());
+                answered += 1;
+                let call = call(&mut id);
+                held[at].ask(call, waiter);
+            }
+            if let Some((_, text)) = next {
+                rows[at].push(text);
+                held[at].was_set().unwrap();
+            }
+        }
+    }
+    let cells: usize = rows.iter().map(Vec::len).sum();
+    println!(
+        "{answered} calls, {:.2} us a call, {:.3} cells a call",
+        began.elapsed().as_secs_f64() * 1e6 / answered as f64,
+        cells as f64 / answered as f64
+    );
+}
+
+fn call(id: &mut u64) -> NewCall {
+    *id += 1;
+    NewCall {
+        identity: Some(Identity {
+            caller: "uid 0".to_owned(),
+            id: id.to_string(),
+        }),
+        commands: RawValue::from_string(CHECK.to_owned()).unwrap(),
+    }
+}
