@@ -79,8 +79,10 @@ enum policy_status {
  * DONE, FULL_PLACE, NO_MEMORY, or why the file is refused. But for DONE the place is as it was. */
 uint32_t policy_open(struct policy_place *place, const uint8_t *founding, size_t founding_length);
 
-/* Applies the command of a JSON object, and writes its answer's text to the front of `out`. That a command
- * is denied is an answer too, and DONE. The text's length is written to `written`: 0 where there is none.
+/* Applies the command of a JSON object, and writes its answer's text to the front of `out`. An object with
+ * the key `command` is a client line, whose member number is read and of no other concern; each other one
+ * is the command itself. That a command is denied is an answer too, and DONE. The text's length is written
+ * to `written`: 0 where there is none.
  * DONE; SHORT_BUFFER: applied all the same, `out` as it was; and with nothing changed EMPTY_PLACE,
  * NO_MEMORY, or why the text is refused. */
 uint32_t policy_apply(struct policy_place *place, const uint8_t *command, size_t command_length, uint8_t *out,
@@ -97,9 +99,10 @@ uint32_t policy_check(struct policy_place *place, const uint8_t *session, size_t
                       const uint8_t *operation, size_t operation_length, const uint8_t *object,
                       size_t object_length);
 
-/* Writes the commands that make this policy, each a JSON object in a line of its own, to the front of `out`,
- * and the text's length to `written`. A policy that was just opened with the same founding answers each of
- * them "Done" in this order, and is then the same. Changes nothing, the last answer neither.
+/* Writes the client lines that make this policy, the text that `rbac_monitor dump` writes, to the front of
+ * `out`, and its length to `written`. A policy that was just opened with the same founding, to which each
+ * line is applied in this order, answers each "Done", and is then the same. Changes nothing, the last answer
+ * neither.
  * DONE; SHORT_BUFFER, `out` as it was; EMPTY_PLACE, NO_MEMORY. */
 uint32_t policy_dump(struct policy_place *place, uint8_t *out, size_t out_length, size_t *written);
 
@@ -207,7 +210,7 @@ uint32_t member_next_submit_batch(struct member_place *place, uint32_t caller, u
 uint32_t member_next_answer(struct member_place *place, uint32_t from, uint32_t number, const uint8_t *message,
                             size_t message_length, uint8_t *out, size_t out_length, size_t *written);
 
-/* The commands that make the member's policy, as policy_dump writes them. */
+/* The client lines that make the member's policy, as policy_dump writes them. */
 uint32_t member_dump(struct member_place *place, uint8_t *out, size_t out_length, size_t *written);
 
 /* These take no memory, and change nothing. */
@@ -239,6 +242,11 @@ uint32_t member_check(struct member_place *place, const uint8_t *session, size_t
 
 /* Ends the member, and frees its memory. The place is empty then. DONE, EMPTY_PLACE. */
 uint32_t member_close(struct member_place *place);
+
+/* ---- The version
+ *
+ * That of this header, and of the library that it came with. */
+static inline const char *policy_version(void) { return "0.10.0"; }
 
 /* ---- What a status says
  *
