@@ -231,25 +231,37 @@ impl Server {
         panic!("the server does not start: {log}");
     }
 
-    /// Kills all its processes at once, as a crash of its machine does but for what the kernel holds.
+    /// Kills all its processes at once, as a crash of its machine does but for what the kernel holds. None of them is left then: one that was
+    /// just being started might still tell a primary that it has what comes.
     pub fn kill(&mut self) {
         let Some(mut postmaster) = self.postmaster.take() else {
             return;
         };
-        let id = postmaster.id();
-        let children = fs::read_to_string(format!("/proc/{id}/task/{id}/children"));
-        let children = children.unwrap_or_default();
-        let children: Vec<i32> = children
-            .split_whitespace()
-            .map(|id| id.parse().unwrap())
-            .collect();
         let _ = postmaster.kill();
-        for child in &children {
-            // One that has ended meanwhile is none.
-            let _ = kill(Pid::from_raw(*child), Signal::SIGKILL);
+        let data = self.path().join("data");
+        loop {
+            let processes = processes_in(&data);
+            if processes.is_empty() {
+                break;
+            }
+            for process in processes {
+                // One that has ended meanwhile is none.
+                let _ = kill(process, Signal::SIGKILL);
+            }
+            sleep(Duration::from_millis(5));
         }
         postmaster.wait().unwrap();
     }
+}
+
+/// The processes that work in a folder, as each one of a server does in its data.
+fn processes_in(folder: &Path) -> Vec<Pid> {
+    let folder = folder.canonicalize().unwrap();
+    let works_there =
+        |id: &i32| fs::read_link(format!("/proc/{id}/cwd")).is_ok_and(|it| it == folder);
+    let all = fs::read_dir("/proc").unwrap();
+    let all = all.filter_map(|entry| entry.ok()?.file_name().to_str()?.parse().ok());
+    all.filter(works_there).map(Pid::from_raw).collect()
 }
 
 impl Drop for Server {
