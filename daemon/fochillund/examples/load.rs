@@ -138,7 +138,8 @@ async fn caller(folder: PathBuf, caller: u32, lasts: Duration) -> Vec<Duration> 
     while began.elapsed() < lasts {
         let (asked, id) = (Instant::now(), format!("{caller} {}", times.len()));
         let told = client.call(caller % MEMBERS + 1, &id, CHECK).await;
-        assert_eq!(told.expect("it is answered").0.as_u16(), 200);
+        let told = told.expect("it is answered").expect("a member");
+        assert_eq!(told.0.as_u16(), 200);
         times.push(asked.elapsed());
     }
     times
@@ -171,7 +172,8 @@ async fn made_anew(folder: &Path) {
     let mut client = group.client();
     for number in 0..60_000 {
         let told = client.call(1, &number.to_string(), CHECK).await;
-        assert_eq!(told.expect("it is answered").0.as_u16(), 200);
+        let told = told.expect("it is answered").expect("a member");
+        assert_eq!(told.0.as_u16(), 200);
     }
     group.processes.drain(..).for_each(|mut process| {
         process.kill().expect("it runs");

@@ -1,9 +1,9 @@
 //! What three members take for a call beside rows, sockets and processes: 21 callers at each, all in one thread.
 use bytes::Bytes;
-use fochillund::row_member::NewCall;
+use fochillund::generation::Foundings;
+use fochillund::row_member::{Begins, NewCall};
 use fochillund::RowMember;
 use rows::cell::{Chain, Identity};
-use rows::RowName;
 use serde_json::value::RawValue;
 use std::time::Instant;
 
@@ -15,17 +15,16 @@ fn main() {
         .and_then(|it| it.parse().ok())
         .unwrap_or(2000);
     let founding = "version = 1\nmembers = 3\noperations = [\"read\"]\nobjects = [\"chart\"]\npermissions = [[\"read\", \"chart\"]]\n";
-    let chain = |member: u32| {
-        Chain::of(
-            RowName::of_node(&format!("n{member}"), 1).unwrap(),
-            1,
-            member,
-            founding.as_bytes(),
-        )
-    };
+    let nodes: Vec<String> = (1..=3).map(|member| format!("n{member}")).collect();
+    let mut foundings = Foundings::new();
+    let (_, text) = foundings.proposal(&nodes, Some(founding), "");
+    foundings.take(&text).expect("a founding");
+    let generation = foundings.first();
+    let chain = |member: u32| generation.chain(member);
     let mut held: Vec<RowMember<u32>> = (1..=3)
         .map(|m| {
-            RowMember::restore(founding.as_bytes(), 3, m, format!("w{m}"), chain(m), &[]).unwrap()
+            let (writer, begins) = (format!("w{m}"), Begins::Empty);
+            RowMember::restore(&generation, m, begins, writer, chain(m), &[]).unwrap()
         })
         .collect();
     let mut chains: Vec<Vec<Chain>> = (1..=3).map(|_| (1..=3).map(chain).collect()).collect();
@@ -43,7 +42,7 @@ fn main() {
                 let next = chains[at][other].next() as usize - 1;
                 for text in &rows[other][next..] {
                     let cell = chains[at][other].take_sent(text).unwrap();
-                    held[at].put_cell(other as u32 + 1, cell);
+                    held[at].put_cell(other as u32 + 1, cell).unwrap();
                 }
             }
             held[at].turn().unwrap();

@@ -1,6 +1,6 @@
 //! Asking a group on this machine: client lines in, a line of answer for each.
 use crate::callers::State;
-use crate::group::socket;
+use crate::group::{node, socket_of};
 use hyper::body::to_bytes;
 use hyper::client::conn::{handshake, SendRequest};
 use hyper::{Body, Request, StatusCode};
@@ -38,16 +38,27 @@ struct Record {
 #[derive(Debug, Deserialize)]
 struct Refused {
     error: String,
+    /// The generation in which it can be asked.
+    #[serde(default)]
+    generation: u64,
 }
 
 /// A reply: its status and its body.
 type Told = (StatusCode, Vec<u8>);
 
-/// The members of a group, by their sockets.
+/// Who the members of a generation are.
+#[derive(Clone, Debug)]
+struct Group {
+    generation: u64,
+    nodes: Vec<String>,
+}
+
+/// The members of a group, by their sockets in one folder.
 pub struct Members {
     folder: PathBuf,
     patience: Duration,
-    connections: HashMap<u32, SendRequest<Body>>,
+    group: Option<Group>,
+    connections: HashMap<String, SendRequest<Body>>,
 }
 
 impl Members {
@@ -56,6 +67,7 @@ impl Members {
         Members {
             folder: folder.to_owned(),
             patience,
+            group: None,
             connections: HashMap::new(),
         }
     }
@@ -69,14 +81,11 @@ impl Members {
         mut lines: impl AsyncBufRead + Unpin,
         mut tell: impl FnMut(&str),
     ) -> io::Result<()> {
-        let members = self.count().await?;
+        self.known(0).await?;
         let (mut line, mut number) = (String::new(), 0);
         while lines.read_line(&mut line).await? > 0 {
             number += 1;
             let told = match serde_json::from_str(&line) {
-                Ok(Line { at, .. }) if !(1..=members).contains(&at) => {
-                    Err("UnknownMember".to_owned())
-                }
                 Ok(line) => self.ask_line(line).await?,
                 Err(_) => Err("BadLine".to_owned()),
             };
@@ -89,22 +98,52 @@ impl Members {
         Ok(())
     }
 
-    /// How many members the group has, as the first one tells.
-    async fn count(&mut self) -> io::Result<u32> {
+    /// The group, in this generation or a later one: as that of its processes tells it which is furthest.
+    async fn known(&mut self, generation: u64) -> io::Result<Group> {
         let began = Instant::now();
         loop {
-            match self.state(1).await {
-                Err(_) if began.elapsed() <= self.patience => tokio::time::sleep(PAUSE).await,
-                state => return Ok(state?.taken.len() as u32),
+            if let Some(group) = self.group.clone().filter(|it| it.generation >= generation) {
+                return Ok(group);
+            }
+            let told = self.furthest().await;
+            match told {
+                Ok(group) => self.group = Some(group),
+                Err(error) if began.elapsed() > self.patience => return Err(error),
+                Err(_) => tokio::time::sleep(PAUSE).await,
             }
         }
+    }
+
+    async fn furthest(&mut self) -> io::Result<Group> {
+        let mut furthest: Option<Group> = None;
+        for entry in std::fs::read_dir(&self.folder)? {
+            let path = entry?.path();
+            let (Some("sock"), Some(name)) = (
+                path.extension().and_then(|it| it.to_str()),
+                path.file_stem().and_then(|it| it.to_str()),
+            ) else {
+                continue;
+            };
+            if let Ok(state) = self.state_of(name).await {
+                let (generation, nodes) = (state.generation, state.nodes);
+                if furthest
+                    .as_ref()
+                    .is_none_or(|it| it.generation < generation)
+                {
+                    furthest = Some(Group { generation, nodes });
+                }
+            }
+        }
+        furthest.ok_or_else(|| io::Error::other("no process answers"))
     }
 
     /// What a line's command is answered, or the word by which it is refused.
     async fn ask_line(&mut self, line: Line) -> io::Result<Result<Box<RawValue>, String>> {
         let commands = format!("[{}]", line.command.get());
         let id = format!("{:032x}", rand::thread_rng().gen::<u128>());
-        let (status, body) = self.call(line.at, &id, &commands).await?;
+        let Some((status, body)) = self.call(line.at, &id, &commands).await? else {
+            return Ok(Err("UnknownMember".to_owned()));
+        };
         if status != StatusCode::OK {
             let told: Refused = serde_json::from_slice(&body)?;
             return Ok(Err(told.error));
@@ -115,43 +154,64 @@ impl Members {
         Ok(Ok(record.answer))
     }
 
-    /// Asks a call, and again by its id where the member went meanwhile, or waits.
+    /// Asks a call of the group's member of this number, and again by its id where the member went meanwhile, or waits. A call that its generation
+    /// has ended without is asked of the member of that number in the next. None where there is no such member.
     ///
     /// # Errors
     /// Where the member did not answer for as long as is waited.
-    pub async fn call(&mut self, member: u32, id: &str, commands: &str) -> io::Result<Told> {
+    pub async fn call(
+        &mut self,
+        member: u32,
+        id: &str,
+        commands: &str,
+    ) -> io::Result<Option<Told>> {
         let began = Instant::now();
-        let body = format!(
-            r#"{{"generation":1,"member":{member},"id":{},"commands":{commands}}}"#,
-            json!(id)
-        );
+        let mut group = self.known(0).await?;
+        let mut is_first = true;
         loop {
-            let told = self.post(member, &body).await;
+            let at = (member as usize).checked_sub(1);
+            let Some(node) = at.and_then(|at| group.nodes.get(at)).cloned() else {
+                return Ok(None);
+            };
+            let body = format!(
+                r#"{{"generation":{},"member":{member},"id":{},"commands":{commands}}}"#,
+                group.generation,
+                json!(id)
+            );
+            let told = self.post(&node, &body).await;
             let is_last = began.elapsed() > self.patience;
-            match told {
-                Ok((StatusCode::SERVICE_UNAVAILABLE | StatusCode::TOO_MANY_REQUESTS, _))
-                | Err(_)
-                    if !is_last => {}
-                told => return told,
+            match next_of(&told, is_first) {
+                Next::Told => return told.map(Some),
+                Next::Again if is_last => return told.map(Some),
+                Next::Again => tokio::time::sleep(PAUSE).await,
+                Next::In(generation) => group = self.known(generation).await?,
             }
-            tokio::time::sleep(PAUSE).await;
+            is_first = false;
         }
     }
 
-    async fn post(&mut self, member: u32, body: &str) -> io::Result<Told> {
+    async fn post(&mut self, node: &str, body: &str) -> io::Result<Told> {
         let request = Request::post("/v1/commands").body(Body::from(body.to_owned()));
-        self.send(member, request.expect("the request is right"))
+        self.send(node, request.expect("the request is right"))
             .await
     }
 
-    /// What a member tells of itself.
+    /// What the member of this number tells of itself, in a group that `fochillund group` has made.
     ///
     /// # Errors
     /// Where it does not answer.
     pub async fn state(&mut self, member: u32) -> io::Result<State> {
+        self.state_of(&node(member)).await
+    }
+
+    /// What the process at a node tells of itself.
+    ///
+    /// # Errors
+    /// Where it does not answer.
+    pub async fn state_of(&mut self, node: &str) -> io::Result<State> {
         let request = Request::get("/v1/state").body(Body::empty());
         let request = request.expect("the request is right");
-        let (_, body) = self.send(member, request).await?;
+        let (_, body) = self.send(node, request).await?;
         serde_json::from_slice(&body).map_err(io::Error::other)
     }
 
@@ -160,29 +220,74 @@ impl Members {
     /// # Errors
     /// Where it does not answer.
     pub async fn records(&mut self, member: u32, from: u64) -> io::Result<Vec<Box<RawValue>>> {
-        #[derive(Deserialize)]
-        struct Raw {
-            records: Vec<Box<RawValue>>,
-        }
-        let request = Request::get(format!("/v1/records?from={from}")).body(Body::empty());
-        let request = request.expect("the request is right");
-        let (_, body) = self.send(member, request).await?;
-        let told: Raw = serde_json::from_slice(&body).map_err(io::Error::other)?;
+        let told = self.records_of(&node(member), None, from).await?;
         Ok(told.records)
     }
 
-    async fn send(&mut self, member: u32, request: Request<Body>) -> io::Result<Told> {
-        let mut connection = match self.connections.remove(&member) {
+    /// The records of a generation, or of the one that goes on, that the process at a node has.
+    ///
+    /// # Errors
+    /// Where it does not answer, or has none of that generation.
+    pub async fn records_of(
+        &mut self,
+        node: &str,
+        generation: Option<u64>,
+        from: u64,
+    ) -> io::Result<ToldRecords> {
+        let generation = generation.map(|generation| format!("generation={generation}&"));
+        let query = format!("{}from={from}", generation.unwrap_or_default());
+        let request = Request::get(format!("/v1/records?{query}")).body(Body::empty());
+        let request = request.expect("the request is right");
+        let (_, body) = self.send(node, request).await?;
+        serde_json::from_slice(&body).map_err(io::Error::other)
+    }
+
+    async fn send(&mut self, node: &str, request: Request<Body>) -> io::Result<Told> {
+        let mut connection = match self.connections.remove(node) {
             Some(connection) => connection,
-            None => connect(&socket(&self.folder, member)).await?,
+            None => connect(&socket_of(&self.folder, node)).await?,
         };
         let response = connection.send_request(request).await;
         let response = response.map_err(io::Error::other)?;
         let status = response.status();
         let body = to_bytes(response.into_body()).await;
         let body = body.map_err(io::Error::other)?.to_vec();
-        self.connections.insert(member, connection);
+        self.connections.insert(node.to_owned(), connection);
         Ok((status, body))
+    }
+}
+
+/// The records of a generation.
+#[derive(Debug, Deserialize)]
+pub struct ToldRecords {
+    /// Which.
+    pub generation: u64,
+    /// Each by its text.
+    pub records: Vec<Box<RawValue>>,
+}
+
+/// What is done of what was told.
+enum Next {
+    /// The caller is told it.
+    Told,
+    /// The same is asked again.
+    Again,
+    /// The call is asked in another generation.
+    In(u64),
+}
+
+/// `is_first` says that the call was not asked before: then one that is too old was carried out nowhere.
+fn next_of(told: &io::Result<Told>, is_first: bool) -> Next {
+    let Ok((status, body)) = told else {
+        return Next::Again;
+    };
+    let refused: Option<Refused> = serde_json::from_slice(body).ok();
+    match (*status, refused) {
+        (StatusCode::SERVICE_UNAVAILABLE | StatusCode::TOO_MANY_REQUESTS, _) => Next::Again,
+        (StatusCode::CONFLICT, Some(it)) if it.error == "NotTaken" => Next::In(it.generation),
+        (StatusCode::CONFLICT, _) => Next::Again,
+        (StatusCode::GONE, Some(it)) if is_first => Next::In(it.generation),
+        _ => Next::Told,
     }
 }
 

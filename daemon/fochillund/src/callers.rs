@@ -1,17 +1,18 @@
 //! Callers: HTTP/1.1 and JSON over a unix socket.
 //!
-//! `POST /v1/commands` with generation, member, commands and perhaps an id; `GET /v1/state`; `GET /v1/records?from=N`.
+//! `POST /v1/commands` with generation, member, commands and perhaps an id; `GET /v1/state`; `GET /v1/records?generation=G&from=N`.
 mod replies;
 mod requests;
 
 use crate::engine::EngineState;
+use crate::node::{Asked as AskedOfNode, Phase, Reply};
 use crate::process::Options;
-use crate::row_member::{NewCall, Reply};
+use crate::row_member::NewCall;
 use hyper::server::conn::Http;
 use hyper::service::service_fn;
 use hyper::{Body, Method, Request, Response};
 use replies::Told;
-use requests::{asked_of, from_of, Asked};
+use requests::{asked_of, from_of};
 use rows::cell::Identity;
 use serde::{Deserialize, Serialize};
 use std::convert::Infallible;
@@ -25,10 +26,15 @@ use tokio::sync::{mpsc, oneshot};
 /// What callers ask of a member.
 #[derive(Debug)]
 pub(crate) enum Question {
-    Call(NewCall, oneshot::Sender<Reply>),
+    Call(AskedOfNode, oneshot::Sender<Reply>),
     State(oneshot::Sender<Box<State>>),
-    /// The records from this number on, as many as are told at once.
-    Records(u64, oneshot::Sender<Vec<String>>),
+    /// The records of a generation, or else of the one that goes on, from this number on, as many as are told at once; none where its history is not
+    /// kept.
+    Records {
+        generation: Option<u64>,
+        from: u64,
+        waiter: oneshot::Sender<(u64, Option<Vec<String>>)>,
+    },
 }
 
 /// What a member tells of itself.
@@ -36,14 +42,20 @@ pub(crate) enum Question {
 pub struct State {
     /// The generation.
     pub generation: u64,
-    /// The member, from 1 on.
-    pub member: u32,
+    /// What it does there.
+    pub phase: Phase,
+    /// The nodes of its members 1, 2 and so on.
+    pub nodes: Vec<String>,
+    /// The member that the process is, from 1 on.
+    pub member: Option<u32>,
     /// Its node.
-    pub node: String,
+    pub node: Option<String>,
     /// The process that is it now.
     pub process: u32,
     /// How many messages of each member it took; of itself, how many it sent.
     pub taken: Vec<u64>,
+    /// How many cells are left of its row.
+    pub cells_left: Option<u64>,
     /// How many records its history has.
     pub records: u64,
     /// The nodes of whom a message is missing, without which the next command can't be delivered.
@@ -60,8 +72,6 @@ pub struct State {
 
 /// What the connections of a member share.
 struct Callers {
-    generation: u64,
-    member: u32,
     patience: Duration,
     questions: mpsc::Sender<Question>,
 }
@@ -69,8 +79,6 @@ struct Callers {
 /// Takes calls at the member's socket, from now on. A socket that an earlier process left is replaced.
 pub(crate) fn serve(options: &Options, questions: mpsc::Sender<Question>) -> io::Result<()> {
     let callers = Arc::new(Callers {
-        generation: crate::founding::GENERATION,
-        member: options.member,
         patience: options.patience,
         questions,
     });
@@ -132,7 +140,6 @@ impl Callers {
 
     async fn answer_call(&self, caller: &str, request: Request<Body>) -> Result<Told, Told> {
         let asked = asked_of(request).await?;
-        self.check(&asked)?;
         let call = NewCall {
             identity: asked.id.map(|id| Identity {
                 caller: caller.to_owned(),
@@ -140,42 +147,35 @@ impl Callers {
             }),
             commands: asked.commands,
         };
+        let asked = AskedOfNode {
+            generation: asked.generation,
+            member: asked.member,
+            call,
+        };
         let (tell, told) = oneshot::channel();
-        self.put(Question::Call(call, tell)).await?;
+        self.put(Question::Call(asked, tell)).await?;
         match tokio::time::timeout(self.patience, told).await {
-            Ok(Ok(Ok(records))) => Ok(Told::Records {
-                generation: self.generation,
-                member: self.member,
-                records,
-            }),
+            Ok(Ok(Ok(answered))) => Ok(Told::Answered(answered)),
             Ok(Ok(Err(refusal))) => Err(Told::Refused(refusal)),
             Ok(Err(_)) => Err(Told::Ends),
             Err(_) => Err(Told::Waits(self.ask(Question::State).await?)),
         }
     }
 
-    /// Nothing of a call for another generation or member is carried out.
-    fn check(&self, asked: &Asked) -> Result<(), Told> {
-        if asked.generation < self.generation {
-            return Err(Told::OldGeneration(self.generation));
-        }
-        if asked.generation > self.generation {
-            return Err(Told::NoGeneration(self.generation));
-        }
-        if asked.member != self.member {
-            return Err(Told::OtherMember(self.member));
-        }
-        Ok(())
-    }
-
     async fn answer_records(&self, request: &Request<Body>) -> Result<Told, Told> {
-        let from = from_of(request.uri())?;
-        let records = self.ask(|tell| Question::Records(from, tell)).await?;
-        Ok(Told::Records {
-            generation: self.generation,
-            member: self.member,
-            records,
-        })
+        let (generation, from) = from_of(request.uri())?;
+        let told = self.ask(|waiter| Question::Records {
+            generation,
+            from,
+            waiter,
+        });
+        match told.await? {
+            (generation, Some(records)) => Ok(Told::Records {
+                generation,
+                records,
+            }),
+            (generation, None) => Err(Told::NotKept(generation)),
+        }
     }
 
     async fn ask<T>(

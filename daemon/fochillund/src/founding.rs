@@ -1,28 +1,23 @@
-//! What a group over rows is founded with: set once, the same for all who join.
-use bytes::Bytes;
-use rows::cell::{Founding, VERSION};
-use rows::{sure_get, sure_set, Engine, Fault, RowName};
+//! The founding file of a group over rows, and what else its first generation is founded with.
+use crate::message::LAST_FOUNDING_CLOCK;
+use rows::RowName;
 use std::collections::BTreeSet;
-use std::time::Duration;
 use thiserror::Error;
 use toml::value::Table;
 
 /// By which rules the members answer: two processes of one group have the same ones.
 pub const RULES: &str = concat!("fochillun ", env!("CARGO_PKG_VERSION"));
 
-/// The generation that a founding founds.
-pub const GENERATION: u64 = 1;
-
-/// The least `sent_limit` of a group over rows. A row that ends early ends the group.
-pub const LEAST_SENT_LIMIT: i64 = 16_384;
-
-/// After this time a node that may not found the group looks whether another has.
-const PAUSE: Duration = Duration::from_millis(500);
+/// The least `sent_limit` of a group over rows. A row that ends early ends its generation.
+pub const LEAST_SENT_LIMIT: u64 = 16_384;
 
 /// How many messages a member sends where the founding file does not say.
-const SENT_LIMIT: i64 = 65_536;
+const SENT_LIMIT: u64 = 65_536;
 
-/// Why a process does not join.
+/// The most members of a group.
+pub const MOST_MEMBERS: usize = 8;
+
+/// Why a process does not join, or a generation is not proposed.
 #[derive(Clone, Debug, PartialEq, Eq, Error)]
 pub enum FoundingFault {
     /// The founding file is none.
@@ -38,8 +33,11 @@ pub enum FoundingFault {
     },
     /// A row would end too soon.
     #[error("the founding file has the sent_limit {0}; a group over rows wants {LEAST_SENT_LIMIT} or more")]
-    SentLimit(i64),
-    /// A node's name is none, or stands twice.
+    SentLimit(u64),
+    /// Clocks would reach that of a seal.
+    #[error("the founding file has the clock {0}; a group over rows wants {LAST_FOUNDING_CLOCK} or less")]
+    Clock(u64),
+    /// A node's name is none, or stands twice; or there are too few or too many.
     #[error("the nodes: {0}")]
     Nodes(String),
     /// The group was founded with something else.
@@ -47,40 +45,75 @@ pub enum FoundingFault {
     Differs(&'static str),
 }
 
+/// What the first generation of a group is founded with.
+#[derive(Clone, Debug, PartialEq, Eq)]
+pub struct NewGroup {
+    /// The text of the founding file.
+    pub file: String,
+    /// The nodes of members 1, 2 and so on.
+    pub nodes: Vec<String>,
+}
+
 /// Reads a founding file for nodes.
 ///
 /// # Errors
 /// Why no group over rows is founded so.
-pub fn founding_of(file: &str, nodes: &[String]) -> Result<Founding, FoundingFault> {
+pub fn new_group(file: &str, nodes: &[String]) -> Result<NewGroup, FoundingFault> {
     let table: Table = parse(file)?;
-    let number = |key: &str| table.get(key).and_then(toml::Value::as_integer);
-    let members = number("members").unwrap_or_default();
+    let members = table.get("members").and_then(toml::Value::as_integer);
+    let members = members.unwrap_or_default();
     if members != nodes.len() as i64 {
         let nodes = nodes.len();
         return Err(FoundingFault::Members { members, nodes });
     }
-    let sent_limit = number("sent_limit").unwrap_or(SENT_LIMIT);
-    if sent_limit < LEAST_SENT_LIMIT {
-        return Err(FoundingFault::SentLimit(sent_limit));
-    }
+    check_file(&table)?;
     check_nodes(nodes)?;
-    Ok(Founding {
-        version: VERSION,
-        founding: file.to_owned(),
+    Ok(NewGroup {
+        file: file.to_owned(),
         nodes: nodes.to_owned(),
-        rules: RULES.to_owned(),
     })
 }
 
 /// Reads a founding file as TOML. What else it has to be the library says.
-pub(crate) fn parse(file: &str) -> Result<Table, FoundingFault> {
+///
+/// # Errors
+/// Where it is none.
+pub fn parse(file: &str) -> Result<Table, FoundingFault> {
     toml::from_str(file).map_err(|error| FoundingFault::File(error.to_string()))
 }
 
-fn check_nodes(nodes: &[String]) -> Result<(), FoundingFault> {
+fn number(table: &Table, key: &str) -> Option<u64> {
+    let number = table.get(key).and_then(toml::Value::as_integer)?;
+    u64::try_from(number).ok()
+}
+
+/// Whether generations over rows have room for what a founding file says.
+///
+/// # Errors
+/// Where they have not.
+pub fn check_file(table: &Table) -> Result<(), FoundingFault> {
+    let sent_limit = number(table, "sent_limit").unwrap_or(SENT_LIMIT);
+    if sent_limit < LEAST_SENT_LIMIT {
+        return Err(FoundingFault::SentLimit(sent_limit));
+    }
+    match number(table, "clock") {
+        Some(clock) if clock > LAST_FOUNDING_CLOCK => Err(FoundingFault::Clock(clock)),
+        _ => Ok(()),
+    }
+}
+
+/// Whether members can live at these nodes.
+///
+/// # Errors
+/// Where they can't.
+pub fn check_nodes(nodes: &[String]) -> Result<(), FoundingFault> {
+    if !(1..=MOST_MEMBERS).contains(&nodes.len()) {
+        let why = format!("a group has 1 to {MOST_MEMBERS} members");
+        return Err(FoundingFault::Nodes(why));
+    }
     let mut seen = BTreeSet::new();
     for node in nodes {
-        let row = RowName::of_node(node, GENERATION);
+        let row = RowName::of_node(node, 1);
         let row = row.map_err(|error| FoundingFault::Nodes(format!("{node:?}: {error}")))?;
         if !seen.insert(row) {
             return Err(FoundingFault::Nodes(format!("{node} stands twice")));
@@ -89,66 +122,41 @@ fn check_nodes(nodes: &[String]) -> Result<(), FoundingFault> {
     Ok(())
 }
 
-/// Sets the founding's cell, or compares what is set. Gives its text.
-///
-/// # Errors
-/// Where the group was founded with something else, or the engine does not say.
-pub async fn join(
-    engine: &dyn Engine,
-    founding: &Founding,
-) -> Result<Result<Bytes, FoundingFault>, Fault> {
-    let row = RowName::founding();
-    let text = Bytes::from(serde_json::to_vec(founding).expect("a founding is JSON"));
-    while sure_get(engine, &row, 1).await?.is_empty() {
-        match sure_set(engine, &row, 1, std::slice::from_ref(&text)).await {
-            Err(Fault::Refused(why)) => {
-                tracing::info!("another node has to found the group: {why}");
-                tokio::time::sleep(PAUSE).await;
-            }
-            told => drop(told?),
-        }
-    }
-    let there = sure_get(engine, &row, 1).await?;
-    let text = there
-        .first()
-        .ok_or(Fault::Broken("the founding's cell is not there".to_owned()))?;
-    Ok(compare(text, founding).map(|()| text.clone()))
+/// How many messages a member sends at most by a founding file.
+pub(crate) fn sent_limit_of(file: &str) -> u64 {
+    let table = parse(file).ok();
+    let limit = table.and_then(|table| number(&table, "sent_limit"));
+    limit.unwrap_or(SENT_LIMIT)
 }
 
-fn compare(text: &[u8], founding: &Founding) -> Result<(), FoundingFault> {
-    let there: Founding = serde_json::from_slice(text)
-        .map_err(|_| FoundingFault::Differs("a cell of another version"))?;
-    let same = [
-        (
-            "a cell of another version",
-            there.version == founding.version,
-        ),
-        ("another founding file", there.founding == founding.founding),
-        ("other nodes", there.nodes == founding.nodes),
-        ("other rules", there.rules == founding.rules),
-    ];
-    match same.into_iter().find(|(_, is_same)| !is_same) {
-        Some((what, _)) => Err(FoundingFault::Differs(what)),
-        None => Ok(()),
+/// A founding file as it is, but for the number of members. What is none stays as it is.
+pub fn with_members(file: &str, members: usize) -> String {
+    let Ok(mut table) = parse(file) else {
+        return file.to_owned();
+    };
+    if number(&table, "members") == Some(members as u64) {
+        return file.to_owned();
     }
+    table.insert("members".to_owned(), (members as i64).into());
+    toml::to_string(&table).unwrap_or_else(|_| file.to_owned())
 }
 
 #[cfg(test)]
 mod tests {
-    use super::{founding_of, join, FoundingFault, GENERATION};
-    use rows::{Engine, Files, RowName};
+    use super::{new_group, with_members, FoundingFault};
+    use crate::message::LAST_FOUNDING_CLOCK;
 
     fn nodes(names: &[&str]) -> Vec<String> {
         names.iter().map(|&name| name.to_owned()).collect()
     }
 
     fn refused(file: &str, names: &[&str]) -> FoundingFault {
-        founding_of(file, &nodes(names)).unwrap_err()
+        new_group(file, &nodes(names)).unwrap_err()
     }
 
     #[test]
     fn a_founding_is_for_as_many_nodes_as_it_has_members() {
-        assert!(founding_of("members = 2", &nodes(&["a", "b"])).is_ok());
+        assert!(new_group("members = 2", &nodes(&["a", "b"])).is_ok());
         let (members, nodes) = (2, 1);
         assert_eq!(
             refused("members = 2", &["a"]),
@@ -159,12 +167,20 @@ mod tests {
 
     #[test]
     fn a_row_that_would_end_early_is_refused() {
-        let limited = |limit: i64| format!("members = 1\nsent_limit = {limit}");
+        let limited = |limit: u64| format!("members = 1\nsent_limit = {limit}");
         assert_eq!(
             refused(&limited(16_383), &["a"]),
             FoundingFault::SentLimit(16_383)
         );
-        assert!(founding_of(&limited(16_384), &nodes(&["a"])).is_ok());
+        assert!(new_group(&limited(16_384), &nodes(&["a"])).is_ok());
+    }
+
+    #[test]
+    fn a_clock_near_that_of_a_seal_is_refused() {
+        let begins = |clock: u64| format!("members = 1\nclock = {clock}");
+        let late = LAST_FOUNDING_CLOCK + 1;
+        assert_eq!(refused(&begins(late), &["a"]), FoundingFault::Clock(late));
+        assert!(new_group(&begins(late - 1), &nodes(&["a"])).is_ok());
     }
 
     #[test]
@@ -177,24 +193,13 @@ mod tests {
         }
     }
 
-    #[tokio::test]
-    async fn whoever_joins_with_another_founding_stops() {
-        let folder = tempfile::tempdir().unwrap();
-        let engine = Files::of(folder.path());
-        let founding = founding_of("members = 1", &nodes(&["a"])).unwrap();
-        let first = join(&engine, &founding).await.unwrap().unwrap();
-        assert_eq!(join(&engine, &founding).await, Ok(Ok(first)));
-        for change in [
-            |it: &mut rows::cell::Founding| it.founding.push(' '),
-            |it: &mut rows::cell::Founding| it.nodes[0].push('b'),
-            |it: &mut rows::cell::Founding| it.rules.push('2'),
-        ] {
-            let mut other = founding.clone();
-            change(&mut other);
-            let told = join(&engine, &other).await.unwrap();
-            assert!(matches!(told, Err(FoundingFault::Differs(_))));
-        }
-        let cells = engine.get(&RowName::founding(), 1).await.unwrap();
-        assert_eq!((cells.len(), GENERATION), (1, 1));
+    #[test]
+    fn a_founding_file_is_as_it_is_but_for_the_members() {
+        let file = "version = 1\nmembers = 2 # two\n";
+        assert_eq!(with_members(file, 2), file);
+        let more = with_members(file, 3);
+        assert_eq!(with_members(&more, 3), more);
+        assert!(more.contains("members = 3") && more.contains("version = 1"));
+        assert_eq!(with_members("members", 3), "members");
     }
 }

@@ -1,5 +1,5 @@
 //! A group on this machine: a process for each member, started again where that mends something.
-use crate::founding::{founding_of, parse, FoundingFault};
+use crate::founding::{new_group, parse, with_members, FoundingFault};
 use crate::stop::Stop;
 use std::fs;
 use std::io;
@@ -30,7 +30,12 @@ pub fn node(member: u32) -> String {
 
 /// The socket of a member in a group's folder.
 pub fn socket(folder: &Path, member: u32) -> PathBuf {
-    folder.join(node(member)).with_extension("sock")
+    socket_of(folder, &node(member))
+}
+
+/// The socket of a node's process in a folder.
+pub fn socket_of(folder: &Path, node: &str) -> PathBuf {
+    folder.join(format!("{node}.sock"))
 }
 
 /// Makes the folder of a group, with its founding file. Where another number of members is asked for, the file has that.
@@ -52,8 +57,13 @@ pub fn prepare(
 }
 
 fn founded(file: &str, members: Option<u32>) -> Result<(String, u32), FoundingFault> {
-    let (text, members) = with_members(file, members)?;
-    founding_of(&text, &nodes(members))?;
+    let there = parse(file)?
+        .get("members")
+        .and_then(toml::Value::as_integer);
+    let there = there.and_then(|members| u32::try_from(members).ok());
+    let members = members.or(there).unwrap_or(1);
+    let text = with_members(file, members as usize);
+    new_group(&text, &nodes(members))?;
     Ok((text, members))
 }
 
@@ -63,21 +73,6 @@ fn nodes(members: u32) -> Vec<String> {
 
 fn founding_file(folder: &Path) -> PathBuf {
     folder.join("founding.toml")
-}
-
-fn with_members(file: &str, members: Option<u32>) -> Result<(String, u32), FoundingFault> {
-    let mut table = parse(file)?;
-    let there = table.get("members").and_then(toml::Value::as_integer);
-    let there = there.and_then(|members| u32::try_from(members).ok());
-    match members {
-        Some(wanted) if there != Some(wanted) => {
-            table.insert("members".to_owned(), i64::from(wanted).into());
-            let text = toml::to_string(&table);
-            let text = text.map_err(|error| FoundingFault::File(error.to_string()))?;
-            Ok((text, wanted))
-        }
-        _ => Ok((file.to_owned(), there.unwrap_or(1))),
-    }
 }
 
 impl Group {
@@ -152,22 +147,5 @@ fn told(status: ExitStatus) -> String {
         (None, Some(3)) => "was fenced: another process is that member".to_owned(),
         (None, Some(4)) => "met rows that have lost cells".to_owned(),
         (None, code) => format!("ended with status {}", code.unwrap_or_default()),
-    }
-}
-
-#[cfg(test)]
-mod tests {
-    use super::with_members;
-
-    #[test]
-    fn a_founding_file_is_as_it_is_but_for_the_members() {
-        let file = "version = 1\nmembers = 2 # two\n";
-        assert_eq!(with_members(file, None), Ok((file.to_owned(), 2)));
-        assert_eq!(with_members(file, Some(2)), Ok((file.to_owned(), 2)));
-        let (text, members) = with_members(file, Some(3)).unwrap();
-        assert_eq!(members, 3);
-        assert_eq!(with_members(&text, None), Ok((text.clone(), 3)));
-        assert!(text.contains("version = 1"));
-        assert!(with_members("members", None).is_err());
     }
 }

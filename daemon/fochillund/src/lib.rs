@@ -6,8 +6,12 @@ pub mod ask;
 pub mod callers;
 pub mod engine;
 pub mod founding;
+pub mod generation;
 pub mod group;
+pub mod message;
+pub mod node;
 pub mod process;
+pub mod propose;
 pub mod row_member;
 mod stop;
 

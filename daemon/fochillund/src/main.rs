@@ -2,10 +2,12 @@
 use clap::{Parser, Subcommand};
 use fochillund::ask::Members;
 use fochillund::engine::Place;
-use fochillund::founding::founding_of;
-use fochillund::group::{node, prepare, Group};
-use fochillund::process::{run, Options};
+use fochillund::founding::new_group;
+use fochillund::group::{node, prepare, socket_of, Group};
+use fochillund::process::{run, Options, MARGIN};
+use fochillund::propose::{begun, propose, Wanted};
 use fochillund::Stop;
+use rows::Engine;
 use std::io::{self, Write};
 use std::path::{Path, PathBuf};
 use std::process::ExitCode;
@@ -53,15 +55,22 @@ enum Verb {
         /// Take the member over at once from a process that is it elsewhere: that one is fenced
         #[arg(long = "take-over")]
         takes_over: bool,
-        /// The founding file, the same for all members
-        #[arg(long)]
-        founding: PathBuf,
-        /// The nodes of members 1, 2 and so on, the same for all members
-        #[arg(long, value_delimiter = ',', required = true)]
+        /// The founding file of the first generation, the same for all members. Without it the process waits until the group is founded
+        #[arg(long, requires = "nodes")]
+        founding: Option<PathBuf>,
+        /// The nodes of members 1, 2 and so on of the first generation, the same for all members
+        #[arg(long, value_delimiter = ',', requires = "founding")]
         nodes: Vec<String>,
-        /// The node of this member
+        /// The node of this process
         #[arg(long)]
         node: String,
+        /// Leave a member out, by a new generation, of whom a message is missing for so many seconds, and seal rows for who does not; by default nobody
+        /// is left out but by an operator
+        #[arg(long = "leave-out-after", value_parser = seconds)]
+        grace: Option<Duration>,
+        /// How many cells of its row are left when the member proposes a new generation
+        #[arg(long, hide = true, default_value_t = MARGIN)]
+        margin: u64,
         /// Where callers find it; by default the node's name with the ending .sock, in the folder
         #[arg(long)]
         socket: Option<PathBuf>,
@@ -72,6 +81,49 @@ enum Verb {
         #[arg(long, hide = true)]
         ends_with_stdin: bool,
     },
+    /// Follows a group, as any number of processes may, and sends nothing. Ends as a member does
+    Observe {
+        /// Where its callers find it
+        #[arg(long)]
+        socket: PathBuf,
+        #[command(flatten)]
+        place: Place,
+        /// The folder of the rows, where they are files
+        #[arg(long, default_value = ".")]
+        folder: PathBuf,
+        /// For how many seconds a caller waits
+        #[arg(long, default_value_t = 10)]
+        patience: u64,
+    },
+    /// Proposes a new generation of a group: other nodes, another founding file, or both. Waits until it has begun. Status 1: it was not proposed, or
+    /// has not begun yet
+    Propose {
+        /// The folder of the rows, where they are files
+        #[arg(long, default_value = ".")]
+        folder: PathBuf,
+        #[command(flatten)]
+        place: Place,
+        /// The nodes of its members 1, 2 and so on, in place of those of before
+        #[arg(long, value_delimiter = ',')]
+        nodes: Option<Vec<String>>,
+        /// Nodes that are left out; their rows are sealed
+        #[arg(long = "leave-out", value_delimiter = ',')]
+        leave_out: Vec<String>,
+        /// Nodes that are taken in
+        #[arg(long = "take-in", value_delimiter = ',')]
+        take_in: Vec<String>,
+        /// Its founding file, in place of that of before: other operations, objects and permissions, or another kind of hierarchy
+        #[arg(long)]
+        founding: Option<PathBuf>,
+        /// For how many seconds it is waited until the generation has begun
+        #[arg(long, default_value_t = 30)]
+        patience: u64,
+    },
+}
+
+fn seconds(text: &str) -> Result<Duration, String> {
+    let seconds: f64 = text.parse().map_err(|error| format!("{error}"))?;
+    Duration::try_from_secs_f64(seconds).map_err(|error| error.to_string())
 }
 
 fn main() -> ExitCode {
@@ -110,29 +162,101 @@ async fn start(verb: Verb) -> Result<u8, String> {
             founding,
             nodes,
             node,
+            grace,
+            margin,
             socket,
             patience,
             ends_with_stdin,
         } => {
-            let member = nodes.iter().position(|named| *named == node);
-            let member = member.ok_or_else(|| format!("{node} is none of the nodes"))?;
-            let founding = founding_of(&read(&founding)?, &nodes);
+            let new_group = founding.map(|file| new_group(&read(&file)?, &nodes).map_err(told));
             let options = Options {
-                socket: socket.unwrap_or_else(|| folder.join(&node).with_extension("sock")),
+                socket: socket.unwrap_or_else(|| socket_of(&folder, &node)),
                 folder,
                 place,
+                node: Some(node),
+                new_group: new_group.transpose()?,
                 takes_over,
-                founding: founding.map_err(|fault| fault.to_string())?,
-                member: member as u32 + 1,
+                grace,
+                margin,
                 patience: Duration::from_secs(patience),
             };
-            Ok(be_member(options, ends_with_stdin).await)
+            Ok(be_process(options, ends_with_stdin).await)
+        }
+        Verb::Observe {
+            socket,
+            place,
+            folder,
+            patience,
+        } => {
+            let options = Options {
+                folder,
+                place,
+                node: None,
+                new_group: None,
+                takes_over: false,
+                grace: None,
+                margin: MARGIN,
+                socket,
+                patience: Duration::from_secs(patience),
+            };
+            Ok(be_process(options, false).await)
+        }
+        Verb::Propose {
+            folder,
+            place,
+            nodes,
+            leave_out,
+            take_in,
+            founding,
+            patience,
+        } => {
+            let wanted = Wanted {
+                nodes,
+                leave_out,
+                take_in,
+                file: founding.map(|file| read(&file)).transpose()?,
+            };
+            let engine = place.open(&folder).await.map_err(told)?;
+            propose_and_wait(&*engine, &wanted, Duration::from_secs(patience)).await
         }
     }
 }
 
-async fn be_member(options: Options, ends_with_stdin: bool) -> u8 {
-    let name = options.node().to_owned();
+fn told(error: impl std::fmt::Display) -> String {
+    error.to_string()
+}
+
+async fn propose_and_wait(
+    engine: &dyn Engine,
+    wanted: &Wanted,
+    patience: Duration,
+) -> Result<u8, String> {
+    let proposed = match propose(engine, wanted).await {
+        Ok(proposed) => proposed,
+        Err(fault) => {
+            eprintln!("fochillund: nothing is proposed: {fault}");
+            return Ok(1);
+        }
+    };
+    let (generation, nodes) = (proposed.generation, proposed.nodes.join(","));
+    println!("generation {generation} of {nodes} is proposed");
+    match begun(engine, &proposed, patience).await.map_err(told)? {
+        Ok(()) => {
+            println!("generation {generation} has begun");
+            Ok(0)
+        }
+        Err(nodes) => {
+            eprintln!(
+                "fochillund: it waits for the rows of {} to end",
+                nodes.join(",")
+            );
+            Ok(1)
+        }
+    }
+}
+
+async fn be_process(options: Options, ends_with_stdin: bool) -> u8 {
+    let name = options.name().to_owned();
     let stop = tokio::select! {
         stop = run(options) => stop,
         () = end_of_input(), if ends_with_stdin => Stop::Asked,

@@ -1,17 +1,26 @@
-//! One member's process: its row, the rows of the others, and its callers.
-mod joining;
+//! A process at a node of a group, or one that only follows it: the rows, the node over them, and its callers.
+mod following;
+mod founded;
+mod leaving;
 mod lock;
+mod sealing;
+mod survey;
+
+pub use sealing::seal_row;
+pub use survey::survey;
 
 use crate::callers::{Question, State};
 use crate::engine::{Heard, Place};
-use crate::founding::GENERATION;
-use crate::row_member::{NewCall, Reply, RowMember};
+use crate::founding::NewGroup;
+use crate::node::{Asked, NextCell, Node, NodeFault, Phase, Reply};
+use crate::row_member::NewCall;
 use crate::stop::Stop;
-use bytes::Bytes;
-use joining::{join_group, Joined};
+use following::{Following, Read};
+use founded::{base_of, founded};
+use leaving::Leaving;
 use lock::Lock;
-use rows::cell::{Cell, Founding, Sent};
-use rows::{sure_set, Engine, Fault, Follower, RowName, Told, SWEEP};
+use rand::Rng;
+use rows::{sure_get, sure_set, Engine, Fault, RowName, Told};
 use serde_json::value::RawValue;
 use std::future::Future;
 use std::path::PathBuf;
@@ -39,30 +48,44 @@ pub struct Options {
     pub folder: PathBuf,
     /// Where the rows are.
     pub place: Place,
-    /// Whether it sets a cell at once, so that each other process of this member is fenced, on whatever machine.
+    /// The node; none of a process that only follows the group.
+    pub node: Option<String>,
+    /// What the group is founded with, where it is not yet. Whoever founds nothing waits until another has.
+    pub new_group: Option<NewGroup>,
+    /// Whether it sets a cell at once, so that each other process of this node is fenced, on whatever machine.
     pub takes_over: bool,
-    /// What the group is founded with.
-    pub founding: Founding,
-    /// The number of the member, from 1 on: the place of its node.
-    pub member: u32,
+    /// After how long a silent member is left out by a new generation; never, where this is none.
+    pub grace: Option<Duration>,
+    /// How many cells of its row are left when a member proposes a new generation.
+    pub margin: u64,
     /// Where its callers find it.
     pub socket: PathBuf,
     /// How long a caller waits for its answer.
     pub patience: Duration,
 }
 
+/// How many cells of its row are left when a member proposes a new generation: enough for what is on its way until the rows are sealed.
+pub const MARGIN: u64 = 4096;
+
 impl Options {
-    /// The name of the member's node.
-    pub fn node(&self) -> &str {
-        &self.founding.nodes[self.member as usize - 1]
+    /// By which name the process tells of itself.
+    pub fn name(&self) -> &str {
+        self.node.as_deref().unwrap_or("an observer")
     }
 }
 
 type Waiter = oneshot::Sender<Reply>;
-type Setting = Pin<Box<dyn Future<Output = Result<Told, Fault>>>>;
-type Read = Result<(u32, Vec<Sent>), Stop>;
+type Setting = Pin<Box<dyn Future<Output = Result<WasSet, Fault>>>>;
 
-/// Runs the member until it has to end.
+/// What became of a cell that was to be set.
+struct WasSet {
+    generation: u64,
+    told: Told,
+    /// What stands there, where it was taken.
+    there: Option<bytes::Bytes>,
+}
+
+/// Runs the process until it has to end.
 pub async fn run(options: Options) -> Stop {
     match start(&options).await {
         Ok(stop) | Err(stop) => stop,
@@ -70,69 +93,107 @@ pub async fn run(options: Options) -> Stop {
 }
 
 async fn start(options: &Options) -> Result<Stop, Stop> {
-    let lock = Lock::take(&options.folder, options.node()).await;
-    let _lock = lock.map_err(Stop::Lock)?;
+    let lock = match &options.node {
+        Some(node) => Some(
+            Lock::take(&options.folder, node)
+                .await
+                .map_err(Stop::Lock)?,
+        ),
+        None => None,
+    };
+    let _lock = lock;
     let began = Instant::now();
     let engine = Arc::new(Heard::of(opened(options).await?));
-    let as_engine: Arc<dyn Engine> = Arc::clone(&engine) as _;
-    let joined = join_group(&as_engine, options).await?;
+    let mut process = Process::of(options, engine).await?;
+    process.follow_all().await?;
+    let cells = process.own_cells();
     let (questions, asked) = mpsc::channel(ROOM);
     crate::callers::serve(options, questions).map_err(Stop::Socket)?;
     tracing::info!(
-        "{} is up: {} (process {}, {} cells, {} ms)",
-        options.node(),
+        "{} is up: {} (process {}, generation {}, {} cells, {} ms)",
+        options.name(),
         options.socket.display(),
         std::process::id(),
-        joined.cells,
+        process.node.generation().number,
+        cells,
         began.elapsed().as_millis()
     );
-    Ok(Process::of(options, engine, joined).go_on(asked).await)
+    process.take_over();
+    Ok(process.go_on(asked).await)
 }
 
 /// The engine, once it answers: it may be started at the same time.
 async fn opened(options: &Options) -> Result<Arc<dyn Engine>, Fault> {
     loop {
         match options.place.open(&options.folder).await {
-            Err(Fault::Silent(why)) => tracing::info!("{}: the rows: {why}", options.node()),
+            Err(Fault::Silent(why)) => tracing::info!("{}: the rows: {why}", options.name()),
             told => return told,
         }
         tokio::time::sleep(FULL_PAUSE).await;
     }
 }
 
+/// A word that no other process has.
+pub fn writer() -> String {
+    format!("{:032x}", rand::thread_rng().gen::<u128>())
+}
+
 struct Process {
-    member: RowMember<Waiter>,
-    nodes: Vec<String>,
-    number: u32,
+    node: Node<Waiter>,
+    writer: String,
+    takes_over: bool,
+    name: Option<String>,
     engine: Arc<Heard>,
-    row: RowName,
-    read: mpsc::Receiver<Read>,
+    following: Following,
     setting: Option<Setting>,
+    leaving: Leaving,
 }
 
 impl Process {
-    fn of(options: &Options, engine: Arc<Heard>, mut joined: Joined) -> Process {
-        let (tell, read) = mpsc::channel(ROOM);
-        if options.takes_over {
-            let commands = RawValue::from_string(NO_CHANGE.to_owned()).expect("it is JSON");
-            let (identity, waiter) = (None, oneshot::channel().0);
-            joined.member.ask(NewCall { identity, commands }, waiter);
-        }
-        for (member, follower) in joined.followers {
-            tokio::spawn(follow(member, follower, tell.clone()));
-        }
-        let (next, row) = (joined.cells as u64 + 1, joined.row.clone());
-        let watched = Arc::clone(&engine) as _;
-        tokio::spawn(watch(watched, row, next, joined.writer, tell));
-        Process {
-            member: joined.member,
-            nodes: options.founding.nodes.clone(),
-            number: options.member,
+    async fn of(options: &Options, engine: Arc<Heard>) -> Result<Process, Stop> {
+        let foundings = founded(&*engine, options.new_group.as_ref()).await?;
+        let base = base_of(&*engine, &foundings).await?;
+        let writer = writer();
+        let node = Node::begin(options.node.as_deref(), &writer, foundings, base)?;
+        let as_engine: Arc<dyn Engine> = Arc::clone(&engine) as _;
+        let following = Following::of(as_engine, node.foundings().latest()).await?;
+        Ok(Process {
+            leaving: Leaving::of(options, Arc::clone(&engine), &writer),
+            node,
+            writer,
+            takes_over: options.takes_over,
+            name: options.node.clone(),
             engine,
-            row: joined.row,
-            read,
+            following,
             setting: None,
+        })
+    }
+
+    /// Sets a cell that changes nothing, by which each other process of the node is fenced.
+    fn take_over(&mut self) {
+        if let (true, Some(member)) = (self.takes_over, self.node.member()) {
+            let commands = RawValue::from_string(NO_CHANGE.to_owned()).expect("it is JSON");
+            let call = NewCall {
+                identity: None,
+                commands,
+            };
+            let generation = self.node.generation().number;
+            let asked = Asked {
+                generation,
+                member,
+                call,
+            };
+            self.node.ask(asked, oneshot::channel().0);
         }
+    }
+
+    /// Reads the rows of the generation that goes on, and of each that it leads to.
+    async fn follow_all(&mut self) -> Result<(), Stop> {
+        while self.following.generation() != self.node.generation().number {
+            self.following.go_to(&mut self.node, &self.writer).await?;
+            self.node.turn()?;
+        }
+        Ok(())
     }
 
     async fn go_on(mut self, mut asked: mpsc::Receiver<Question>) -> Stop {
@@ -146,23 +207,28 @@ impl Process {
     /// Begins to set what is to be set, tells what is to be told, and waits for the next event.
     async fn step(&mut self, asked: &mut mpsc::Receiver<Question>) -> Result<(), Stop> {
         if self.setting.is_some() {
-            self.member.turn()?;
+            self.node.turn()?;
         } else {
             // Who is about to ask goes into the same message.
             tokio::task::yield_now().await;
             self.take_questions(asked);
             self.setting = self.begin()?;
         }
-        for (waiter, reply) in self.member.take_told() {
+        for (waiter, reply) in self.node.take_told() {
             // Who waits no longer asks again.
             let _ = waiter.send(reply);
         }
+        if self.following.generation() != self.node.generation().number {
+            // There may be something to be set there.
+            return self.follow_all().await;
+        }
+        self.leaving.look(&mut self.node)?;
         tokio::select! {
             biased;
             told = ended(&mut self.setting) => self.take_set(told?),
-            Some(read) = self.read.recv() => {
+            read = self.following.next() => {
                 self.take_read(read)?;
-                while let Ok(read) = self.read.try_recv() {
+                while let Some(read) = self.following.try_next() {
                     self.take_read(read)?;
                 }
                 Ok(())
@@ -172,34 +238,68 @@ impl Process {
                 self.take_questions(asked);
                 Ok(())
             }
+            () = self.leaving.wait() => Ok(()),
         }
     }
 
     fn begin(&mut self) -> Result<Option<Setting>, Stop> {
-        let next = self.member.next_cell()?;
-        Ok(next.map(|(first, text)| {
-            let (engine, row) = (Arc::clone(&self.engine), self.row.clone());
-            Box::pin(async move { set(&*engine, &row, first, text).await }) as Setting
+        let next = self.node.next_cell()?;
+        Ok(next.map(|next| {
+            let engine = Arc::clone(&self.engine);
+            Box::pin(async move { set(&*engine, next).await }) as Setting
         }))
     }
 
-    fn take_set(&mut self, told: Told) -> Result<(), Stop> {
+    fn take_set(&mut self, was: WasSet) -> Result<(), Stop> {
         self.setting = None;
-        match told {
-            Told::Set => Ok(self.member.was_set()?),
-            Told::Taken => Err(Stop::Fenced),
-            Told::Gap | Told::Unsure => Err(Stop::Lost(
-                "the cells of this member's row are gone".to_owned(),
+        match (was.told, was.there) {
+            (Told::Set, _) => Ok(self.node.was_set(was.generation)?),
+            (Told::Taken, Some(there)) => Ok(self.node.was_taken(was.generation, &there)?),
+            _ => Err(Stop::Lost(
+                "the cells of this node's row are gone".to_owned(),
             )),
         }
     }
 
     fn take_read(&mut self, read: Read) -> Result<(), Stop> {
-        let (member, cells) = read?;
-        for cell in cells {
-            self.member.put_cell(member, cell);
+        match read {
+            Read::Cells {
+                generation,
+                member,
+                cells,
+            } => {
+                for cell in cells {
+                    if generation == self.node.generation().number {
+                        self.node.put_cell(member, cell)?;
+                    }
+                }
+            }
+            // While a cell is being set its own answer tells what stands there.
+            Read::Own {
+                generation,
+                number,
+                text,
+            } => {
+                let is_next = number == self.own_cells() + 1;
+                if self.setting.is_none() && is_next {
+                    self.node.was_taken(generation, &text)?;
+                }
+            }
+            Read::Foundings(texts) => {
+                for text in texts {
+                    self.node.put_founding(&text)?;
+                }
+            }
+            Read::Stop(stop) => return Err(stop),
         }
         Ok(())
+    }
+
+    /// How many cells of the node's own row of this generation are its own.
+    fn own_cells(&mut self) -> u64 {
+        let taken = self.node.taken();
+        let own = self.node.member().map(|member| member as usize - 1);
+        own.and_then(|own| taken.get(own)).copied().unwrap_or(0)
     }
 
     fn take_questions(&mut self, asked: &mut mpsc::Receiver<Question>) {
@@ -210,31 +310,45 @@ impl Process {
 
     fn take_question(&mut self, question: Question) {
         match question {
-            Question::Call(call, waiter) => self.member.ask(call, waiter),
+            Question::Call(asked, waiter) => self.node.ask(asked, waiter),
             Question::State(waiter) => {
                 let _ = waiter.send(Box::new(self.state()));
             }
-            Question::Records(from, waiter) => {
-                let to = self
-                    .member
-                    .history_length()
-                    .min(from.saturating_add(MOST_RECORDS - 1));
-                let _ = waiter.send(self.member.records(from..to + 1));
+            Question::Records {
+                generation,
+                from,
+                waiter,
+            } => {
+                let generation = generation.unwrap_or(self.node.generation().number);
+                let _ = waiter.send((generation, self.records(generation, from)));
             }
         }
     }
 
+    fn records(&mut self, generation: u64, from: u64) -> Option<Vec<String>> {
+        let length = self.node.history_length(generation)?;
+        let to = length.min(from.saturating_add(MOST_RECORDS - 1));
+        Some(self.node.records(generation, from..to + 1))
+    }
+
     fn state(&mut self) -> State {
-        let waits = self.member.waits();
-        let node = |member: &u32| self.nodes[*member as usize - 1].clone();
+        let waits = self.node.waits();
+        let taken = self.node.taken();
+        let generation = self.node.generation().number;
+        let records = self.node.history_length(generation).unwrap_or(0);
+        let nodes = self.node.generation().nodes.clone();
+        let waited = waits.members.iter();
         State {
-            generation: GENERATION,
-            member: self.number,
-            node: node(&self.number),
+            generation,
+            phase: self.node.phase(),
+            member: self.node.member(),
+            node: self.name.clone(),
+            waits_for: waited.map(|at| nodes[*at as usize - 1].clone()).collect(),
+            nodes,
             process: std::process::id(),
-            taken: self.member.taken(),
-            records: self.member.history_length(),
-            waits_for: waits.members.iter().map(node).collect(),
+            taken,
+            cells_left: self.node.cells_left(),
+            records,
             sets: waits.row,
             queued: waits.queued,
             sent: waits.sent,
@@ -244,57 +358,51 @@ impl Process {
 }
 
 /// Sets a cell. Where the engine is full nothing is set, and the same text is tried until somebody has made room.
-async fn set(engine: &dyn Engine, row: &RowName, first: u64, text: Bytes) -> Result<Told, Fault> {
-    loop {
-        match sure_set(engine, row, first, std::slice::from_ref(&text)).await {
+async fn set(engine: &dyn Engine, next: NextCell) -> Result<WasSet, Fault> {
+    let (row, number) = (&next.row, next.number);
+    let told = loop {
+        match sure_set(engine, row, number, std::slice::from_ref(&next.text)).await {
             Err(Fault::Full) => tokio::time::sleep(FULL_PAUSE).await,
-            told => return told,
+            told => break told?,
         }
-    }
+    };
+    let there = match told {
+        Told::Taken => sure_get(engine, row, number).await?.into_iter().next(),
+        _ => None,
+    };
+    Ok(WasSet {
+        generation: next.generation,
+        told,
+        there,
+    })
 }
 
 /// Returns once what is being set is; never where nothing is.
-async fn ended(setting: &mut Option<Setting>) -> Result<Told, Fault> {
+async fn ended(setting: &mut Option<Setting>) -> Result<WasSet, Fault> {
     match setting {
         Some(setting) => setting.await,
         None => std::future::pending().await,
     }
 }
 
-/// Gives on each cell of another member's row.
-async fn follow(member: u32, mut follower: Follower, tell: mpsc::Sender<Read>) {
-    loop {
-        let read = follower.next().await;
-        let is_last = read.is_err();
-        let read = read.map(|cells| (member, cells)).map_err(Stop::from);
-        if tell.send(read).await.is_err() || is_last {
-            return;
+/// Whether the founding's row can be written by this process, and what came of it.
+async fn propose(engine: &dyn Engine, number: u64, text: bytes::Bytes) -> Result<Told, Fault> {
+    let row = RowName::founding();
+    sure_set(engine, &row, number, std::slice::from_ref(&text)).await
+}
+
+impl From<NodeFault> for Stop {
+    fn from(fault: NodeFault) -> Stop {
+        use crate::generation::CellFault;
+        match fault {
+            NodeFault::Founding(CellFault::Differs(fault)) => Stop::Founding(fault),
+            NodeFault::Founding(CellFault::Lost(lost)) => Stop::Lost(lost.to_string()),
+            NodeFault::Member { fault, .. } => fault.into(),
         }
     }
 }
 
-/// Looks from time to time whether the member's own row has a cell that another process set: a process that is asked nothing meets no cell that is
-/// taken, and would show for good what was so once. Behind another's cell none is this process's own, so the last one tells.
-async fn watch(
-    engine: Arc<dyn Engine>,
-    row: RowName,
-    mut next: u64,
-    writer: String,
-    tell: mpsc::Sender<Read>,
-) {
-    let is_own = |text: &Bytes| {
-        let cell: Option<Cell> = serde_json::from_slice(text).ok();
-        cell.is_some_and(|cell| cell.writer == writer)
-    };
-    let stop = loop {
-        tokio::time::sleep(SWEEP).await;
-        match engine.get(&row, next).await {
-            Ok(texts) if texts.last().is_none_or(is_own) => next += texts.len() as u64,
-            Ok(_) => break Stop::Fenced,
-            Err(Fault::Silent(_)) => {}
-            Err(fault) => break Stop::Engine(fault),
-        }
-    };
-    // Where nobody hears it the process has ended.
-    let _ = tell.send(Err(stop)).await;
+/// What is done in a phase is done by who is a member in it.
+fn serves(phase: Phase) -> bool {
+    phase == Phase::Serves
 }

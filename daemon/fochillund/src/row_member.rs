@@ -1,59 +1,37 @@
-//! A member over its row: what is read and asked goes in, and what is to be set and what callers are told comes out. It opens nothing, waits for
-//! nothing and reads no clock, so that a test can play any order of events.
+//! A member over its row, in one generation: what is read and asked goes in, and what is to be set and what callers are told comes out. It opens
+//! nothing, waits for nothing and reads no clock, so that a test can play any order of events.
 //!
 //! Row first: a message of the member's own is in its memory only once its cell is set. So whatever happens to the process, nothing that it told
 //! rests on what could be forgotten; that is what the library's law asks of whoever makes a member anew of its row.
 mod call;
+mod ends;
+mod fault;
 mod history;
 mod inbox;
+mod observer;
+mod opening;
 mod queue;
+mod taking;
 
 pub use call::{NewCall, Refusal, Reply, MOST_BYTES, MOST_COMMANDS, MOST_WAITING};
+pub use ends::check_ends;
+pub use fault::MemberFault;
+pub use observer::RowObserver;
+pub use opening::{Begins, Dump};
 
+use crate::generation::Generation;
+use crate::message::{commands_of, is_seal, own_clock, seal_of};
 use bytes::Bytes;
-use call::{commands_of, ReadCall, LONGEST_MESSAGE};
-use fochillun::{Member, MemberError, OpenError, RestoreError};
+use call::{ReadCall, LONGEST_MESSAGE};
+use fault::fault_of;
+use fochillun::{Member, MemberError, RestoreError};
 use history::{History, Place};
-use inbox::{Inbox, Wanted};
+use inbox::Inbox;
+use opening::Opening;
 use queue::{Batch, Queue};
-use rows::cell::{Cell, Chain, Sent};
-use serde::Deserialize;
+use rows::cell::{Cell, Chain, DumpPart, Sent};
 use serde_json::value::RawValue;
-use thiserror::Error;
-
-/// Why a member goes on no further.
-#[derive(Clone, Debug, PartialEq, Eq, Error)]
-pub enum MemberFault {
-    /// The founding founds no such member.
-    #[error("the founding: {0}")]
-    Founding(#[from] OpenError),
-    /// Memory ran out. It can be made anew.
-    #[error("no memory")]
-    NoMemory,
-    /// A cell has a message that is none, or could not follow those before it.
-    #[error("message {number} of member {member}: {why}")]
-    Message {
-        /// Whose row it stands in.
-        member: u32,
-        /// Its number there.
-        number: u64,
-        /// Why it is not taken.
-        why: MemberError,
-    },
-    /// The cell of this number of the member's own row does not say whose its message's commands are.
-    #[error("cell {0} has other calls than its message has commands")]
-    Calls(u64),
-    /// The row of another member ends before what this member's own cells say was taken of it.
-    #[error("the row of member {member} has {there} cells, and {taken} were taken of it before")]
-    LostEnd {
-        /// Whose row it is.
-        member: u32,
-        /// How many cells it has.
-        there: u64,
-        /// How many were taken.
-        taken: u64,
-    },
-}
+pub(crate) use taking::Taking;
 
 /// For whom a member waits.
 #[derive(Clone, Debug, Default, PartialEq, Eq)]
@@ -68,117 +46,96 @@ pub struct Waits {
     pub sent: usize,
 }
 
-/// A cell that is being set.
+/// A cell that is to be set.
 #[derive(Debug)]
 struct Setting<W> {
     cell: Bytes,
     message: String,
+    dump: Option<DumpPart>,
     batch: Option<Batch<W>>,
+}
+
+/// A message that is to be sent.
+struct Next<W> {
+    message: String,
+    dump: Option<DumpPart>,
+    batch: Option<Batch<W>>,
+}
+
+impl<W> Next<W> {
+    /// One that has no calls.
+    fn of(message: String) -> Next<W> {
+        Next {
+            message,
+            dump: None,
+            batch: None,
+        }
+    }
 }
 
 /// A member, and the calls that it was asked. `W` is what waits for a call's reply.
 #[derive(Debug)]
 pub struct RowMember<W> {
-    member: Member,
+    taking: Taking,
     /// A member that has done nothing, by which commands are read.
     reader: Member,
-    number: u32,
     writer: String,
     chain: Chain,
-    inboxes: Vec<Inbox>,
+    sent_limit: u64,
     queue: Queue<W>,
     history: History<W>,
     setting: Option<Setting<W>>,
     told: Vec<(W, Reply)>,
-    /// The clock of the last message of the member's own; 0 before the first.
-    sent_clock: u64,
-    /// How many messages the member has taken, its own too.
-    steps: u64,
     has_just_acknowledged: bool,
     is_full: bool,
-    records: u64,
-}
-
-/// Whether the rows of the others, which have so many cells, have all that this member's own cells say was taken of them. Each of the cells is
-/// asked: a process that was made anew takes the others' rows from their beginning, so a later cell may tell of less.
-///
-/// # Errors
-/// Where one has lost its end.
-pub fn check_ends(cells: &[Cell], there: &[u64]) -> Result<(), MemberFault> {
-    for (member, &there) in (1..).zip(there) {
-        let others = cells.iter().filter(|cell| cell.member != member);
-        let taken = others.filter_map(|cell| cell.taken.get(member as usize - 1));
-        let taken = taken.copied().max().unwrap_or(0);
-        if taken > there {
-            return Err(MemberFault::LostEnd {
-                member,
-                there,
-                taken,
-            });
-        }
-    }
-    Ok(())
-}
-
-#[derive(Deserialize)]
-struct Stamped {
-    stamp: (u64, u32),
-}
-
-/// The clock of a message's stamp; none where it has none.
-fn clock_of(message: &str) -> Option<u64> {
-    let stamped: Option<Stamped> = serde_json::from_str(message).ok();
-    stamped.map(|it| it.stamp.0)
-}
-
-/// The same of a message that the library has made.
-fn own_clock(message: &str) -> u64 {
-    clock_of(message).expect("a message that the library makes has a stamp")
+    is_closing: bool,
 }
 
 impl<W> RowMember<W> {
-    /// The member that has these cells in its row: made anew, or for the first time where there is none. `writer` is a word that no other process
-    /// has.
+    /// The member of a generation that has these cells in its row: made anew, or for the first time where there is none. `writer` is a word that no
+    /// other process has, and `chain` stands behind the cells.
     ///
     /// # Errors
     /// Where the founding founds no such member, or a message of the row is none.
     pub fn restore(
-        founding: &[u8],
-        members: u32,
+        generation: &Generation,
         number: u32,
+        begins: Begins,
         writer: String,
         chain: Chain,
         cells: &[Cell],
     ) -> Result<RowMember<W>, MemberFault> {
+        let founding = generation.file.as_bytes();
         let messages = cells.iter().map(|cell| cell.message.get());
         let member = Member::restore(founding, number, messages).map_err(|error| match error {
             RestoreError::Open(why) => MemberFault::Founding(why),
             RestoreError::TakeOwn { number: at, error } => fault_of(number, at.into(), error),
         })?;
+        let opening = Opening::of(begins);
+        let mut taking = Taking::of(member, number, generation.members(), opening);
         let mut history = History::new();
         for (place, cell) in (1..).zip(cells) {
-            let commands: usize = cell.calls.iter().map(|call| call.commands).sum();
-            if commands != commands_of(cell.message.get()).len() {
+            let commands = commands_of(cell.message.get()).len();
+            let called: usize = cell.calls.iter().map(|call| call.commands).sum();
+            if called != commands && (called != 0 || cell.dump.is_none()) {
                 return Err(MemberFault::Calls(cell.number));
             }
-            history.sent(place, &cell.calls);
+            taking.has_own(place, cell.message.get(), cell.dump)?;
+            history.sent(place, &cell.calls, commands);
         }
         Ok(RowMember {
-            member,
+            taking,
             reader: Member::open(founding, number)?,
-            number,
             writer,
             chain,
-            inboxes: (0..members).map(|_| Inbox::default()).collect(),
+            sent_limit: generation.sent_limit(),
             queue: Queue::new(),
             history,
             setting: None,
             told: Vec::new(),
-            sent_clock: cells.last().map_or(0, |cell| own_clock(cell.message.get())),
-            steps: 0,
             has_just_acknowledged: false,
             is_full: false,
-            records: 0,
+            is_closing: false,
         })
     }
 
@@ -226,6 +183,7 @@ impl<W> RowMember<W> {
             }
         }
         let refusal = match () {
+            () if self.taking.is_sealed => Refusal::NotTaken,
             () if self.is_full => Refusal::Full,
             () if self.queue.is_full() => Refusal::Busy,
             () => return self.queue.put(call, waiter),
@@ -248,13 +206,21 @@ impl<W> RowMember<W> {
     }
 
     fn message_of(&mut self, place: Place) -> String {
-        let message = self.member.message(place.message as usize);
+        let message = self.taking.member.message(place.message as usize);
         message.expect("a message that was sent can be told")
     }
 
     /// A cell of another member's row was read: the next one.
-    pub fn put_cell(&mut self, member: u32, cell: Sent) {
-        self.inboxes[member as usize - 1].put(cell);
+    ///
+    /// # Errors
+    /// Where it is none that may stand there.
+    pub fn put_cell(&mut self, member: u32, cell: Sent) -> Result<(), MemberFault> {
+        self.taking.put(member, cell)
+    }
+
+    /// The generation is to end: the row is sealed behind what is being set, and no call is sent any more.
+    pub fn close(&mut self) {
+        self.is_closing = true;
     }
 
     /// Takes what was read as far as that needs no message of the member's own, and delivers what is due.
@@ -262,27 +228,15 @@ impl<W> RowMember<W> {
     /// # Errors
     /// Where a message can't be taken.
     pub fn turn(&mut self) -> Result<(), MemberFault> {
-        for member in self.others() {
-            while self.may_take_first(member)? && self.receive_first(member)? {}
+        self.taking.take_ready()?;
+        if self.taking.is_full && !self.is_closing {
+            self.be_full();
         }
         self.deliver()
     }
 
-    /// Whether there is a message of a member that can be taken with no acknowledgement. None is wanted where the member itself has sent
-    /// something later; of each other message the library says it.
-    fn may_take_first(&mut self, member: u32) -> Result<bool, MemberFault> {
-        let inbox = &self.inboxes[member as usize - 1];
-        let Some(message) = inbox.first() else {
-            return Ok(false);
-        };
-        if message.clock < self.sent_clock {
-            return Ok(true);
-        }
-        Ok(inbox.wanted.is_none() && self.ask_first(member)? == Asked::WantsNothing)
-    }
-
     /// The cell that is to be set next: its number and text. None where there is none, or one is being set. Whoever asks it has to tell
-    /// [`RowMember::was_set`] once it is set, and takes no other from this row.
+    /// [`RowMember::was_set`] once it is set, or [`RowMember::was_taken`], and takes no other from this row.
     ///
     /// # Errors
     /// Where a message can't be taken.
@@ -291,36 +245,69 @@ impl<W> RowMember<W> {
             return Ok(None);
         }
         self.turn()?;
-        let acknowledgement = self.acknowledgement()?;
-        let (message, batch) = match (acknowledgement, self.next_submit()?) {
-            (Some(sent), Some(submitted)) if !self.goes_first(&submitted) => (sent, None),
-            (_, Some(submitted)) => (submitted, Some(self.queue.take())),
-            (Some(sent), None) => (sent, None),
+        let next = match () {
+            () if self.taking.is_sealed => None,
+            () if self.is_closing => Some(Next::of(seal_of(self.taking.number))),
+            () if !self.has_room() => None,
+            () if self.is_dumping() => Some(self.next_of_dump()?),
+            () => self.next_message()?,
+        };
+        Ok(next.map(|next| self.begin(next)))
+    }
+
+    /// Whether the row has room for a message more. Its last cell is for the seal.
+    fn has_room(&mut self) -> bool {
+        let has_room = self.chain.next() < self.sent_limit;
+        if !has_room {
+            self.be_full();
+        }
+        has_room
+    }
+
+    /// An acknowledgement, or the calls that wait.
+    fn next_message(&mut self) -> Result<Option<Next<W>>, MemberFault> {
+        let acknowledgement = self.taking.acknowledgement();
+        let submitted = match self.taking.opening.is_open {
+            true => self.next_submit()?,
+            false => None,
+        };
+        let next = match (acknowledgement, submitted) {
+            (Some(sent), Some(submitted)) if !self.goes_first(&submitted) => Next::of(sent),
+            (_, Some(message)) => Next {
+                message,
+                dump: None,
+                batch: Some(self.queue.take()),
+            },
+            (Some(sent), None) => Next::of(sent),
             (None, None) => return Ok(None),
         };
-        self.has_just_acknowledged = batch.is_none();
-        Ok(Some(self.begin(message, batch)))
+        self.has_just_acknowledged = next.batch.is_none();
+        Ok(Some(next))
     }
 
     /// Whether a batch goes before an acknowledgement: where it is later than all that was read and wants one, or it is its turn.
     fn goes_first(&self, submitted: &str) -> bool {
         let clock = own_clock(submitted);
-        let wanting = self.inboxes.iter().filter(|inbox| inbox.wanted.is_some());
-        let mut first = wanting.filter_map(Inbox::first);
+        let inboxes = self.taking.inboxes.iter();
+        let mut first = inboxes
+            .filter(|inbox| inbox.wanted.is_some())
+            .filter_map(Inbox::first);
         self.has_just_acknowledged || first.all(|message| message.clock < clock)
     }
 
-    fn begin(&mut self, message: String, batch: Option<Batch<W>>) -> (u64, Bytes) {
-        let calls = batch.as_ref().map_or_else(Vec::new, Batch::told);
-        let text = RawValue::from_string(message.clone()).expect("a message is JSON");
+    fn begin(&mut self, next: Next<W>) -> (u64, Bytes) {
+        let text = RawValue::from_string(next.message.clone()).expect("a message is JSON");
         let taken = self.taken();
-        let cell = self.chain.cell(&self.writer, taken, calls, text);
+        let mut cell = self.chain.cell(&self.writer, taken, text);
+        cell.calls = next.batch.as_ref().map_or_else(Vec::new, Batch::told);
+        cell.dump = next.dump;
         let cell = Bytes::from(serde_json::to_vec(&cell).expect("a cell is JSON"));
         let number = self.chain.next();
         self.setting = Some(Setting {
             cell: cell.clone(),
-            message,
-            batch,
+            message: next.message,
+            dump: next.dump,
+            batch: next.batch,
         });
         (number, cell)
     }
@@ -331,22 +318,63 @@ impl<W> RowMember<W> {
     /// Where memory ends.
     pub fn was_set(&mut self) -> Result<(), MemberFault> {
         let setting = self.setting.take().expect("a cell was being set");
-        let number = self.chain.next();
-        let at = u32::try_from(number).expect("a member sends at most 65,536 messages");
-        let taken = self.member.take_own(at, &setting.message);
-        taken.map_err(|why| fault_of(self.number, number, why))?;
+        let at = number_of(self.chain.next());
+        self.taking.take_own(at, &setting.message, setting.dump)?;
         self.chain.follow(&setting.cell);
-        self.sent_clock = own_clock(&setting.message);
-        self.steps += 1;
-        if let Some(batch) = setting.batch {
-            let places = self.history.sent(at, &batch.told());
-            for (place, waiters) in places.into_iter().zip(batch.waiters) {
-                for waiter in waiters {
-                    self.history.wait(place, waiter);
-                }
+        let calls = setting.batch.as_ref().map_or_else(Vec::new, Batch::told);
+        let commands = match (&setting.batch, setting.dump) {
+            (None, None) => 0,
+            _ => commands_of(&setting.message).len(),
+        };
+        let places = self.history.sent(at, &calls, commands);
+        let waiters = setting.batch.into_iter().flat_map(|batch| batch.waiters);
+        for (place, waiters) in places.into_iter().zip(waiters) {
+            for waiter in waiters {
+                self.history.wait(place, waiter);
             }
         }
+        self.tell_not_taken();
         self.turn()
+    }
+
+    /// The next cell of the row was set by somebody else, to this text. A seal is as good as the member's own: nothing of what was to be set is in
+    /// its memory.
+    ///
+    /// # Errors
+    /// `Fenced`, where it is no seal: another process is this member.
+    pub fn was_taken(&mut self, text: &[u8]) -> Result<(), MemberFault> {
+        let cell = self.chain.clone().take(text)?;
+        if !is_seal(cell.message.get()) {
+            return Err(MemberFault::Fenced);
+        }
+        let at = number_of(self.chain.next());
+        self.taking.take_own(at, cell.message.get(), None)?;
+        self.chain.follow(text);
+        let setting = self.setting.take();
+        let batch = setting.and_then(|setting| setting.batch);
+        for waiter in batch.into_iter().flat_map(Batch::into_waiters) {
+            self.told.push((waiter, Err(Refusal::NotTaken)));
+        }
+        self.tell_not_taken();
+        self.turn()
+    }
+
+    /// Behind the seal nothing is sent: who waits to be sent is told.
+    fn tell_not_taken(&mut self) {
+        if self.taking.is_sealed {
+            self.refuse_waiting(Refusal::NotTaken);
+        }
+    }
+
+    /// The generation ended before it began: who waits to be sent is told.
+    pub fn leave(&mut self) {
+        self.refuse_waiting(Refusal::NotTaken);
+    }
+
+    fn refuse_waiting(&mut self, refusal: Refusal) {
+        let refused = self.queue.take_all();
+        self.told
+            .extend(refused.map(|waiter| (waiter, Err(refusal))));
     }
 
     /// What callers are told since this was asked last.
@@ -356,10 +384,8 @@ impl<W> RowMember<W> {
 
     /// For whom calls wait.
     pub fn waits(&mut self) -> Waits {
-        let awaited = self.member.waits().map_or(0, |held| held.awaited);
-        let is_awaited = |member: &u32| awaited >> (member - 1) & 1 == 1;
         Waits {
-            members: (1..=self.inboxes.len() as u32).filter(is_awaited).collect(),
+            members: self.taking.awaited(),
             row: self.setting.is_some(),
             queued: self.queue.len(),
             sent: self.history.waits(),
@@ -368,87 +394,102 @@ impl<W> RowMember<W> {
 
     /// How many messages of each member were taken; of itself, how many it sent.
     pub fn taken(&mut self) -> Vec<u64> {
-        let numbers = 1..=self.inboxes.len() as u32;
-        numbers
-            .map(|member| match member == self.number {
-                true => self.chain.next() - 1,
-                false => self.member.read(member),
-            })
-            .collect()
+        self.taking.taken()
+    }
+
+    /// Its number, from 1 on.
+    pub fn number(&self) -> u32 {
+        self.taking.number
+    }
+
+    /// Where its row's next cell goes.
+    pub fn chain(&self) -> &Chain {
+        &self.chain
+    }
+
+    /// How many cells are left of its row, its seal's too.
+    pub fn cells_left(&self) -> u64 {
+        (self.sent_limit + 1).saturating_sub(self.chain.next())
     }
 
     /// How many records the member's history has.
     pub fn history_length(&self) -> u64 {
-        self.records
+        self.taking.records
     }
 
     /// The records of these numbers, from 1 on, which the history has.
     pub fn records(&mut self, numbers: std::ops::Range<u64>) -> Vec<String> {
-        let record = |number| self.member.record(number as usize);
-        let records = numbers.map(record).collect::<Result<_, _>>();
-        records.expect("a record of the history can be told")
+        self.taking.records(numbers)
     }
 
-    fn others(&self) -> impl Iterator<Item = u32> {
-        let own = self.number;
-        (1..=self.inboxes.len() as u32).filter(move |member| *member != own)
+    /// Whether it takes the calls of callers: the dump by which the generation began was taken to its end, and the row has not ended.
+    pub fn is_open(&self) -> bool {
+        self.taking.opening.is_open && !self.taking.is_sealed
     }
 
-    /// Asks what the first message of a member wants to be answered before it is taken, and keeps it.
-    fn ask_first(&mut self, member: u32) -> Result<Asked, MemberFault> {
-        let inbox = &mut self.inboxes[member as usize - 1];
-        inbox.wanted = None;
-        let message = inbox.first().expect("a message was read");
-        let (number, text) = (message.number, message.text.get());
-        let answer = match self.member.next_answer(member, number, text) {
-            Ok(answer) => answer,
-            Err(MemberError::SentFull | MemberError::ClockFull) => {
-                self.be_full();
-                return Ok(Asked::IsFull);
-            }
-            Err(why) => return Err(fault_of(member, number.into(), why)),
+    /// Whether its row has ended.
+    pub fn is_sealed(&self) -> bool {
+        self.taking.is_sealed
+    }
+
+    /// Whether the generation ended before anybody may have sent a command in it.
+    pub fn is_void(&self) -> bool {
+        self.taking.is_void()
+    }
+
+    /// Whether the policy that was delivered is one that the group had: not while it has a part of the dump by which the generation begins.
+    pub fn is_shown(&self) -> bool {
+        self.taking.is_shown()
+    }
+
+    /// Whether all rows have ended, and all that stands in them was delivered.
+    pub fn is_over(&mut self) -> bool {
+        self.taking.is_over()
+    }
+
+    /// The rows of others that have not ended, as far as they were read.
+    pub fn not_sealed(&self) -> Vec<u32> {
+        self.taking.not_sealed().collect()
+    }
+
+    /// What it shows: its policy, and how far that is right.
+    pub(crate) fn taking(&mut self) -> &mut Taking {
+        &mut self.taking
+    }
+
+    /// Whether the member is the first one of its generation and has not sent all of the dump.
+    fn is_dumping(&self) -> bool {
+        self.taking.number == 1 && !self.taking.opening.is_open
+    }
+
+    /// The next message of the dump.
+    fn next_of_dump(&mut self) -> Result<Next<W>, MemberFault> {
+        let opening = &self.taking.opening;
+        let dump = opening.dump.as_ref();
+        let dump = dump.expect("who sends a dump knows the policy before");
+        let part = DumpPart {
+            first: opening.read,
+            total: dump.commands.len(),
+            founded_by: dump.founded_by,
         };
-        let asked_at = self.steps;
-        inbox.wanted = answer.map(|answer| Wanted { answer, asked_at });
-        match inbox.wanted {
-            Some(_) => Ok(Asked::WantsAnswer),
-            None => Ok(Asked::WantsNothing),
-        }
+        let commands = together(&dump.commands[opening.read..]);
+        let message = match commands.is_empty() {
+            // A dump of nothing is told by a message of nothing.
+            true => format!(r#"{{"stamp":[1,{}]}}"#, self.taking.number),
+            false => self.submit_message(&format!("[{}]", commands.join(",")))?,
+        };
+        Ok(Next {
+            message,
+            dump: Some(part),
+            batch: None,
+        })
     }
 
-    /// Takes the first message of a member, which sends nothing, and tells whether it did: not where no more can be sent.
-    fn receive_first(&mut self, member: u32) -> Result<bool, MemberFault> {
-        let inbox = &mut self.inboxes[member as usize - 1];
-        let message = inbox.first().expect("a message was read");
-        let (number, text) = (message.number, message.text.get());
-        match self.member.receive(member, number, text) {
-            Ok(sent) => assert_eq!(sent, None, "a message was sent that is in no cell"),
-            Err(MemberError::SentFull | MemberError::ClockFull) => {
-                self.be_full();
-                return Ok(false);
-            }
-            Err(why) => return Err(fault_of(member, number.into(), why)),
-        }
-        inbox.drop_first();
-        self.steps += 1;
-        Ok(true)
-    }
-
-    /// The acknowledgement that lets most of what was read be taken, where one is wanted.
-    fn acknowledgement(&mut self) -> Result<Option<String>, MemberFault> {
-        let mut latest: Option<(u64, String)> = None;
-        for member in self.others().collect::<Vec<u32>>() {
-            let wanted = self.inboxes[member as usize - 1].wanted.as_ref();
-            let asked_at = wanted.map(|wanted| wanted.asked_at);
-            if asked_at.is_some_and(|asked_at| asked_at != self.steps) {
-                self.ask_first(member)?;
-            }
-            if let Some(wanted) = &self.inboxes[member as usize - 1].wanted {
-                let told = (own_clock(&wanted.answer), wanted.answer.clone());
-                latest = latest.max(Some(told));
-            }
-        }
-        Ok(latest.map(|(_, answer)| answer))
+    fn submit_message(&mut self, commands: &str) -> Result<String, MemberFault> {
+        let member = &mut self.taking.member;
+        let serial = u32::try_from(member.next_serial(0)).unwrap_or(u32::MAX);
+        let message = member.next_submit_batch(0, serial, commands);
+        message.map_err(|why| fault_of(self.taking.number, self.chain.next(), why))
     }
 
     /// The message that the calls that wait go into, as many as have room.
@@ -456,63 +497,51 @@ impl<W> RowMember<W> {
         let Some(commands) = self.queue.next_commands() else {
             return Ok(None);
         };
-        let serial = u32::try_from(self.member.next_serial(0)).unwrap_or(u32::MAX);
-        match self.member.next_submit_batch(0, serial, &commands) {
-            Ok(message) => Ok(Some(message)),
-            Err(MemberError::SentFull | MemberError::ClockFull) => {
+        match self.submit_message(&commands) {
+            Err(MemberFault::Message {
+                why: MemberError::SentFull | MemberError::ClockFull,
+                ..
+            }) => {
                 self.be_full();
                 Ok(None)
             }
-            Err(why) => Err(fault_of(self.number, self.chain.next(), why)),
+            told => told.map(Some),
         }
     }
 
     /// The member sends no more. Who waits to be sent is told; what was sent may still be answered.
     fn be_full(&mut self) {
         self.is_full = true;
-        let refused = self
-            .queue
-            .take_all()
-            .map(|waiter| (waiter, Err(Refusal::Full)));
-        self.told.extend(refused);
+        self.refuse_waiting(Refusal::Full);
     }
 
     fn deliver(&mut self) -> Result<(), MemberFault> {
-        loop {
-            let held = self.member.waits();
-            let delivered = self.member.deliver().map_err(|_| MemberFault::NoMemory)?;
-            let Some(record) = delivered else {
-                return Ok(());
-            };
-            self.records = record;
-            let held = held.expect("what is delivered was held");
-            if held.member == self.number {
-                for (place, waiter) in self.history.delivered(held.place, record) {
-                    let numbers = self.history.records_of(place).expect("it was delivered");
-                    let reply = self.records(numbers);
-                    self.told.push((waiter, Ok(reply)));
-                }
+        while let Some(held) = self.taking.deliver_next()? {
+            if held.member != self.taking.number {
+                continue;
+            }
+            for (place, waiter) in self.history.delivered(held.place, self.taking.records) {
+                let numbers = self.history.records_of(place).expect("it was delivered");
+                let reply = self.taking.records(numbers);
+                self.told.push((waiter, Ok(reply)));
             }
         }
+        Ok(())
     }
 }
 
-/// What a message wants before it is taken.
-#[derive(Clone, Copy, Debug, PartialEq, Eq)]
-enum Asked {
-    WantsNothing,
-    WantsAnswer,
-    /// An acknowledgement that can't be sent.
-    IsFull,
+/// As many of these commands as go into one message of a dump.
+fn together(commands: &[String]) -> &[String] {
+    let mut bytes = 0;
+    let fits = |command: &&String| {
+        bytes += command.len() + 1;
+        bytes <= MOST_BYTES
+    };
+    let first = commands.iter().take(MOST_COMMANDS);
+    &commands[..first.take_while(fits).count()]
 }
 
-fn fault_of(member: u32, number: u64, why: MemberError) -> MemberFault {
-    match why {
-        MemberError::NoMemory => MemberFault::NoMemory,
-        why => MemberFault::Message {
-            member,
-            number,
-            why,
-        },
-    }
+/// A message's number as the library has it.
+fn number_of(number: u64) -> u32 {
+    u32::try_from(number).expect("a member sends at most 65,536 messages")
 }

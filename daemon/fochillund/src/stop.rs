@@ -57,6 +57,7 @@ impl From<MemberFault> for Stop {
     fn from(fault: MemberFault) -> Stop {
         match fault {
             MemberFault::NoMemory => Stop::NoMemory,
+            MemberFault::Fenced => Stop::Fenced,
             MemberFault::Founding(why) => FoundingFault::File(why.to_string()).into(),
             lost => Stop::Lost(lost.to_string()),
         }

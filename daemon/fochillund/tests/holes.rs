@@ -1,10 +1,12 @@
 //! A member over its row, where it could go wrong: each test is named for what has to hold.
 use bytes::Bytes;
 use fochillun::{Member, MemberError};
-use fochillund::row_member::{MemberFault, NewCall, Refusal, Reply, MOST_BYTES, MOST_WAITING};
+use fochillund::generation::{Foundings, Generation};
+use fochillund::row_member::{
+    Begins, MemberFault, NewCall, Refusal, Reply, MOST_BYTES, MOST_WAITING,
+};
 use fochillund::{check_ends, RowMember};
 use rows::cell::{Cell, Chain, Identity, Why};
-use rows::RowName;
 use serde_json::value::RawValue;
 
 type Held = RowMember<u32>;
@@ -15,21 +17,31 @@ fn founding(members: u32, more: &str) -> String {
     )
 }
 
-fn chain_of(founding: &str, member: u32) -> Chain {
-    let row = RowName::of_node(&format!("n{member}"), 1).unwrap();
-    Chain::of(row, 1, member, founding.as_bytes())
+/// The first generation of a group of so many members.
+fn generation(founding: &str, members: u32) -> Generation {
+    let nodes: Vec<String> = (1..=members).map(|member| format!("n{member}")).collect();
+    let mut foundings = Foundings::new();
+    let (_, text) = foundings.proposal(&nodes, Some(founding), "");
+    foundings.take(&text).unwrap();
+    foundings.first()
 }
 
-fn cells_of(founding: &str, member: u32, row: &[Bytes]) -> (Chain, Vec<Cell>) {
-    let mut chain = chain_of(founding, member);
+/// The start of a row in a group of two.
+fn chain_of(founding: &str, member: u32) -> Chain {
+    generation(founding, 2).chain(member)
+}
+
+fn cells_of(generation: &Generation, member: u32, row: &[Bytes]) -> (Chain, Vec<Cell>) {
+    let mut chain = generation.chain(member);
     let cells = row.iter().map(|text| chain.take(text).unwrap()).collect();
     (chain, cells)
 }
 
 fn made_of(founding: &str, members: u32, member: u32, row: &[Bytes]) -> Held {
-    let (chain, cells) = cells_of(founding, member, row);
-    let (text, writer) = (founding.as_bytes(), format!("w{}", row.len()));
-    RowMember::restore(text, members, member, writer, chain, &cells).unwrap()
+    let generation = generation(founding, members);
+    let (chain, cells) = cells_of(&generation, member, row);
+    let writer = format!("w{}", row.len());
+    RowMember::restore(&generation, member, Begins::Empty, writer, chain, &cells).unwrap()
 }
 
 fn call(id: Option<&str>, commands: &str) -> NewCall {
@@ -133,10 +145,10 @@ fn a_cell_whose_calls_are_not_those_of_its_message_stops() {
     let (mut held, mut row) = (made_of(&founding, 1, 1, &[]), Vec::new());
     held.ask(call(Some("a"), &add_user("bob")), 1);
     set(&mut held, &mut row);
-    let (chain, mut cells) = cells_of(&founding, 1, &row);
+    let generation = generation(&founding, 1);
+    let (chain, mut cells) = cells_of(&generation, 1, &row);
     cells[0].calls[0].commands = 2;
-    let text = founding.as_bytes();
-    let made = Held::restore(text, 1, 1, "w".to_owned(), chain, &cells);
+    let made = Held::restore(&generation, 1, Begins::Empty, "w".to_owned(), chain, &cells);
     assert_eq!(made.err(), Some(MemberFault::Calls(1)));
 }
 
@@ -272,7 +284,8 @@ fn a_full_queue_refuses() {
 
 #[test]
 fn a_row_at_its_limit_refuses_and_what_was_sent_is_answered() {
-    let founding = founding(2, "sent_limit = 1\n");
+    // The last cell of each row is for its seal.
+    let founding = founding(2, "sent_limit = 2\n");
     let (mut one, mut two) = (made_of(&founding, 2, 1, &[]), made_of(&founding, 2, 2, &[]));
     let (mut row, mut theirs) = (Vec::new(), Vec::new());
     one.ask(call(Some("a"), &add_user("bob")), 1);
@@ -284,9 +297,11 @@ fn a_row_at_its_limit_refuses_and_what_was_sent_is_answered() {
     assert_eq!(refusal, Refusal::Full);
     one.ask(call(Some("a"), &add_user("bob")), 3);
     let mut chains = [1, 2].map(|member| chain_of(&founding, member));
-    two.put_cell(1, chains[0].take_sent(&row[0]).unwrap());
+    two.put_cell(1, chains[0].take_sent(&row[0]).unwrap())
+        .unwrap();
     set(&mut two, &mut theirs);
-    one.put_cell(2, chains[1].take_sent(&theirs[0]).unwrap());
+    one.put_cell(2, chains[1].take_sent(&theirs[0]).unwrap())
+        .unwrap();
     one.turn().unwrap();
     let answered: Vec<u32> = told(&mut one).iter().map(|(waiter, _)| *waiter).collect();
     assert_eq!((answered, one.history_length()), (vec![1, 3], 1));
@@ -301,7 +316,8 @@ fn a_row_that_lost_its_end_is_told_at_recovery() {
     for user in ["ann", "bob"] {
         one.ask(call(None, &add_user(user)), 1);
         set(&mut one, &mut row);
-        two.put_cell(1, chain.take_sent(row.last().unwrap()).unwrap());
+        let sent = chain.take_sent(row.last().unwrap()).unwrap();
+        two.put_cell(1, sent).unwrap();
     }
     set(&mut two, &mut theirs);
     two.ask(call(None, &add_user("eve")), 1);
@@ -311,7 +327,8 @@ fn a_row_that_lost_its_end_is_told_at_recovery() {
         there: 1,
         taken: 2,
     };
-    let cells = |row: &[Bytes]| cells_of(&founding, 2, row).1;
+    let two_members = generation(&founding, 2);
+    let cells = |row: &[Bytes]| cells_of(&two_members, 2, row).1;
     assert_eq!(check_ends(&cells(&theirs), &[2, 0]), Ok(()));
     assert_eq!(check_ends(&cells(&theirs), &[1, 9]), Err(lost.clone()));
     assert_eq!(check_ends(&[], &[0, 0]), Ok(()));
@@ -334,7 +351,7 @@ fn a_cell_of_another_chain_stops() {
         other.ask(call(None, &add_user("joe")), 1);
         set(&mut other, &mut others);
     }
-    let mut chain = chain_of(&founding, 1);
+    let mut chain = generation(&founding, 1).chain(1);
     chain.take(&row[0]).unwrap();
     assert_eq!(chain.take(&others[1]).unwrap_err().why, Why::OtherChain);
     assert_eq!(chain.take(&row[0]).unwrap_err().why, Why::OtherPlace);

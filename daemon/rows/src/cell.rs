@@ -7,21 +7,29 @@ use serde::{Deserialize, Serialize};
 use serde_json::value::RawValue;
 use thiserror::Error;
 
-/// The version of the founding's cell and of all others. A reader takes no other.
-pub const VERSION: u32 = 1;
+/// The version of all cells. A reader takes no other.
+pub const VERSION: u32 = 2;
 
-/// The one cell of the founding's row. Whoever joins with another founding, other nodes or other rules stops.
+/// A cell of the founding's row: cell G says what generation G is founded with. Whoever joins with other rules stops.
 #[derive(Clone, Debug, PartialEq, Eq, Serialize, Deserialize)]
 #[serde(deny_unknown_fields)]
 pub struct Founding {
     /// [`VERSION`].
     pub version: u32,
-    /// The text of the founding file.
-    pub founding: String,
+    /// The generation: the cell's own number.
+    pub generation: u64,
+    /// The hash of the text of the cell before; of the first one, the hash of nothing.
+    pub before: String,
+    /// The text of the founding file, where this generation has another than the one before; the first one has one.
+    #[serde(default, skip_serializing_if = "Option::is_none")]
+    pub founding: Option<String>,
     /// The nodes of members 1, 2 and so on.
     pub nodes: Vec<String>,
     /// By which rules members answer: what the library's release calls itself, so that no two that differ make one group.
     pub rules: String,
+    /// Who proposed it: a word that nobody else has. Of the first generation it is empty, so that all who found a group found the same.
+    #[serde(default, skip_serializing_if = "String::is_empty")]
+    pub proposer: String,
 }
 
 /// A cell of a member's row.
@@ -45,8 +53,23 @@ pub struct Cell {
     /// The calls whose commands the message has, in their order.
     #[serde(default, skip_serializing_if = "Vec::is_empty")]
     pub calls: Vec<Call>,
+    /// Where the message has commands of the dump by which the generation begins: which.
+    #[serde(default, skip_serializing_if = "Option::is_none")]
+    pub dump: Option<DumpPart>,
     /// The message, by its text.
     pub message: Box<RawValue>,
+}
+
+/// A part of the dump that member 1 of a generation, from the second on, sends before anything else: the policy that the last one left.
+#[derive(Clone, Copy, Debug, PartialEq, Eq, Serialize, Deserialize)]
+#[serde(deny_unknown_fields)]
+pub struct DumpPart {
+    /// How many of its commands stand in cells before this one.
+    pub first: usize,
+    /// How many commands it has. A message without any is all of a dump that has none.
+    pub total: usize,
+    /// The generation whose cell of the founding's row has the founding file of this one: its own, or an earlier one.
+    pub founded_by: u64,
 }
 
 /// What the cell of another member brings. Whose calls its commands were, that member alone asks, when it is made anew.
@@ -54,6 +77,8 @@ pub struct Cell {
 pub struct Sent {
     /// The cell's number in the row.
     pub number: u64,
+    /// Where it has commands of the dump: which.
+    pub dump: Option<DumpPart>,
     /// The message, by its text.
     pub message: Box<RawValue>,
 }
@@ -74,6 +99,8 @@ struct SentCell<'t> {
     _taken: IgnoredAny,
     #[serde(default, rename = "calls")]
     _calls: IgnoredAny,
+    #[serde(default)]
+    dump: Option<DumpPart>,
     #[serde(borrow)]
     message: &'t RawValue,
 }
@@ -168,14 +195,8 @@ impl Chain {
         &self.before
     }
 
-    /// The next cell, with a message of the member.
-    pub fn cell(
-        &self,
-        writer: &str,
-        taken: Vec<u64>,
-        calls: Vec<Call>,
-        message: Box<RawValue>,
-    ) -> Cell {
+    /// The next cell, with a message of the member that has no calls and no dump.
+    pub fn cell(&self, writer: &str, taken: Vec<u64>, message: Box<RawValue>) -> Cell {
         Cell {
             version: VERSION,
             generation: self.generation,
@@ -184,7 +205,8 @@ impl Chain {
             before: self.before.clone(),
             writer: writer.to_owned(),
             taken,
-            calls,
+            calls: Vec::new(),
+            dump: None,
             message,
         }
     }
@@ -226,6 +248,7 @@ impl Chain {
         self.follow(text);
         Ok(Sent {
             number: cell.number,
+            dump: cell.dump,
             message: cell.message.to_owned(),
         })
     }
@@ -279,7 +302,7 @@ mod tests {
 
     fn next_cell(chain: &Chain) -> Cell {
         let message = RawValue::from_string(r#"{"stamp":[1,2]}"#.to_owned()).unwrap();
-        chain.cell("w", vec![0, 0], Vec::new(), message)
+        chain.cell("w", vec![0, 0], message)
     }
 
     fn text(cell: &Cell) -> Vec<u8> {
@@ -316,7 +339,7 @@ mod tests {
             lost(|cell| cell.before = hash_of(b"other")),
             Why::OtherChain
         );
-        assert!(matches!(lost(|cell| cell.version = 2), Why::NoCell(_)));
+        assert!(matches!(lost(|cell| cell.version = 1), Why::NoCell(_)));
     }
 
     #[test]

@@ -1,5 +1,6 @@
 //! What callers are told.
 use super::State;
+use crate::node::{Answered, NodeRefusal};
 use crate::row_member::Refusal;
 use fochillun::MemberError;
 use hyper::header::{CONTENT_TYPE, RETRY_AFTER};
@@ -9,18 +10,17 @@ use serde_json::{json, Value};
 /// What a caller is told.
 #[derive(Debug)]
 pub(super) enum Told {
+    Answered(Answered),
     Records {
         generation: u64,
-        member: u32,
         records: Vec<String>,
     },
     State(Box<State>),
-    Refused(Refusal),
+    Refused(NodeRefusal),
     BadRequest(String),
     TooLong(usize),
-    OldGeneration(u64),
-    NoGeneration(u64),
-    OtherMember(u32),
+    /// The history of this generation is not kept here.
+    NotKept(u64),
     /// The call stands, and waits.
     Waits(Box<State>),
     /// The process ends.
@@ -40,13 +40,20 @@ impl Told {
         }
         let body = match self {
             // The records are the library's own texts.
-            Told::Records {
+            Told::Answered(Answered {
                 generation,
                 member,
                 records,
-            } => {
+            }) => {
                 let records = records.join(",");
                 format!(r#"{{"generation":{generation},"member":{member},"records":[{records}]}}"#)
+            }
+            Told::Records {
+                generation,
+                records,
+            } => {
+                let records = records.join(",");
+                format!(r#"{{"generation":{generation},"records":[{records}]}}"#)
             }
             other => other.told().to_string(),
         };
@@ -56,17 +63,12 @@ impl Told {
 
     fn status(&self) -> StatusCode {
         match self {
-            Told::Records { .. } | Told::State(_) => StatusCode::OK,
-            Told::Refused(Refusal::Commands(MemberError::NoMemory) | Refusal::Full)
-            | Told::Waits(_)
-            | Told::Ends => StatusCode::SERVICE_UNAVAILABLE,
-            Told::Refused(Refusal::Commands(_)) | Told::BadRequest(_) => StatusCode::BAD_REQUEST,
-            Told::Refused(Refusal::OtherCommands) => StatusCode::UNPROCESSABLE_ENTITY,
-            Told::Refused(Refusal::Busy) => StatusCode::TOO_MANY_REQUESTS,
+            Told::Answered(_) | Told::Records { .. } | Told::State(_) => StatusCode::OK,
+            Told::Refused(refusal) => status_of(*refusal),
+            Told::Waits(_) | Told::Ends => StatusCode::SERVICE_UNAVAILABLE,
+            Told::BadRequest(_) => StatusCode::BAD_REQUEST,
             Told::TooLong(_) => StatusCode::PAYLOAD_TOO_LARGE,
-            Told::OldGeneration(_) => StatusCode::GONE,
-            Told::NoGeneration(_) => StatusCode::CONFLICT,
-            Told::OtherMember(_) => StatusCode::MISDIRECTED_REQUEST,
+            Told::NotKept(_) => StatusCode::GONE,
             Told::NoMethod => StatusCode::METHOD_NOT_ALLOWED,
             Told::NoPath => StatusCode::NOT_FOUND,
         }
@@ -77,18 +79,21 @@ impl Told {
         let refused = |error: &str, text: &str| json!({ "error": error, "text": text });
         match self {
             Told::State(state) => serde_json::to_value(state).expect("a state is JSON"),
-            Told::Records { records, .. } => json!({ "records": records }),
-            Told::Refused(Refusal::Commands(why)) => refused(&format!("{why:?}"), &why.to_string()),
-            Told::Refused(why) => refused(&format!("{why:?}"), &why.to_string()),
+            Told::Answered(Answered { records, .. }) | Told::Records { records, .. } => {
+                json!({ "records": records })
+            }
+            Told::Refused(refusal) => told_of(*refusal),
             Told::BadRequest(why) => refused("BadRequest", why),
             Told::TooLong(most) => refused("TooLong", &format!("a body has at most {most} bytes")),
-            Told::OldGeneration(now) => json!({ "error": "OldGeneration", "generation": now }),
-            Told::NoGeneration(now) => json!({ "error": "NoGeneration", "generation": now }),
-            Told::OtherMember(member) => json!({ "error": "OtherMember", "member": member }),
+            Told::NotKept(generation) => {
+                let why = format!("the history of generation {generation} is not kept here");
+                refused("NotKept", &why)
+            }
             Told::Waits(state) => json!({
                 "error": "Waits",
                 "text": "the call stands: ask again by its id",
                 "stands": true,
+                "phase": state.phase,
                 "waits_for": state.waits_for,
                 "sets": state.sets,
                 "engine": state.engine,
@@ -99,6 +104,44 @@ impl Told {
             ),
             Told::NoMethod => refused("NoMethod", "another method is asked for here"),
             Told::NoPath => refused("NoPath", "/v1/commands, /v1/state, /v1/records?from=N"),
+        }
+    }
+}
+
+fn status_of(refusal: NodeRefusal) -> StatusCode {
+    match refusal {
+        NodeRefusal::Call(Refusal::Commands(MemberError::NoMemory) | Refusal::Full) => {
+            StatusCode::SERVICE_UNAVAILABLE
+        }
+        NodeRefusal::Call(Refusal::Commands(_)) => StatusCode::BAD_REQUEST,
+        NodeRefusal::Call(Refusal::OtherCommands) => StatusCode::UNPROCESSABLE_ENTITY,
+        NodeRefusal::Call(Refusal::Busy) => StatusCode::TOO_MANY_REQUESTS,
+        NodeRefusal::Call(Refusal::NotTaken)
+        | NodeRefusal::NotTaken { .. }
+        | NodeRefusal::NoGeneration { .. } => StatusCode::CONFLICT,
+        NodeRefusal::OldGeneration { .. } => StatusCode::GONE,
+        NodeRefusal::OtherMember { .. } => StatusCode::MISDIRECTED_REQUEST,
+    }
+}
+
+fn told_of(refusal: NodeRefusal) -> Value {
+    let text = refusal.to_string();
+    match refusal {
+        NodeRefusal::Call(Refusal::Commands(why)) => {
+            json!({ "error": format!("{why:?}"), "text": text })
+        }
+        NodeRefusal::Call(why) => json!({ "error": format!("{why:?}"), "text": text }),
+        NodeRefusal::NotTaken { now } => {
+            json!({ "error": "NotTaken", "text": text, "generation": now })
+        }
+        NodeRefusal::OldGeneration { now } => {
+            json!({ "error": "OldGeneration", "text": text, "generation": now })
+        }
+        NodeRefusal::NoGeneration { now } => {
+            json!({ "error": "NoGeneration", "text": text, "generation": now })
+        }
+        NodeRefusal::OtherMember { member } => {
+            json!({ "error": "OtherMember", "text": text, "member": member })
         }
     }
 }

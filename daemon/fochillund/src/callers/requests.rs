@@ -47,12 +47,20 @@ async fn body_of(request: Request<Body>) -> Result<Vec<u8>, Told> {
     Ok(read)
 }
 
-/// The number of the first record that is asked for: `from=N`, or else 1.
-pub(super) fn from_of(uri: &Uri) -> Result<u64, Told> {
-    let from = match uri.query() {
-        None => Some(1),
-        Some(query) => query.strip_prefix("from=").and_then(|it| it.parse().ok()),
-    };
-    let bad = || Told::BadRequest("the query is from=N, with N from 1 on".to_owned());
-    from.filter(|from| *from > 0).ok_or_else(bad)
+/// The generation and the number of the first record that are asked for: `generation=G&from=N`, of which each may be missing.
+pub(super) fn from_of(uri: &Uri) -> Result<(Option<u64>, u64), Told> {
+    let (mut generation, mut from) = (None, 1);
+    for part in uri.query().into_iter().flat_map(|query| query.split('&')) {
+        let number = |text: &str| text.parse().ok().filter(|number| *number > 0);
+        match part.split_once('=') {
+            Some(("generation", text)) => generation = Some(number(text).ok_or_else(bad_query)?),
+            Some(("from", text)) => from = number(text).ok_or_else(bad_query)?,
+            _ => return Err(bad_query()),
+        }
+    }
+    Ok((generation, from))
+}
+
+fn bad_query() -> Told {
+    Told::BadRequest("the query is generation=G&from=N, with numbers from 1 on".to_owned())
 }

@@ -1,7 +1,6 @@
 //! Calls: what a caller asks, and what it is told.
 use fochillun::MemberError;
 use rows::cell::{Call, Identity};
-use serde::Deserialize;
 use serde_json::value::RawValue;
 use thiserror::Error;
 
@@ -42,23 +41,13 @@ pub enum Refusal {
     /// The member has sent as many messages as it may.
     #[error("the member has sent as many messages as it may")]
     Full,
+    /// The member's row of the call's generation has ended without it. That is final: it can be asked in the next generation.
+    #[error("the generation has ended without this call")]
+    NotTaken,
 }
 
 /// What a caller is told: the records of its commands, in their order, or why there are none.
 pub type Reply = Result<Vec<String>, Refusal>;
-
-/// The commands of a message's text, each as the library writes it.
-#[derive(Deserialize)]
-struct Sent<'t> {
-    #[serde(borrow, default)]
-    commands: Vec<&'t RawValue>,
-}
-
-/// The texts of the commands of a message's text.
-pub(super) fn commands_of(message: &str) -> Vec<&str> {
-    let sent: Sent<'_> = serde_json::from_str(message).expect("a message is a JSON object");
-    sent.commands.into_iter().map(RawValue::get).collect()
-}
 
 /// A call whose commands were read.
 #[derive(Debug)]

@@ -50,8 +50,8 @@ impl<W> History<W> {
         }
     }
 
-    /// A message of these calls was set in the row. Gives the place of each.
-    pub(super) fn sent(&mut self, message: u32, calls: &[Call]) -> Vec<Place> {
+    /// A message of so many commands, those of these calls or of nobody, was set in the row. Gives the place of each call.
+    pub(super) fn sent(&mut self, message: u32, calls: &[Call], commands: usize) -> Vec<Place> {
         let mut first = 0;
         let mut places = Vec::with_capacity(calls.len());
         for call in calls {
@@ -66,11 +66,9 @@ impl<W> History<W> {
             places.push(place);
             first += call.commands;
         }
-        if first > 0 {
-            self.undelivered.push_back(Undelivered {
-                message,
-                commands: first,
-            });
+        if commands > 0 {
+            let undelivered = Undelivered { message, commands };
+            self.undelivered.push_back(undelivered);
         }
         places
     }

@@ -30,6 +30,11 @@ impl<W> Batch<W> {
     pub(super) fn told(&self) -> Vec<Call> {
         self.calls.iter().map(ReadCall::told).collect()
     }
+
+    /// Who waits for any of them.
+    pub(super) fn into_waiters(self) -> impl Iterator<Item = W> {
+        self.waiters.into_iter().flatten()
+    }
 }
 
 /// The calls that wait, in the order in which they came.

@@ -273,7 +273,7 @@ async fn a_member_is_moved_by_one_command() {
     let mut moved = group.spawn_in(there.path(), 1, &more);
     assert_eq!(ended_of(group.first_process(1)), Some(3));
     let mut client = fochillund::ask::Members::of(there.path(), Duration::from_secs(60));
-    let told = client.call(1, "a", ANN).await.unwrap();
+    let told = client.call(1, "a", ANN).await.unwrap().unwrap();
     assert_eq!(told.0.as_u16(), 200);
     let state = client.state(1).await.unwrap();
     assert_eq!(state.process, moved.id());

@@ -87,7 +87,8 @@ async fn ask(folder: PathBuf, members: u32, seed: u64, shared: Arc<Shared>) -> V
         );
         let asked = shared.now();
         let text = format!("[{}]", commands.join(","));
-        let (status, body) = client.call(member, &id, &text).await.unwrap();
+        let told = client.call(member, &id, &text).await.unwrap();
+        let (status, body) = told.expect("a member of the group");
         let answered = shared.now();
         assert_eq!(status.as_u16(), 200, "{}", String::from_utf8_lossy(&body));
         let told: HashMap<String, Box<RawValue>> = serde_json::from_slice(&body).unwrap();

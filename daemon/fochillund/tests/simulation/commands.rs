@@ -9,6 +9,22 @@ objects = ["book", "drug"]
 permissions = [["read", "book"], ["read", "drug"], ["write", "book"]]
 "#;
 
+/// A founding file for so many members: of that vocabulary, or of less, or of limited hierarchies, which a policy may not fit in.
+pub fn any_file(random: &mut StdRng, members: usize) -> String {
+    let vocabulary = match random.gen_range(0..4) {
+        0 => VOCABULARY.replace(r#", ["write", "book"]"#, ""),
+        1 => VOCABULARY
+            .replace(r#", "drug""#, "")
+            .replace(r#"["read", "drug"], "#, ""),
+        _ => VOCABULARY.to_owned(),
+    };
+    let version = match random.gen_ratio(1, 4) {
+        true => "version = 2\nhierarchy = \"limited\"",
+        false => "version = 1",
+    };
+    format!("{version}\nmembers = {members}\n{vocabulary}")
+}
+
 /// Each command, with a mark for each name: of a user, role, session, set, operation, object, number.
 const FORMS: &[&str] = &[
     r#"{"name":"AddUser","user":"U"}"#,

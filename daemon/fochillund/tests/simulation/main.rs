@@ -1,5 +1,6 @@
 //! Groups of one to four members over rows in memory: random schedules in which processes die, are made anew of their row or of an old prefix of
-//! it, run twice, and lose replies. Each schedule is checked from outside, by what callers were told, what rows hold and what processes show.
+//! it, run twice, and lose replies; and in which generations are proposed, of other nodes and of other founding files, rows are sealed by others, and
+//! some processes only follow. Each schedule is checked from outside, by what callers were told, what rows hold and what processes show.
 //!
 //! `SIMULATION_SCHEDULES` says how many there are. `SIMULATION_SEED` plays one alone, which tells its steps when it fails.
 mod checks;
@@ -12,7 +13,6 @@ mod schedule;
 mod seen;
 mod world;
 
-use commands::VOCABULARY;
 use judge::History;
 use rand::Rng;
 use std::panic::{catch_unwind, AssertUnwindSafe};
@@ -28,8 +28,8 @@ fn number_of(name: &str) -> Option<u64> {
     Some(text.parse().expect("a number"))
 }
 
-/// Plays one schedule. Gives its history.
-fn play(seed: u64, is_told: bool) -> (Figures, Vec<String>) {
+/// Plays one schedule. Gives the history of each generation.
+fn play(seed: u64, is_told: bool) -> (Figures, Vec<History>) {
     let mut world = World::new(seed, is_told);
     if world.random.gen_ratio(1, 20) {
         loss::play(&mut world);
@@ -40,10 +40,9 @@ fn play(seed: u64, is_told: bool) -> (Figures, Vec<String>) {
         end(&mut world);
     }
     checks::check_order(&world.seen);
-    checks::check_answers(&world);
+    let histories = checks::check_answers(&mut world);
     checks::count(&mut world);
-    let history = std::mem::take(&mut world.seen.history);
-    (world.figures, history)
+    (world.figures, histories)
 }
 
 /// Everything is brought everywhere, each call is asked again, and that is brought everywhere too.
@@ -81,6 +80,14 @@ impl Figures {
         self.full += other.full;
         self.lost_by_chain += other.lost_by_chain;
         self.lost_by_ends += other.lost_by_ends;
+        self.observers += other.observers;
+        self.generations += other.generations;
+        self.void += other.void;
+        self.other_files += other.other_files;
+        self.files_denied += other.files_denied;
+        self.seals_by_others += other.seals_by_others;
+        self.not_taken += other.not_taken;
+        self.answered_of_the_last += other.answered_of_the_last;
     }
 }
 
@@ -95,13 +102,12 @@ fn each_schedule_is_right() {
     let mut histories = Vec::new();
     for seed in 0..count {
         let played = catch_unwind(AssertUnwindSafe(|| play(seed, false)));
-        let Ok((figures, records)) = played else {
+        let Ok((figures, played)) = played else {
             panic!("schedule {seed} is wrong: SIMULATION_SEED={seed} tells its steps");
         };
         all.add(figures);
         if seed % (count / PLAYED).max(1) == 0 {
-            let founding = format!("version = 1\nmembers = 1\n{VOCABULARY}");
-            histories.push(History { founding, records });
+            histories.extend(played);
         }
     }
     println!("{count} schedules: {all:#?}");

@@ -1,17 +1,23 @@
-//! What was seen from outside: what callers asked and were told, what stands in the rows, and the longest history that any process had.
+//! What was seen from outside: what callers asked and were told, what stands in the rows, and the longest history that any process had of a generation.
 use fochillun::Member;
-use fochillund::row_member::{Refusal, Reply};
+use fochillund::message::is_seal;
+use fochillund::node::{NodeRefusal, Reply};
+use fochillund::row_member::Refusal;
 use rows::cell::{Cell, Identity};
+use rows::RowName;
 use serde::Deserialize;
 use serde_json::value::RawValue;
-use std::collections::HashMap;
+use std::collections::{BTreeMap, HashMap, HashSet};
 
-/// The clock, the member, and the place in its message of a command.
-pub type Stamp = (u64, u32, usize);
+/// The generation, the clock, the member, and the place in its message of a command.
+pub type Stamp = (u64, u64, u32, usize);
 
 /// A call, which may be asked more than once where it has an identity. Another call may have the same identity.
 pub struct Call {
-    pub member: u32,
+    pub generation: u64,
+    pub node: String,
+    /// The member that the node is in that generation.
+    pub member: Option<u32>,
     pub identity: Option<Identity>,
     pub text: Box<RawValue>,
     /// Its commands as the library writes them, or none where they are none.
@@ -20,6 +26,8 @@ pub struct Call {
     pub answered: Option<u64>,
     /// The stamp of its first command, once it stands in a row.
     pub stamp: Option<Stamp>,
+    /// Whether somebody was told that it was not taken, and never will be.
+    pub is_not_taken: bool,
 }
 
 /// A call that was asked of a process.
@@ -31,7 +39,8 @@ pub struct Asking {
 
 /// The calls of a cell that is set.
 pub struct SetCell {
-    pub member: u32,
+    pub generation: u64,
+    pub node: String,
     pub number: u64,
     pub calls: Vec<usize>,
     pub commands: usize,
@@ -70,11 +79,15 @@ pub struct Seen {
     pub calls: Vec<Call>,
     pub askings: Vec<Asking>,
     pub cells: Vec<SetCell>,
-    pub history: Vec<String>,
+    /// The history of each generation.
+    pub histories: BTreeMap<u64, Vec<String>>,
+    /// The nodes of generations 1, 2 and so on.
+    nodes: Vec<Vec<String>>,
     places: HashMap<Stamp, usize>,
-    /// The member and clock of each message that stands in a row.
-    stamps: HashMap<(u32, u64), usize>,
-    identities: HashMap<(u32, Identity), Vec<usize>>,
+    /// The generation, member and clock of each message that stands in a row.
+    stamps: HashMap<(u64, u32, u64), usize>,
+    sealed: HashSet<RowName>,
+    identities: HashMap<(u64, String, Identity), Vec<usize>>,
     by_last_command: HashMap<String, usize>,
     /// Whether members may refuse calls, since they have sent all that they may.
     pub may_be_full: bool,
@@ -88,17 +101,36 @@ impl Seen {
             calls: Vec::new(),
             askings: Vec::new(),
             cells: Vec::new(),
-            history: Vec::new(),
+            histories: BTreeMap::new(),
+            nodes: Vec::new(),
             places: HashMap::new(),
             stamps: HashMap::new(),
+            sealed: HashSet::new(),
             identities: HashMap::new(),
             by_last_command: HashMap::new(),
             may_be_full: false,
         }
     }
 
+    /// The next generation was founded or proposed, with these nodes.
+    pub fn found(&mut self, nodes: &[String]) {
+        self.nodes.push(nodes.to_vec());
+    }
+
+    fn member_of(&self, generation: u64, node: &str) -> Option<u32> {
+        let nodes = self.nodes.get(generation as usize - 1)?;
+        let at = nodes.iter().position(|named| named == node)?;
+        Some(at as u32 + 1)
+    }
+
     /// A call that somebody will ask; the one that is there, where it has the same identity and commands.
-    pub fn add_call(&mut self, member: u32, identity: Option<Identity>, text: String) -> usize {
+    pub fn add_call(
+        &mut self,
+        generation: u64,
+        node: &str,
+        identity: Option<Identity>,
+        text: String,
+    ) -> usize {
         let at = self.calls.len();
         let message = self.reader.next_submit_batch(0, 0, &text);
         let commands = message.ok().map(|message| {
@@ -108,7 +140,7 @@ impl Seen {
         });
         match (&identity, &commands) {
             (Some(identity), _) => {
-                let key = (member, identity.clone());
+                let key = (generation, node.to_owned(), identity.clone());
                 let there = self.identities.entry(key).or_default();
                 let same = |it: &&usize| self.calls[**it].commands == commands;
                 if let Some(same) = there.iter().find(same) {
@@ -123,13 +155,16 @@ impl Seen {
             (None, None) => {}
         }
         self.calls.push(Call {
-            member,
+            generation,
+            node: node.to_owned(),
+            member: self.member_of(generation, node),
             identity,
             text: RawValue::from_string(text).expect("JSON"),
             commands,
             first_asked: None,
             answered: None,
             stamp: None,
+            is_not_taken: false,
         });
         at
     }
@@ -146,30 +181,43 @@ impl Seen {
         self.askings.len() - 1
     }
 
-    /// The calls that have an identity, by member.
+    /// The calls that have an identity, by generation and node.
     pub fn identities(&self) -> impl Iterator<Item = &[usize]> {
         self.identities.values().map(Vec::as_slice)
     }
 
-    /// A cell was set, for good. What it carries was asked, and no call of it stands in a row already.
-    pub fn set(&mut self, text: &[u8]) {
+    /// A cell was set, for good. What it carries was asked, no call of it stands in a row already, and none of it was told to be in none.
+    pub fn set(&mut self, row: &RowName, text: &[u8]) {
         let cell: Cell = serde_json::from_slice(text).expect("a cell");
+        let (node, _) = row.as_str().split_once('/').expect("a node's row");
+        assert!(!self.sealed.contains(row), "a cell behind a seal");
+        if is_seal(cell.message.get()) {
+            self.sealed.insert(row.clone());
+        }
         let message = message_of(cell.message.get());
         let commands: Vec<&str> = message.commands.iter().map(|it| it.get()).collect();
         let (clock, member) = message.stamp;
         assert_eq!(member, cell.member, "a message of another member");
-        self.stamps.insert((member, clock), commands.len());
+        let generation = cell.generation;
+        assert_eq!(self.member_of(generation, node), Some(member));
+        self.stamps
+            .insert((generation, member, clock), commands.len());
         let (mut first, mut calls) = (0, Vec::new());
         for call in &cell.calls {
             let own = &commands[first..first + call.commands];
-            let at = self.asked(member, call.identity.as_ref(), own);
-            self.calls[at].stamp = Some((clock, member, first));
+            let at = self.asked(generation, node, call.identity.as_ref(), own);
+            assert!(!self.calls[at].is_not_taken, "told NotTaken, and taken");
+            self.calls[at].stamp = Some((generation, clock, member, first));
             calls.push(at);
             first += call.commands;
         }
-        assert_eq!(first, commands.len(), "commands that are of no call");
+        assert!(
+            first == commands.len() || first == 0 && cell.dump.is_some(),
+            "commands that are of no call"
+        );
         self.cells.push(SetCell {
-            member,
+            generation,
+            node: node.to_owned(),
             number: cell.number,
             calls,
             commands: commands.len(),
@@ -177,9 +225,18 @@ impl Seen {
     }
 
     /// Which call was set.
-    fn asked(&self, member: u32, identity: Option<&Identity>, commands: &[&str]) -> usize {
+    fn asked(
+        &self,
+        generation: u64,
+        node: &str,
+        identity: Option<&Identity>,
+        commands: &[&str],
+    ) -> usize {
         let same = match identity {
-            Some(identity) => self.identities[&(member, identity.clone())].clone(),
+            Some(identity) => {
+                let key = (generation, node.to_owned(), identity.clone());
+                self.identities[&key].clone()
+            }
             None => vec![self.by_last_command[*commands.last().expect("a command")]],
         };
         for at in &same {
@@ -192,37 +249,52 @@ impl Seen {
         same.into_iter().find(is_it).expect("commands of nobody")
     }
 
-    /// A process shows a record of its history: the one that stands there in every other history.
-    pub fn show(&mut self, at: usize, text: String) {
-        if let Some(there) = self.history.get(at) {
+    /// A process shows a record of its history: the one that stands there in every other history of that generation.
+    pub fn show(&mut self, generation: u64, at: usize, text: String) {
+        let history = self.histories.entry(generation).or_default();
+        if let Some(there) = history.get(at) {
             assert_eq!(
                 *there, text,
                 "two histories, of which none begins the other"
             );
             return;
         }
-        assert_eq!(at, self.history.len());
+        assert_eq!(at, history.len());
         let record = record_of(&text);
         let place = record.stamp.get(2).map_or(0, |place| *place as usize);
         let (clock, member) = (record.stamp[0], record.stamp[1] as u32);
-        let commands = self.stamps.get(&(member, clock));
+        let commands = self.stamps.get(&(generation, member, clock));
         let is_set = commands.is_some_and(|commands| place < *commands);
         assert!(is_set, "shown before its cell was set: {text}");
-        let before = self.places.insert((clock, member, place), at);
+        let stamp = (generation, clock, member, place);
+        let before = self.places.insert(stamp, at);
         assert_eq!(before, None, "delivered twice: {text}");
-        self.history.push(text);
+        history.push(text);
     }
 
     /// A caller is told.
     pub fn tell(&mut self, asking: usize, reply: Reply) {
         self.time += 1;
         let at = self.askings[asking].call;
+        let call = &mut self.calls[at];
         match &reply {
-            Ok(records) => self.check_answer(at, records),
-            Err(Refusal::Full) => assert!(self.may_be_full, "told Full"),
-            Err(Refusal::Commands(_)) => assert!(self.calls[at].commands.is_none()),
-            Err(Refusal::OtherCommands) => assert!(self.calls[at].identity.is_some()),
-            Err(Refusal::Busy) => panic!("told Busy"),
+            Ok(answered) => {
+                assert_eq!(answered.generation, call.generation);
+                self.check_answer(at, &answered.records);
+            }
+            Err(NodeRefusal::NotTaken { now }) => {
+                assert!(*now > call.generation, "NotTaken of what goes on");
+                assert_eq!(call.stamp, None, "told NotTaken, and taken");
+                call.is_not_taken = true;
+            }
+            Err(NodeRefusal::OldGeneration { now } | NodeRefusal::NoGeneration { now }) => {
+                assert_ne!(*now, call.generation);
+            }
+            Err(NodeRefusal::OtherMember { member }) => assert_ne!(*member, Some(0)),
+            Err(NodeRefusal::Call(Refusal::Full)) => assert!(self.may_be_full, "told Full"),
+            Err(NodeRefusal::Call(Refusal::Commands(_))) => assert!(call.commands.is_none()),
+            Err(NodeRefusal::Call(Refusal::OtherCommands)) => assert!(call.identity.is_some()),
+            Err(NodeRefusal::Call(refusal)) => panic!("told {refusal}"),
         }
         let there = self.askings[asking].reply.replace(reply);
         assert_eq!(there, None, "told twice");
@@ -232,8 +304,12 @@ impl Seen {
         let stamp = self.calls[at].stamp;
         let stamp = stamp.expect("answered, and stands in no row");
         let place = self.places[&stamp];
-        let there = &self.history[place..place + records.len()];
-        assert_eq!(there, records, "not its place's records");
+        let history = &self.histories[&stamp.0];
+        assert_eq!(
+            &history[place..place + records.len()],
+            records,
+            "not its place's records"
+        );
         let told: Vec<&str> = records
             .iter()
             .map(|it| record_of(it).command.get())
@@ -243,8 +319,9 @@ impl Seen {
         self.calls[at].answered.get_or_insert(self.time);
     }
 
-    /// Where a call's first command stands in the history.
-    pub fn place_of(&self, call: &Call) -> Option<usize> {
-        self.places.get(&call.stamp?).copied()
+    /// Where a call's first command stands: the generation, and the place in its history.
+    pub fn place_of(&self, call: &Call) -> Option<(u64, usize)> {
+        let stamp = call.stamp?;
+        Some((stamp.0, *self.places.get(&stamp)?))
     }
 }

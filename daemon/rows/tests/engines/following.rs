@@ -20,14 +20,14 @@ fn cells(writer: &str, mut chain: Chain, count: usize) -> Vec<Bytes> {
     while told.len() < count {
         let number = chain.next();
         let message = RawValue::from_string(format!(r#"{{"stamp":[{number},1]}}"#)).unwrap();
-        let calls = vec![Call {
+        let mut cell = chain.cell(writer, vec![number - 1], message);
+        cell.calls = vec![Call {
             commands: 2,
             identity: Some(Identity {
                 caller: "ann".to_owned(),
                 id: format!("call {number}"),
             }),
         }];
-        let cell = chain.cell(writer, vec![number - 1], calls, message);
         let text = serde_json::to_vec(&cell).unwrap();
         chain.take(&text).unwrap();
         told.push(text.into());

@@ -1,0 +1,208 @@
+//! The rows of the generation that goes on, and the founding's row, as they grow.
+use crate::generation::Generation;
+use crate::node::Node;
+use crate::row_member::check_ends;
+use crate::stop::Stop;
+use bytes::Bytes;
+use rows::cell::{Cell, Chain, Sent};
+use rows::{sure_get, Engine, Fault, Follower, RowName, SWEEP};
+use std::sync::Arc;
+use tokio::sync::mpsc;
+use tokio::task::JoinSet;
+
+/// What was read of rows.
+pub(super) enum Read {
+    /// The next cells of another member's row.
+    Cells {
+        generation: u64,
+        member: u32,
+        cells: Vec<Sent>,
+    },
+    /// A cell of the node's own row that another process has set.
+    Own {
+        generation: u64,
+        number: u64,
+        text: Bytes,
+    },
+    /// The next cells of the founding's row.
+    Foundings(Vec<Bytes>),
+    /// A row can be followed no further.
+    Stop(Stop),
+}
+
+/// The tasks that read rows.
+pub(super) struct Following {
+    engine: Arc<dyn Engine>,
+    /// Of which generation rows are read; 0 of none yet.
+    generation: u64,
+    tell: mpsc::Sender<Read>,
+    read: mpsc::Receiver<Read>,
+    rows: JoinSet<()>,
+    _foundings: JoinSet<()>,
+}
+
+impl Following {
+    /// Follows the founding's row behind so many cells.
+    pub(super) async fn of(engine: Arc<dyn Engine>, foundings: u64) -> Result<Following, Stop> {
+        let (tell, read) = mpsc::channel(super::ROOM);
+        let mut tasks = JoinSet::new();
+        tasks.spawn(follow_foundings(
+            Arc::clone(&engine),
+            foundings + 1,
+            tell.clone(),
+        ));
+        Ok(Following {
+            engine,
+            generation: 0,
+            tell,
+            read,
+            rows: JoinSet::new(),
+            _foundings: tasks,
+        })
+    }
+
+    pub(super) fn generation(&self) -> u64 {
+        self.generation
+    }
+
+    pub(super) async fn next(&mut self) -> Read {
+        let read = self.read.recv().await;
+        read.expect("this side may tell too, so it is never closed")
+    }
+
+    pub(super) fn try_next(&mut self) -> Option<Read> {
+        self.read.try_recv().ok()
+    }
+
+    /// Goes on to the generation of a node: reads its own row, and those of the others as far as they go, and follows them from there.
+    pub(super) async fn go_to<W>(&mut self, node: &mut Node<W>, writer: &str) -> Result<(), Stop> {
+        self.rows.abort_all();
+        let generation = node.generation().clone();
+        let own = match node.wants_own_row() {
+            Some(chain) => Some(self.read_own(chain).await?),
+            None => None,
+        };
+        let (mut followers, mut there) = (Vec::new(), vec![0; generation.nodes.len()]);
+        let mut read = Vec::new();
+        for member in node.followed() {
+            let chain = generation.chain(member);
+            let mut follower = Follower::of(Arc::clone(&self.engine), chain).await?;
+            read.push((member, follower.there().await?));
+            there[member as usize - 1] = follower.chain().next() - 1;
+            followers.push((member, follower));
+        }
+        if let Some((chain, cells)) = own {
+            check_ends(&cells, &there)?;
+            self.watch(&generation, chain.clone(), writer);
+            node.enter(chain, &cells)?;
+        }
+        for (member, cells) in read {
+            for cell in cells {
+                node.put_cell(member, cell)?;
+            }
+        }
+        for (member, follower) in followers {
+            let tell = self.tell.clone();
+            let number = generation.number;
+            self.rows.spawn(follow(number, member, follower, tell));
+        }
+        self.generation = generation.number;
+        Ok(())
+    }
+
+    async fn read_own(&self, mut chain: Chain) -> Result<(Chain, Vec<Cell>), Stop> {
+        let texts = sure_get(&*self.engine, chain.row(), 1).await?;
+        let cells = chain.take_all(&texts);
+        Ok((chain, cells.map_err(|lost| Stop::Lost(lost.to_string()))?))
+    }
+
+    fn watch(&mut self, generation: &Generation, chain: Chain, writer: &str) {
+        let engine = Arc::clone(&self.engine);
+        let (writer, tell) = (writer.to_owned(), self.tell.clone());
+        self.rows
+            .spawn(watch(engine, generation.number, chain, writer, tell));
+    }
+}
+
+/// Gives on each cell of another member's row.
+async fn follow(generation: u64, member: u32, mut follower: Follower, tell: mpsc::Sender<Read>) {
+    loop {
+        let read = match follower.next().await {
+            Ok(cells) => Read::Cells {
+                generation,
+                member,
+                cells,
+            },
+            Err(fault) => Read::Stop(fault.into()),
+        };
+        let is_last = matches!(read, Read::Stop(_));
+        if tell.send(read).await.is_err() || is_last {
+            return;
+        }
+    }
+}
+
+/// Gives on each cell of the founding's row, from this number on.
+async fn follow_foundings(engine: Arc<dyn Engine>, mut next: u64, tell: mpsc::Sender<Read>) {
+    let row = RowName::founding();
+    let mut tidings = None;
+    loop {
+        let read = match sure_get(&*engine, &row, next).await {
+            Ok(texts) => texts,
+            Err(fault) => {
+                let _ = tell.send(Read::Stop(fault.into())).await;
+                return;
+            }
+        };
+        next += read.len() as u64;
+        if !read.is_empty() && tell.send(Read::Foundings(read)).await.is_err() {
+            return;
+        }
+        if tidings.is_none() {
+            tidings = engine.follow(&row).await.ok();
+        }
+        match &mut tidings {
+            Some(tidings) => tidings.wait(SWEEP).await,
+            None => tokio::time::sleep(SWEEP).await,
+        }
+    }
+}
+
+/// Looks from time to time whether the node's own row has a cell that another process set: a process that is asked nothing meets no cell that is
+/// taken, and would show for good what was so once. The first such cell is told again and again, until it was heard.
+async fn watch(
+    engine: Arc<dyn Engine>,
+    generation: u64,
+    chain: Chain,
+    writer: String,
+    tell: mpsc::Sender<Read>,
+) {
+    let is_own = |text: &Bytes| {
+        let cell: Option<Cell> = serde_json::from_slice(text).ok();
+        cell.is_some_and(|cell| cell.writer == writer)
+    };
+    let (row, mut next) = (chain.row(), chain.next());
+    loop {
+        tokio::time::sleep(SWEEP).await;
+        let read = match engine.get(row, next).await {
+            Ok(texts) => {
+                let own = texts.iter().take_while(|text| is_own(text)).count();
+                next += own as u64;
+                let Some(text) = texts.into_iter().nth(own) else {
+                    continue;
+                };
+                Read::Own {
+                    generation,
+                    number: next,
+                    text,
+                }
+            }
+            Err(Fault::Silent(_)) => continue,
+            Err(fault) => Read::Stop(Stop::Engine(fault)),
+        };
+        let is_last = matches!(read, Read::Stop(_));
+        if tell.send(read).await.is_err() || is_last {
+            return;
+        }
+    }
+}

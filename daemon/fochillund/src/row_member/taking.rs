@@ -1,0 +1,274 @@
+//! What a process knows of the rows of a generation: its member by the library, and what was read of the others' rows and is not taken yet.
+use super::fault::{fault_of, MemberFault};
+use super::inbox::{Inbox, Wanted};
+use super::opening::{Opening, Part};
+use crate::message::{is_seal, own_clock};
+use fochillun::{Member, MemberError, Waiting};
+use rows::cell::{DumpPart, Sent};
+use serde::Deserialize;
+use serde_json::value::RawValue;
+
+/// The member, and what was read for it.
+#[derive(Debug)]
+pub(crate) struct Taking {
+    pub(super) member: Member,
+    pub(super) number: u32,
+    pub(super) inboxes: Vec<Inbox>,
+    pub(super) opening: Opening,
+    /// Whether the member's own row has ended, and was taken to its seal.
+    pub(super) is_sealed: bool,
+    /// Whether a message wanted one of the member's own that can't be sent.
+    pub(super) is_full: bool,
+    /// How many records the history has.
+    pub(crate) records: u64,
+    /// How many messages of the member's own row were taken.
+    own: u32,
+    /// The clock of the last of these; 0 before the first.
+    sent_clock: u64,
+    /// How many messages the member has taken, its own too.
+    steps: u64,
+}
+
+/// What a message wants before it is taken.
+#[derive(Clone, Copy, Debug, PartialEq, Eq)]
+pub(super) enum Asked {
+    Nothing,
+    /// A message of the member's own row with a greater stamp.
+    Answer,
+}
+
+/// A line of a dump.
+#[derive(Deserialize)]
+struct DumpLine<'t> {
+    #[serde(borrow)]
+    command: &'t RawValue,
+}
+
+impl Taking {
+    pub(super) fn of(member: Member, number: u32, members: u32, opening: Opening) -> Taking {
+        Taking {
+            member,
+            number,
+            inboxes: (0..members).map(|_| Inbox::default()).collect(),
+            opening,
+            is_sealed: false,
+            is_full: false,
+            records: 0,
+            own: 0,
+            sent_clock: 0,
+            steps: 0,
+        }
+    }
+
+    pub(super) fn others(&self) -> impl Iterator<Item = u32> {
+        let own = self.number;
+        (1..=self.inboxes.len() as u32).filter(move |member| *member != own)
+    }
+
+    /// A message of the member's own stands in its row: takes it.
+    pub(super) fn take_own(
+        &mut self,
+        number: u32,
+        message: &str,
+        dump: Option<DumpPart>,
+    ) -> Result<(), MemberFault> {
+        let taken = self.member.take_own(number, message);
+        taken.map_err(|why| fault_of(self.number, number.into(), why))?;
+        self.has_own(number, message, dump)
+    }
+
+    /// The member has taken this message of its own row.
+    pub(super) fn has_own(
+        &mut self,
+        number: u32,
+        message: &str,
+        dump: Option<DumpPart>,
+    ) -> Result<(), MemberFault> {
+        if self.is_sealed {
+            let (member, number) = (self.number, number.into());
+            return Err(MemberFault::BehindASeal { member, number });
+        }
+        if self.number == 1 {
+            let part = self.opening.read(message, dump);
+            let part = part.ok_or(MemberFault::OtherDump(number.into()))?;
+            self.opening.take(part);
+        }
+        (self.own, self.sent_clock) = (number, own_clock(message));
+        self.is_sealed = is_seal(message);
+        self.steps += 1;
+        Ok(())
+    }
+
+    /// The next message of another member was read of its row.
+    pub(super) fn put(&mut self, member: u32, sent: Sent) -> Result<(), MemberFault> {
+        let number = sent.number;
+        let inbox = &mut self.inboxes[member as usize - 1];
+        if inbox.is_sealed {
+            return Err(MemberFault::BehindASeal { member, number });
+        }
+        let part = match member {
+            1 => self.opening.read(sent.message.get(), sent.dump),
+            _ => Some(Part::Other),
+        };
+        inbox.put(sent, part.ok_or(MemberFault::OtherDump(number))?);
+        Ok(())
+    }
+
+    /// Takes what was read as far as that needs no message of the member's own.
+    pub(super) fn take_ready(&mut self) -> Result<(), MemberFault> {
+        loop {
+            let before = self.steps;
+            for member in self.others() {
+                while self.first_wants(member)? == Some(Asked::Nothing)
+                    && self.take_first(member)?
+                {}
+            }
+            // Once a message of one member was taken, that of another may want something else.
+            if self.steps == before {
+                return Ok(());
+            }
+        }
+    }
+
+    /// What the first message that was read of a member wants; none where there is none. Nothing is wanted where the member itself has sent
+    /// something later; of each other message the library says it, and says it anew once the member took another one: a message that wanted an
+    /// acknowledgement may want none any more. Another's seal is taken behind the own one alone: the member would acknowledge above it, and could not
+    /// end its own row then.
+    fn first_wants(&mut self, member: u32) -> Result<Option<Asked>, MemberFault> {
+        let inbox = &self.inboxes[member as usize - 1];
+        let Some(message) = inbox.first() else {
+            return Ok(None);
+        };
+        if message.is_seal() && !self.is_sealed {
+            return Ok(Some(Asked::Answer));
+        }
+        if (message.clock, member) < (self.sent_clock, self.number) {
+            return Ok(Some(Asked::Nothing));
+        }
+        match &inbox.wanted {
+            Some(wanted) if wanted.asked_at == self.steps => Ok(Some(Asked::Answer)),
+            _ => self.ask_first(member).map(Some),
+        }
+    }
+
+    /// Asks what the first message of a member wants to be answered before it is taken, and keeps it.
+    fn ask_first(&mut self, member: u32) -> Result<Asked, MemberFault> {
+        let inbox = &mut self.inboxes[member as usize - 1];
+        inbox.wanted = None;
+        let message = inbox.first().expect("a message was read");
+        let (number, text) = (message.number, message.text.get());
+        let answer = match self.member.next_answer(member, number, text) {
+            Ok(answer) => answer,
+            Err(MemberError::SentFull | MemberError::ClockFull) => {
+                self.is_full = true;
+                return Ok(Asked::Answer);
+            }
+            Err(why) => return Err(fault_of(member, number.into(), why)),
+        };
+        let asked_at = self.steps;
+        inbox.wanted = answer.map(|answer| Wanted { answer, asked_at });
+        match inbox.wanted {
+            Some(_) => Ok(Asked::Answer),
+            None => Ok(Asked::Nothing),
+        }
+    }
+
+    /// Takes the first message of a member, which sends nothing, and tells whether it did: not where no more can be sent.
+    fn take_first(&mut self, member: u32) -> Result<bool, MemberFault> {
+        let inbox = &mut self.inboxes[member as usize - 1];
+        let message = inbox.first().expect("a message was read");
+        let (number, text) = (message.number, message.text.get());
+        match self.member.receive(member, number, text) {
+            Ok(sent) => assert_eq!(sent, None, "a message was sent that is in no cell"),
+            Err(MemberError::SentFull | MemberError::ClockFull) => {
+                self.is_full = true;
+                return Ok(false);
+            }
+            Err(why) => return Err(fault_of(member, number.into(), why)),
+        }
+        let part = inbox.take_first().part;
+        self.opening.take(part);
+        self.steps += 1;
+        Ok(true)
+    }
+
+    /// The acknowledgement that lets most of what was read be taken, where one is wanted. What each message wants was asked by the turn before.
+    pub(super) fn acknowledgement(&self) -> Option<String> {
+        let wanted = self.inboxes.iter().filter_map(|it| it.wanted.as_ref());
+        let latest = wanted.max_by_key(|wanted| own_clock(&wanted.answer));
+        latest.map(|wanted| wanted.answer.clone())
+    }
+
+    /// Delivers what is due, one command. Gives which.
+    pub(super) fn deliver_next(&mut self) -> Result<Option<Waiting>, MemberFault> {
+        let held = self.member.waits();
+        let delivered = self.member.deliver().map_err(|_| MemberFault::NoMemory)?;
+        let Some(record) = delivered else {
+            return Ok(None);
+        };
+        self.records = record;
+        Ok(Some(held.expect("what is delivered was held")))
+    }
+
+    /// Of whom a message is missing, without which the next command can't be delivered.
+    pub(crate) fn awaited(&mut self) -> Vec<u32> {
+        let awaited = self.member.waits().map_or(0, |held| held.awaited);
+        let is_awaited = |member: &u32| awaited >> (member - 1) & 1 == 1;
+        (1..=self.inboxes.len() as u32).filter(is_awaited).collect()
+    }
+
+    /// How many messages of each member were taken, its own too.
+    pub(super) fn taken(&mut self) -> Vec<u64> {
+        let own = u64::from(self.own);
+        let numbers = 1..=self.inboxes.len() as u32;
+        numbers
+            .map(|member| match member == self.number {
+                true => own,
+                false => self.member.read(member),
+            })
+            .collect()
+    }
+
+    /// The records of these numbers, from 1 on, which the history has.
+    pub(crate) fn records(&mut self, numbers: std::ops::Range<u64>) -> Vec<String> {
+        let record = |number| self.member.record(number as usize);
+        let records = numbers.map(record).collect::<Result<_, _>>();
+        records.expect("a record of the history can be told")
+    }
+
+    /// Whether the generation ended before anybody may have sent a command in it.
+    pub(super) fn is_void(&self) -> bool {
+        let is_first_sealed = match self.number {
+            1 => self.is_sealed,
+            _ => self.inboxes[0].is_sealed,
+        };
+        is_first_sealed && self.opening.is_void_behind_a_seal()
+    }
+
+    /// Whether all rows have ended, and all that stands in them was taken and delivered.
+    pub(super) fn is_over(&mut self) -> bool {
+        let is_taken = |member: u32| self.inboxes[member as usize - 1].is_taken_to_its_end();
+        self.is_sealed && self.others().all(is_taken) && self.member.waits().is_none()
+    }
+
+    /// The rows of others that have not ended, as far as they were read.
+    pub(super) fn not_sealed(&self) -> impl Iterator<Item = u32> + '_ {
+        let is_sealed = |member: u32| self.inboxes[member as usize - 1].is_sealed;
+        self.others().filter(move |member| !is_sealed(*member))
+    }
+
+    /// Whether what was delivered has all of the dump, so that the policy is one that the group had.
+    pub(crate) fn is_shown(&self) -> bool {
+        self.opening.is_open && self.records >= self.opening.total as u64
+    }
+
+    /// The commands that make the policy of the history.
+    pub(crate) fn dump(&mut self) -> Result<Vec<String>, MemberFault> {
+        let dump = self.member.dump().map_err(|_| MemberFault::NoMemory)?;
+        let command = |line: &str| {
+            let line: DumpLine<'_> = serde_json::from_str(line).expect("a client line");
+            line.command.get().to_owned()
+        };
+        Ok(dump.lines().map(command).collect())
+    }
+}
