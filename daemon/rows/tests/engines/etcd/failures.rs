@@ -121,6 +121,10 @@ impl Engine for Patient {
         }
     }
 
+    async fn trim(&self, row: &RowName, last: u64) -> Result<(), Fault> {
+        self.0.trim(row, last).await
+    }
+
     async fn follow(&self, row: &RowName) -> Result<Box<dyn Tidings>, Fault> {
         self.0.follow(row).await
     }
