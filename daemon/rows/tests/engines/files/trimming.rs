@@ -5,7 +5,7 @@ use crate::doubles::{Call, ForgetfulDisk, Wrong};
 use bytes::Bytes;
 use rand::rngs::StdRng;
 use rand::{Rng, SeedableRng};
-use rows::{Engine, Fault, Files, Told};
+use rows::{sure_set, Engine, Fault, Files, Told};
 use std::os::unix::fs::MetadataExt;
 use std::sync::Arc;
 
@@ -84,25 +84,33 @@ async fn a_process_that_was_paused_before_it_wrote_is_told_that_the_cell_is_take
     }
 }
 
-/// What a set of these cells is told whose process was paused when it had written them, while others set one behind them and trimmed the row.
-async fn told_behind(told: &[&str], last: u64) -> (Result<Told, Fault>, Vec<Bytes>) {
+/// A process that is paused when it has written these cells, while others set one behind them and trim the row.
+fn paused_behind(cells: u64, last: u64) -> Files {
     let disk = ForgetfulDisk::new();
     let (paused, other) = (over(&disk), over(&disk));
-    let next = told.len() as u64 + 1;
     disk.before(Call::Sync, 0, async move {
-        assert_eq!(set(&other, next, &["end"]).await, Ok(Told::Set));
+        assert_eq!(set(&other, cells + 1, &["end"]).await, Ok(Told::Set));
         assert_eq!(other.trim(&row(), last).await, Ok(()));
     });
-    let became = set(&paused, 1, told).await;
-    (became, paused.get(&row(), last).await.unwrap())
+    paused
 }
 
 #[tokio::test]
 async fn a_process_that_was_paused_when_it_had_written_is_told_no_more_than_is_known() {
-    let (became, left) = told_behind(&["1", "2"], 3).await;
-    assert_eq!((became, left), (Ok(Told::Unsure), texts(&["end"])));
-    let (became, left) = told_behind(&["1", "2"], 2).await;
-    assert_eq!((became, left), (Ok(Told::Set), texts(&["2", "end"])));
+    let paused = paused_behind(2, 3);
+    assert_eq!(set(&paused, 1, &["1", "2"]).await, Ok(Told::Unsure));
+    assert_eq!(paused.get(&row(), 3).await, Ok(texts(&["end"])));
+    // The second of its cells is left.
+    let paused = paused_behind(2, 2);
+    assert_eq!(set(&paused, 1, &["1", "2"]).await, Ok(Told::Set));
+    assert_eq!(paused.get(&row(), 2).await, Ok(texts(&["2", "end"])));
+}
+
+#[tokio::test(start_paused = true)]
+async fn what_became_of_cells_that_are_removed_is_not_known() {
+    let paused = paused_behind(2, 3);
+    let told = sure_set(&paused, &row(), 1, &texts(&["1", "2"])).await;
+    assert_eq!(told, Err(Fault::Trimmed(3)));
 }
 
 /// What a reader that has read the row before, or not, is told from a number on, where the row is trimmed before so many reads of the disk.
