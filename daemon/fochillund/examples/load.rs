@@ -3,8 +3,8 @@
 //!     cargo run --release --example load -- FOLDER [SECONDS]
 //!
 //! Prints a line for one caller and one for 64: calls a second; how long half of the calls took at most, and 99 of 100, in milliseconds; the first of
-//! these in bare sets; messages a call; and the processor time of the three members a call, in microseconds. Then what an idle member takes, and how
-//! long a member is made anew that has 60,000 cells.
+//! these in bare sets; messages a call; and the processor time a call, in microseconds, of the three members, and of the callers themselves, which share
+//! one thread. Then what an idle member takes, and how long a member is made anew that has 60,000 cells.
 use bytes::Bytes;
 use fochillund::ask::Members;
 use fochillund::group::{node, socket};
@@ -147,6 +147,7 @@ async fn caller(folder: PathBuf, caller: u32, lasts: Duration) -> Vec<Duration> 
 
 async fn load(group: &Group, callers: u32, lasts: Duration, set: f64) {
     let (spent, sent) = (group.processor_time(), group.sent().await);
+    let own = processor_time(std::process::id());
     let calling = (0..callers).map(|it| tokio::spawn(caller(group.folder.clone(), it, lasts)));
     let calling: Vec<_> = calling.collect();
     let mut times = Vec::new();
@@ -154,15 +155,17 @@ async fn load(group: &Group, callers: u32, lasts: Duration, set: f64) {
         times.extend(calls.await.expect("it ends"));
     }
     let (spent, sent) = (group.processor_time() - spent, group.sent().await - sent);
+    let own = processor_time(std::process::id()) - own;
     let calls = times.len() as f64;
     let (half, most) = spread(times);
     println!(
-        "{callers} callers: {:.0} calls/s, p50 {half:.2} ms = {:.1} sets + {:.2} ms, p99 {most:.2} ms, {:.2} messages a call, {:.0} us a call",
+        "{callers} callers: {:.0} calls/s, p50 {half:.2} ms = {:.1} sets + {:.2} ms, p99 {most:.2} ms, {:.2} messages a call, {:.0} us a call, {:.0} of the callers",
         calls / lasts.as_secs_f64(),
         half / set,
         half - half.min(set * (half / set).floor()),
         sent as f64 / calls,
-        spent / calls * 1e6
+        spent / calls * 1e6,
+        own / calls * 1e6
     );
 }
 

@@ -217,7 +217,7 @@ impl Heard {
 
 fn condition_of(fault: &Fault) -> Condition {
     match fault {
-        Fault::BadText | Fault::TooMuch(_) => Condition::Answers,
+        Fault::BadText | Fault::TooMuch(_) | Fault::Trimmed(_) => Condition::Answers,
         Fault::Silent(_) => Condition::Silent,
         Fault::Full => Condition::Full,
         Fault::Refused(_) | Fault::Broken(_) => Condition::Refuses,
@@ -234,6 +234,10 @@ impl Engine for Heard {
     async fn get(&self, row: &RowName, first: u64) -> Result<Vec<Bytes>, Fault> {
         let told = self.engine.get(row, first).await;
         self.hear(Kind::Get, told, |_| true)
+    }
+
+    async fn trim(&self, row: &RowName, last: u64) -> Result<(), Fault> {
+        self.engine.trim(row, last).await
     }
 
     async fn follow(&self, row: &RowName) -> Result<Box<dyn Tidings>, Fault> {
@@ -288,6 +292,10 @@ mod tests {
 
         async fn get(&self, _: &RowName, _: u64) -> Result<Vec<Bytes>, Fault> {
             Ok(Vec::new())
+        }
+
+        async fn trim(&self, _: &RowName, _: u64) -> Result<(), Fault> {
+            Ok(())
         }
 
         async fn follow(&self, row: &RowName) -> Result<Box<dyn Tidings>, Fault> {

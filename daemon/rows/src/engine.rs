@@ -18,7 +18,7 @@ pub enum Told {
     Unsure,
 }
 
-/// Why an engine did not do what was asked. But for `Broken` it may later.
+/// Why an engine did not do what was asked. But for `Trimmed` and `Broken` it may later.
 #[derive(Clone, Debug, PartialEq, Eq, Error)]
 pub enum Fault {
     /// A text is none that a cell can hold: it has a byte that ends a line, or a tab. Nothing is set.
@@ -37,6 +37,9 @@ pub enum Fault {
     /// The engine does not answer.
     #[error("the engine is silent: {0}")]
     Silent(String),
+    /// The cells before this number, of which one was asked for, are removed: whoever follows the row is too late.
+    #[error("the cells before number {0} are removed")]
+    Trimmed(u64),
     /// What the engine told can be relied on no more. The process ends, and nothing that it holds is written again.
     #[error("the engine is broken: {0}")]
     Broken(String),
@@ -55,8 +58,17 @@ pub trait Engine: Send + Sync {
     /// The texts from number `first` on, in order: of each cell whose set was told before this call, and of none that can still be lost.
     ///
     /// # Errors
-    /// Where it can't be told.
+    /// `Trimmed`, where the cell of number `first` is removed: it tells which one is the first that is left. Else where it can't be told.
     async fn get(&self, row: &RowName, first: u64) -> Result<Vec<Bytes>, Fault>;
+
+    /// Removes the cells before number `last`, which is set: what is left of a row that has ended is its end. That cell and those behind it
+    /// stay, and none of the removed ones can be set again, whatever a process remembers of the row: a set whose first number is `last` or
+    /// lower is told `Taken`. It may be asked again, and by several processes at once. A process that ends amid it leaves the row whole, or
+    /// without some of the first cells.
+    ///
+    /// # Errors
+    /// `Broken`, where cell `last` is not there, though whoever asks has read it. Where it is `Silent`, cells may be removed.
+    async fn trim(&self, row: &RowName, last: u64) -> Result<(), Fault>;
 
     /// Tidings of a row.
     ///

@@ -1,12 +1,13 @@
 //! Rows in etcd, for the processes of several machines: version 3.4 or later, asked by its gateway of JSON over HTTP.
 //!
-//! A cell is a key. Cells are set by one transaction, which asks that none of them is there, and that the one before them is. etcd answers it
-//! once a majority of the cluster's members have synced it.
+//! A cell is a key. Cells are set by one transaction, which asks that none of them or behind them is there, and that the one before them is.
+//! etcd answers it once a majority of the cluster's members have synced it.
 mod failure;
 mod gateway;
 mod keys;
 mod messages;
 mod options;
+mod trim;
 mod watch;
 
 pub use hyper::Uri;
@@ -69,30 +70,36 @@ impl Etcd {
             keys_only: true,
             serializable: true,
         };
-        match self.gateway.read::<Ranged>(RANGE, &range).await {
+        match self.gateway.ask_again::<Ranged>(RANGE, &range).await {
             Err(Failure::Denied(why)) => Err(Fault::Refused(why)),
             // A cluster without a leader may have one later.
             _ => Ok(()),
         }
     }
 
-    /// Sets all of the cells where none is there and the one before them is; and counts, where that is not so, the first one and the one
-    /// before.
+    /// Sets all of the cells where none from the first on is there, since a trimmed row has its last one alone, and the one before them is.
+    /// Where that is not so it counts the first one, all from it on, and all before it.
     fn transaction_of(&self, row: &RowName, first: u64, end: u64, texts: &[Bytes]) -> Transaction {
         let key = |number| Bytes::from(self.keys.cell(row, number));
-        let count = |number| {
+        let end_of_row = Bytes::from(self.keys.end(row));
+        let count = |key, range_end| {
             Operation::Range(Range {
-                key: key(number),
+                key,
+                range_end,
+                limit: 1,
                 keys_only: true,
                 ..Range::default()
             })
         };
-        let mut compare = vec![Compare::none(key(first), key(end))];
-        let mut failure = vec![count(first)];
+        let mut compare = vec![Compare::none(key(first), end_of_row.clone())];
         if first > 1 {
             compare.push(Compare::there(key(first - 1)));
-            failure.push(count(first - 1));
         }
+        let failure = vec![
+            count(key(first), Bytes::new()),
+            count(key(first), end_of_row),
+            count(key(0), key(first)),
+        ];
         let put = |(number, text): (u64, &Bytes)| Operation::Put {
             key: key(number),
             value: text.clone(),
@@ -113,8 +120,10 @@ impl Etcd {
         let counted = counted.map(|range| range.as_ref().map(|range| range.count));
         match counted.collect::<Vec<_>>()[..] {
             [Some(1), ..] => Ok(Told::Taken),
-            [Some(0), Some(0)] => Ok(Told::Gap),
-            [Some(0)] | [Some(0), Some(1)] => Err(Fault::Broken(
+            [Some(0), Some(0), Some(_)] => Ok(Told::Gap),
+            // It is removed, with all before it.
+            [Some(0), Some(_), Some(0)] => Ok(Told::Taken),
+            [Some(0), Some(_), Some(_)] => Err(Fault::Broken(
                 "a cell is not there, and one behind it is".to_owned(),
             )),
             _ => {
@@ -158,14 +167,14 @@ impl Etcd {
             limit: PAGE,
             ..Range::default()
         };
-        let told: Result<Ranged, Failure> = self.gateway.read(RANGE, &range).await;
+        let told: Result<Ranged, Failure> = self.gateway.ask_again(RANGE, &range).await;
         let told = told.map_err(Failure::fault)?;
         self.take_header(told.header, known)?;
-        let follow = |(number, found): (u64, &Found)| found.key == self.keys.cell(row, number);
-        if (first..=u64::MAX).zip(&told.kvs).all(follow) {
-            Ok(told)
-        } else {
-            Err(Fault::Broken(format!("a cell of {row} is not there")))
+        let follows = |(number, found): (u64, &Found)| found.key == self.keys.cell(row, number);
+        let mut cells = (first..=u64::MAX).zip(&told.kvs);
+        match cells.find(|cell| !follows(*cell)) {
+            None => Ok(told),
+            Some((_, found)) => Err(self.why_gone(row, found).await),
         }
     }
 
@@ -232,6 +241,10 @@ impl Engine for Etcd {
                 return Ok(texts);
             }
         }
+    }
+
+    async fn trim(&self, row: &RowName, last: u64) -> Result<(), Fault> {
+        self.remove_before(row, last).await
     }
 
     async fn follow(&self, row: &RowName) -> Result<Box<dyn Tidings>, Fault> {

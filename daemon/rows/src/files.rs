@@ -2,6 +2,7 @@
 //!
 //! A cell is set by one append and one sync. Nobody is shown what was not synced, a folder's new entry included. Whoever meets a sync that
 //! failed ends. A row is never kept on a file system of a network.
+mod cells;
 mod disk;
 mod log;
 mod record;
@@ -84,6 +85,10 @@ impl Engine for Files {
             return told;
         }
         self.ask(row, move |log| log.get(first)).await
+    }
+
+    async fn trim(&self, row: &RowName, last: u64) -> Result<(), Fault> {
+        self.ask(row, move |log| log.trim(last)).await
     }
 
     async fn follow(&self, row: &RowName) -> Result<Box<dyn Tidings>, Fault> {

@@ -25,6 +25,8 @@ pub struct Follower {
     engine: Arc<dyn Engine>,
     chain: Chain,
     tidings: Box<dyn Tidings>,
+    /// Whether all was read of which there were tidings.
+    is_read: bool,
 }
 
 impl Follower {
@@ -38,6 +40,7 @@ impl Follower {
             engine,
             chain,
             tidings,
+            is_read: false,
         })
     }
 
@@ -63,11 +66,16 @@ impl Follower {
     /// As of `there`.
     pub async fn next(&mut self) -> Result<Vec<Sent>, FollowFault> {
         loop {
+            // What was set since it was last read was told, or is found by the sweep: nothing is asked for that is hardly there.
+            if self.is_read {
+                self.tidings.wait(SWEEP).await;
+                self.is_read = false;
+            }
             let cells = self.there().await?;
+            self.is_read = true;
             if !cells.is_empty() {
                 return Ok(cells);
             }
-            self.tidings.wait(SWEEP).await;
         }
     }
 }

@@ -7,7 +7,7 @@
 //! [`Engine`] is what is asked of an engine, [`Files`] the engine that needs no server, and [`Etcd`] one for the processes of several machines.
 //! Once for all engines: [`sure_set`] finds out what became of a set whose reply was lost; [`cell`] says what stands in a cell of a member's
 //! row, where each names the hash of the one before; and a [`Follower`] gives each cell of a row once, in order, and stops where one is not
-//! what it has to be.
+//! what it has to be. A row that has ended is trimmed, down to the cell that ended it, which keeps it from beginning anew.
 pub mod cell;
 mod engine;
 pub mod etcd;
@@ -25,5 +25,5 @@ pub use files::Files;
 pub use follow::{FollowFault, Follower, SWEEP};
 pub use name::{BadName, RowName};
 pub use postgres::Postgres;
-pub use sure::{sure_get, sure_set};
+pub use sure::{sure_get, sure_set, sure_trim};
 pub use text::{MOST_BYTES, MOST_CELLS};

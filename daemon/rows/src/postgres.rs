@@ -60,6 +60,7 @@ impl Options {
 
 /// Rows in a table of a PostgreSQL server, 15 or later.
 pub struct Postgres {
+    target: Arc<Target>,
     sets: Line,
     gets: Line,
     listener: Listener,
@@ -77,7 +78,8 @@ impl Postgres {
         Ok(Postgres {
             sets: Line::of(Arc::clone(&target)),
             gets: Line::of(Arc::clone(&target)),
-            listener: Listener::start(target).await?,
+            listener: Listener::start(Arc::clone(&target)).await?,
+            target,
         })
     }
 }
@@ -102,6 +104,12 @@ impl Engine for Postgres {
         let texts = held.session.get(row, first).await?;
         held.keep();
         Ok(texts)
+    }
+
+    /// By a connection of its own, which ends with it.
+    async fn trim(&self, row: &RowName, last: u64) -> Result<(), Fault> {
+        let session = self.target.connect().await?;
+        session.trim(&self.target.table, row, last).await
     }
 
     async fn follow(&self, row: &RowName) -> Result<Box<dyn Tidings>, Fault> {

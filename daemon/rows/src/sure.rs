@@ -12,7 +12,8 @@ const LONGEST_PAUSE: Duration = Duration::from_millis(500);
 /// numbers by who calls this. It ends only when it is sure; a caller that waits no longer has to end the process.
 ///
 /// # Errors
-/// `BadText`, `TooMuch`, `Full` and `Refused`, where nothing is set, and `Broken`. A silent engine is asked again.
+/// `BadText`, `TooMuch`, `Full` and `Refused`, where nothing is set, and `Broken`. `Trimmed`, where the row has ended and is trimmed since the
+/// first try: whether that was carried out is known no more. A silent engine is asked again.
 pub async fn sure_set(
     engine: &dyn Engine,
     row: &RowName,
@@ -34,6 +35,21 @@ pub async fn sure_set(
             told => return told,
         }
         tokio::time::sleep(pause).await;
+        pause = LONGEST_PAUSE.min(pause * 2);
+    }
+}
+
+/// Removes the cells before number `last`: returns once the engine answers.
+///
+/// # Errors
+/// As of `trim`, but that a silent engine is asked again.
+pub async fn sure_trim(engine: &dyn Engine, row: &RowName, last: u64) -> Result<(), Fault> {
+    let mut pause = FIRST_PAUSE;
+    loop {
+        match engine.trim(row, last).await {
+            Err(Fault::Silent(_)) => tokio::time::sleep(pause).await,
+            told => return told,
+        }
         pause = LONGEST_PAUSE.min(pause * 2);
     }
 }

@@ -84,8 +84,8 @@ impl Gateway {
         known.ok_or(silent)
     }
 
-    /// Asks what changes nothing, of one member after the other until one answers.
-    pub(super) async fn read<T: DeserializeOwned>(
+    /// Asks what may be carried out twice, of one member after the other until one answers.
+    pub(super) async fn ask_again<T: DeserializeOwned>(
         &self,
         path: &str,
         request: &impl Serialize,

@@ -33,6 +33,12 @@ impl Keys {
         format!("{}/{row}/{number:020}", self.prefix).into_bytes()
     }
 
+    /// The number of a cell of the row, by its key.
+    pub(super) fn number(&self, row: &RowName, key: &[u8]) -> Option<u64> {
+        let number = key.strip_prefix(format!("{}/{row}/", self.prefix).as_bytes())?;
+        std::str::from_utf8(number).ok()?.parse().ok()
+    }
+
     /// What lies behind the row's cells, and before all else that does: the byte behind the digits.
     pub(super) fn end(&self, row: &RowName) -> Vec<u8> {
         format!("{}/{row}/:", self.prefix).into_bytes()
@@ -50,6 +56,7 @@ mod tests {
         let row = RowName::of_node("n1", 1).unwrap();
         let told = keys.cell(&row, 7);
         assert_eq!(told, b"/groups/ward/n1/g1/00000000000000000007");
+        assert_eq!(keys.number(&row, &told), Some(7));
         let numbers = [0, 1, 9, 10, 65_536, u64::MAX];
         let mut all: Vec<Vec<u8>> = numbers.map(|number| keys.cell(&row, number)).to_vec();
         all.push(keys.end(&row));

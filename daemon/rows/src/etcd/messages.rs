@@ -130,6 +130,13 @@ pub(super) enum Operation {
     },
     #[serde(rename = "request_range")]
     Range(Range),
+    #[serde(rename = "request_delete_range")]
+    Delete {
+        #[serde(with = "base")]
+        key: Bytes,
+        #[serde(with = "base")]
+        range_end: Bytes,
+    },
 }
 
 #[derive(Debug, Deserialize)]

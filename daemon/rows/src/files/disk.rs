@@ -1,8 +1,12 @@
 //! What the engine asks of a disk: the machine's own, or one that a test has made.
+use nix::errno::Errno;
+use nix::fcntl::{fallocate, FallocateFlags};
 use nix::sys::statfs::{statfs, NFS_SUPER_MAGIC};
 use std::fs::{self, File, OpenOptions};
-use std::io::{self, ErrorKind};
+use std::io::{self, ErrorKind, Seek, Write};
+use std::ops::Range;
 use std::os::unix::fs::FileExt;
+use std::os::unix::io::AsRawFd;
 use std::path::{Path, PathBuf};
 
 /// A disk. All that is opened at one path is one file.
@@ -14,13 +18,21 @@ pub trait Disk: Send + Sync {
     fn open(&self, path: &Path) -> io::Result<Box<dyn RowFile>>;
 }
 
-/// A file that only grows, and beside it a mark, which tells how much of it can't be lost.
+/// A file that only grows, and of which the beginning may be wiped out; and beside it a mark, which tells how much of it can't be lost.
 pub trait RowFile: Send {
-    /// Writes at the end, by one write, where no other writer's bytes come between. Tells how many bytes were written.
+    /// Writes at the end, by one write, where no other writer's bytes come between. Tells which bytes of the file are those that were written:
+    /// all, or the first of them.
     ///
     /// # Errors
     /// Where none was.
-    fn append(&mut self, bytes: &[u8]) -> io::Result<usize>;
+    fn append(&mut self, bytes: &[u8]) -> io::Result<Range<u64>>;
+
+    /// Wipes out the bytes before a place: they are zeros then, and take no room on the disk where that can be. A loss of power may bring
+    /// some of them back.
+    ///
+    /// # Errors
+    /// Where it can't be done.
+    fn wipe(&mut self, end: u64) -> io::Result<()>;
 
     /// Returns once all that any process has written can't be lost.
     ///
@@ -105,8 +117,21 @@ impl Disk for OwnDisk {
 }
 
 impl RowFile for OwnFile {
-    fn append(&mut self, bytes: &[u8]) -> io::Result<usize> {
-        io::Write::write(&mut self.file, bytes)
+    fn append(&mut self, bytes: &[u8]) -> io::Result<Range<u64>> {
+        let length = self.file.write(bytes)? as u64;
+        // A write at the end leaves this descriptor's place behind what it wrote.
+        let end = self.file.stream_position()?;
+        Ok(end - length..end)
+    }
+
+    fn wipe(&mut self, end: u64) -> io::Result<()> {
+        let length = i64::try_from(end).unwrap_or(i64::MAX);
+        let how = FallocateFlags::FALLOC_FL_PUNCH_HOLE | FallocateFlags::FALLOC_FL_KEEP_SIZE;
+        match fallocate(self.file.as_raw_fd(), how, 0, length) {
+            // This file system keeps them: they are in nobody's way.
+            Err(Errno::EOPNOTSUPP) => Ok(()),
+            wiped => Ok(wiped?),
+        }
     }
 
     fn sync(&mut self) -> io::Result<()> {

@@ -1,5 +1,6 @@
 //! What is asked over one connection.
 use super::faults::{fault_of_read, told_of_set};
+use super::table::Table;
 use super::target::{Driver, Link, Target};
 use super::tls::MakeTls;
 use crate::engine::{Fault, Told};
@@ -113,8 +114,12 @@ impl Session {
         pin_mut!(rows);
         let (mut texts, mut has_standbys) = (Vec::new(), false);
         while let Some(cell) = self.in_time(rows.try_next()).await? {
-            if cell.get::<_, i64>(0) != expected {
-                return Err(Fault::Broken(format!("cell {expected} of {row} is gone")));
+            let (number, oldest): (i64, i64) = (cell.get(0), cell.get(3));
+            if number != expected {
+                return Err(match number == oldest {
+                    true => Fault::Trimmed(number.unsigned_abs()),
+                    false => Fault::Broken(format!("cell {expected} of {row} is gone")),
+                });
             }
             expected += 1;
             texts.push(Bytes::copy_from_slice(cell.get(1)));
@@ -124,6 +129,37 @@ impl Session {
             self.confirm().await?;
         }
         Ok(texts)
+    }
+
+    /// Removes the cells before a number. A set that began before the last cell was there may see none from its own number on; so each that has
+    /// begun is waited for first: then all see that last cell, which stays.
+    pub(super) async fn trim(&self, table: &Table, row: &RowName, last: u64) -> Result<(), Fault> {
+        let not_there = || Fault::Broken(format!("cell {last} of {row} is not there"));
+        let number = i64::try_from(last).map_err(|_| not_there())?;
+        match self.ends(table, row).await? {
+            Some((oldest, _)) if oldest >= number => return Ok(()),
+            Some((_, newest)) if newest >= number => {}
+            _ => return Err(not_there()),
+        }
+        let (wait, delete) = (table.wait_for_sets(), table.delete());
+        self.in_time(self.client.batch_execute(&wait)).await?;
+        let words: [&(dyn ToSql + Sync); 2] = [&row.as_str(), &number];
+        self.in_time(self.client.execute(&delete, &words)).await?;
+        match self.ends(table, row).await? {
+            Some((oldest, _)) if oldest >= number => Ok(()),
+            _ => Err(Fault::Refused(format!(
+                "cells of {row} may not be removed by this role"
+            ))),
+        }
+    }
+
+    /// The first and the last number of a row's cells.
+    async fn ends(&self, table: &Table, row: &RowName) -> Result<Option<(i64, i64)>, Fault> {
+        let ends = table.ends();
+        let words: [&(dyn ToSql + Sync); 1] = [&row.as_str()];
+        let told = self.in_time(self.client.query_one(&ends, &words)).await?;
+        let (oldest, newest): (Option<i64>, Option<i64>) = (told.get(0), told.get(1));
+        Ok(oldest.zip(newest))
     }
 
     /// Returns once the standbys have all that was seen on this connection. A cell is seen before they have it where the wait of its set was cancelled,

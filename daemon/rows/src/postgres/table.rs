@@ -57,22 +57,41 @@ impl Table {
 
     /// Sets the texts `$3` in the row `$1` from number `$2` on: all, or none where one is taken or the one before is not there. A cell that another
     /// transaction is about to set is waited for: so of two sets of one cell the second inserts only where the first was rolled back. They go by
-    /// their numbers, so that no two sets wait for each other.
+    /// their numbers, so that no two sets wait for each other. Where the row goes on behind the first of them, its last cell is set once more, in
+    /// vain, like one that is taken: the first may be removed.
     pub(super) fn insert(&self) -> String {
         let cells = self.name();
         format!(
             "INSERT INTO {cells} (row, number, text)
-            SELECT $1, $2 + place - 1, told FROM unnest($3) WITH ORDINALITY AS texts (told, place)
-            WHERE $2 = 1 OR EXISTS (SELECT FROM {cells} WHERE row = $1 AND number = $2 - 1)
-            ORDER BY place"
+            SELECT $1, CASE WHEN last < $2 THEN $2 + place - 1 ELSE last END, told
+            FROM (SELECT coalesce(max(number), 0) AS last FROM {cells} WHERE row = $1) AS there,
+                unnest($3) WITH ORDINALITY AS texts (told, place)
+            WHERE last >= $2 - 1 ORDER BY place"
         )
     }
 
-    /// The cells of the row `$1` from number `$2` on, each with whether the server has standbys that commits wait for.
+    /// Returns once each set that has begun has ended. One that begins later sees all that is there now.
+    pub(super) fn wait_for_sets(&self) -> String {
+        format!("BEGIN; LOCK TABLE {} IN SHARE MODE; COMMIT", self.name())
+    }
+
+    /// Removes the cells of the row `$1` before number `$2`.
+    pub(super) fn delete(&self) -> String {
+        format!("DELETE FROM {} WHERE row = $1 AND number < $2", self.name())
+    }
+
+    /// The first and the last number of the cells of the row `$1`.
+    pub(super) fn ends(&self) -> String {
+        let cells = self.name();
+        format!("SELECT min(number), max(number) FROM {cells} WHERE row = $1")
+    }
+
+    /// The cells of the row `$1` from number `$2` on, each with whether the server has standbys that commits wait for, and with the number of the
+    /// row's first cell.
     pub(super) fn select(&self) -> String {
         let cells = self.name();
         format!(
-            "SELECT number, text, (SELECT current_setting('synchronous_standby_names') <> '')
+            "SELECT number, text, (SELECT current_setting('synchronous_standby_names') <> ''), (SELECT min(number) FROM {cells} WHERE row = $1)
             FROM {cells} WHERE row = $1 AND number >= $2 ORDER BY number"
         )
     }
@@ -159,7 +178,7 @@ const SHAPE: &str = "SELECT relkind = 'r' AND relpersistence = 'p',
     NOT row_security_active(cells.oid) OR (SELECT coalesce(bool_and(polpermissive) AND bool_or(pg_get_expr(polqual, polrelid) = 'true'), false)
         FROM pg_policy WHERE polrelid = cells.oid AND polcmd IN ('r', '*')
         AND EXISTS (SELECT FROM unnest(polroles) AS role WHERE role = 0 OR pg_has_role(role, 'USAGE'))),
-    has_table_privilege(cells.oid, 'UPDATE, DELETE, TRUNCATE')
+    has_table_privilege(cells.oid, 'UPDATE, TRUNCATE')
     FROM pg_class AS cells WHERE oid = to_regclass($1)";
 
 /// Whether another process made it at the same time.

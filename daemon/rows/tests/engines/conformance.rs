@@ -4,7 +4,7 @@ use crate::stores::{open_by, Store};
 use bytes::Bytes;
 use rand::rngs::StdRng;
 use rand::{Rng, SeedableRng};
-use rows::{sure_set, Engine, Fault, RowName, Told};
+use rows::{sure_get, sure_set, sure_trim, Engine, Fault, RowName, Told};
 use std::io::{BufRead, BufReader, Write};
 use std::process::{Child, Command, Stdio};
 use std::sync::Arc;
@@ -46,6 +46,46 @@ pub async fn cells_are_set_once_in_order_and_together(store: &dyn Store) {
     assert_eq!(engine.get(&RowName::founding(), 1).await, Ok(texts(&[])));
 }
 
+/// What processes that remember the row as it was at each time are told of it once it is trimmed.
+pub async fn a_trimmed_row_keeps_its_end_and_never_begins_anew(store: &dyn Store) {
+    let row = row();
+    let mut engines = vec![store.open().await];
+    for (first, told) in [(1, &["one"][..]), (2, &["2", "3"]), (4, &["4", "5", "6"])] {
+        assert_eq!(set(&*engines[0], first, told).await, Ok(Told::Set));
+        engines.push(store.open().await);
+        all(&*engines[engines.len() - 1]).await;
+    }
+    engines.push(store.open().await);
+    for last in [3, 6, 2, 6] {
+        assert_eq!(engines[3].trim(&row, last).await, Ok(()));
+    }
+    engines.push(store.open().await);
+    for engine in engines.iter().map(|engine| &**engine) {
+        for first in 0..7 {
+            assert_eq!(set(engine, first, &["again"]).await, Ok(Told::Taken));
+            assert_eq!(set(engine, first, &["a", "b"]).await, Ok(Told::Taken));
+        }
+        assert_eq!(set(engine, 8, &["8"]).await, Ok(Told::Gap));
+        for first in 0..6 {
+            assert_eq!(engine.get(&row, first).await, Err(Fault::Trimmed(6)));
+        }
+        assert_eq!(engine.get(&row, 6).await, Ok(texts(&["6"])));
+        assert_eq!(engine.get(&row, 7).await, Ok(texts(&[])));
+    }
+    assert_eq!(set(&*engines[0], 7, &["7", "8"]).await, Ok(Told::Set));
+    for engine in &engines {
+        assert_eq!(set(&**engine, 7, &["again"]).await, Ok(Told::Taken));
+        assert_eq!(engine.get(&row, 6).await, Ok(texts(&["6", "7", "8"])));
+    }
+    let other = RowName::of_node("n1", 10).unwrap();
+    assert_eq!(
+        engines[0].set(&other, 1, &texts(&["one"])).await,
+        Ok(Told::Set)
+    );
+    let told = engines[1].trim(&row, 9).await;
+    assert!(matches!(told, Err(Fault::Broken(_))), "{told:?}");
+}
+
 pub async fn a_text_that_is_no_line_is_refused(store: &dyn Store) {
     let engine = &*store.open().await;
     for told in [&["a\nb"][..], &["a", "b\tc"], &[]] {
@@ -70,7 +110,7 @@ pub async fn a_reader_is_told_of_what_another_process_sets(store: &dyn Store) {
     assert_eq!(all(&*reader).await, texts(&["one"]));
 }
 
-/// Sets cells in a row until it has so many, and tells the texts of those that were told to be set.
+/// Sets cells in a row until it has so many, and tells the texts of those that were told to be set. Each says its number.
 async fn race(
     engine: &dyn Engine,
     writer: &str,
@@ -81,29 +121,45 @@ async fn race(
     let mut random = StdRng::seed_from_u64(seed);
     let mut next = 1;
     loop {
-        let count = random.gen_range(1..4);
-        let told: Vec<String> = (0..count).map(|i| format!("{writer} {next} {i}")).collect();
+        let numbers = next..next + random.gen_range(1..4);
+        let told: Vec<String> = numbers.map(|number| format!("{writer} {number}")).collect();
         let cells: Vec<Bytes> = told.iter().map(|text| text.clone().into()).collect();
         match sure_set(engine, &row(), next, &cells).await {
             Ok(Told::Set) => told.iter().for_each(|text| tell(text)),
-            Ok(Told::Taken) => {}
+            // Where the cells were removed meanwhile nobody knows whether they were these.
+            Ok(Told::Taken) | Err(Fault::Trimmed(_)) => {}
             other => panic!("{other:?}"),
         }
-        next += read_on(engine, next).await;
+        next = read_on(engine, next).await;
         if next > most as u64 {
             return;
         }
     }
 }
 
-/// How many cells there are from a number on. An engine that is silent is asked again.
-async fn read_on(engine: &dyn Engine, next: u64) -> u64 {
+/// The number behind the last cell, of a row of which those before a number were read.
+async fn read_on(engine: &dyn Engine, mut next: u64) -> u64 {
     loop {
-        match engine.get(&row(), next).await {
-            Ok(cells) => return cells.len() as u64,
-            Err(Fault::Silent(_)) => tokio::time::sleep(Duration::from_millis(20)).await,
+        match sure_get(engine, &row(), next).await {
+            Ok(cells) => return next + cells.len() as u64,
+            Err(Fault::Trimmed(first)) => next = first,
             Err(fault) => panic!("{fault}"),
         }
+    }
+}
+
+/// Removes cells that it has read, for good.
+async fn go_on_trimming(engine: &dyn Engine, seed: u64) {
+    let mut random = StdRng::seed_from_u64(seed);
+    let mut read = 1;
+    loop {
+        let next = read_on(engine, read).await;
+        if next > read {
+            let last = random.gen_range(read..next);
+            sure_trim(engine, &row(), last).await.unwrap();
+            read = last;
+        }
+        tokio::time::sleep(Duration::from_millis(random.gen_range(0..30))).await;
     }
 }
 
@@ -146,6 +202,9 @@ pub async fn of_writers_that_race_each_cell_has_one(store: &dyn Store, most: usi
 
 const WRITER: &str = "ROWS_TEST_WRITER";
 
+/// What the name of a process begins with that removes cells.
+const TRIMMER: char = 't';
+
 /// Not a test of its own: a writer in a process, which a test starts and kills.
 #[tokio::test]
 async fn writer_in_a_process() {
@@ -154,6 +213,9 @@ async fn writer_in_a_process() {
     };
     let (writer, words) = words.split_once(' ').unwrap();
     let engine = open_by(words).await;
+    if writer.starts_with(TRIMMER) {
+        return go_on_trimming(&*engine, writer.len() as u64).await;
+    }
     let mut out = std::io::stdout();
     race(&*engine, writer, usize::MAX, writer.len() as u64, |text| {
         writeln!(out, "set {text}").unwrap();
@@ -204,6 +266,43 @@ pub async fn of_processes_that_are_killed_each_cell_has_one_writer(
     let count: usize = told.iter().map(Vec::len).sum();
     // A writer that was killed may have set its last cells, and not have told it.
     assert!(count <= cells.len() && cells.len() <= count + 3 * told.len());
+}
+
+fn number_of(text: &str) -> u64 {
+    text.rsplit(' ').next().unwrap().parse().unwrap()
+}
+
+/// In each of six rounds writers race, two others trim the row, and all are killed: no cell is told to be set twice, however much was forgotten.
+pub async fn of_a_row_that_is_trimmed_by_processes_that_are_killed_no_cell_is_set_again(
+    store: &mut dyn Store,
+    lasts: Duration,
+) {
+    let mut random = StdRng::seed_from_u64(3);
+    let mut told: Vec<String> = Vec::new();
+    for round in 0..6 {
+        let names = ["p", "q", "t", "tt"].map(|name| format!("{name}{round}"));
+        let processes = names.map(|name| start_writer(&store.words(), &name));
+        tokio::time::sleep(lasts.mul_f64(random.gen_range(0.3..0.7))).await;
+        store.befall_writers(&mut random).await;
+        tokio::time::sleep(lasts.mul_f64(random.gen_range(0.1..0.3))).await;
+        told.extend(processes.into_iter().flat_map(end_writer));
+        store.befall(&mut random).await;
+    }
+    told.sort_by_key(|text| number_of(text));
+    let twice = told
+        .windows(2)
+        .find(|both| number_of(&both[0]) == number_of(&both[1]));
+    assert_eq!(twice, None);
+    let engine = store.open().await;
+    let Err(Fault::Trimmed(first)) = engine.get(&row(), 1).await else {
+        panic!("cell 1 is there");
+    };
+    let left = engine.get(&row(), first).await.unwrap();
+    let are_left = told.iter().filter(|text| number_of(text) >= first);
+    for text in are_left {
+        assert_eq!(left[(number_of(text) - first) as usize], text.as_bytes());
+    }
+    assert!(told.len() > 20, "{}", told.len());
 }
 
 /// In so many turns.

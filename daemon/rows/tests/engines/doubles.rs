@@ -6,16 +6,21 @@ use rand::{Rng, SeedableRng};
 use rows::files::{Disk, RowFile};
 use rows::{Engine, Fault, RowName, Tidings, Told};
 use std::collections::HashMap;
+use std::future::Future;
 use std::io;
+use std::ops::Range;
 use std::path::{Path, PathBuf};
 use std::sync::{Arc, Mutex};
+use tokio::runtime::Builder;
 
 /// What a file holds.
-#[derive(Default)]
+#[derive(Clone, Default)]
 struct Held {
     bytes: Vec<u8>,
     synced: usize,
     mark: u64,
+    /// What was wiped out and may come back.
+    wiped: Vec<u8>,
 }
 
 /// What the disk does wrong from now on.
@@ -28,11 +33,29 @@ pub enum Wrong {
     Sync,
 }
 
+/// What a file is asked for.
+#[derive(Clone, Copy, Debug, PartialEq, Eq)]
+pub enum Call {
+    Append,
+    Read,
+    Sync,
+}
+
+/// What others do amid a process's use of the disk: before the next such call but so many.
+struct Meanwhile {
+    call: Call,
+    but: usize,
+    work: Box<dyn FnOnce() + Send>,
+}
+
+type Files = Arc<Mutex<HashMap<PathBuf, Arc<Mutex<Held>>>>>;
+
 /// A disk in memory.
 #[derive(Clone)]
 pub struct ForgetfulDisk {
-    files: Arc<Mutex<HashMap<PathBuf, Arc<Mutex<Held>>>>>,
+    files: Files,
     wrong: Arc<Mutex<Wrong>>,
+    meanwhile: Arc<Mutex<Option<Meanwhile>>>,
 }
 
 impl ForgetfulDisk {
@@ -40,6 +63,37 @@ impl ForgetfulDisk {
         ForgetfulDisk {
             files: Arc::default(),
             wrong: Arc::new(Mutex::new(Wrong::Nothing)),
+            meanwhile: Arc::default(),
+        }
+    }
+
+    /// Another disk that holds the same.
+    pub fn copy(&self) -> ForgetfulDisk {
+        let files = self.files.lock().unwrap();
+        let copied = |held: &Arc<Mutex<Held>>| Arc::new(Mutex::new(held.lock().unwrap().clone()));
+        let files = files
+            .iter()
+            .map(|(path, held)| (path.clone(), copied(held)));
+        ForgetfulDisk {
+            files: Arc::new(Mutex::new(files.collect())),
+            ..ForgetfulDisk::new()
+        }
+    }
+
+    /// Has this done once, before the next such call but so many: whoever makes it is paused until it is done.
+    pub fn before(&self, call: Call, but: usize, work: impl Future<Output = ()> + Send + 'static) {
+        let work = move || {
+            let runtime = Builder::new_current_thread().enable_all().build().unwrap();
+            let done = std::thread::spawn(move || runtime.block_on(work));
+            done.join().unwrap();
+        };
+        let work = Box::new(work);
+        *self.meanwhile.lock().unwrap() = Some(Meanwhile { call, but, work });
+    }
+
+    pub fn lose_marks(&self) {
+        for held in self.files.lock().unwrap().values() {
+            held.lock().unwrap().mark = 0;
         }
     }
 
@@ -47,13 +101,19 @@ impl ForgetfulDisk {
         *self.wrong.lock().unwrap() = wrong;
     }
 
-    /// The power is lost: of each file what was synced is left, and some of the bytes behind it. A mark may be lost too.
+    /// The power is lost: of each file what was synced is left, and some of the bytes behind it. Some of what was wiped out is there again. A
+    /// mark may be lost too.
     pub fn lose_power(&self, random: &mut StdRng) {
         for held in self.files.lock().unwrap().values() {
             let mut held = held.lock().unwrap();
             let left = random.gen_range(held.synced..=held.bytes.len());
             held.bytes.truncate(left);
             held.synced = left;
+            for (at, wiped) in std::mem::take(&mut held.wiped).chunks(16).enumerate() {
+                if random.gen() {
+                    held.bytes[at * 16..][..wiped.len()].copy_from_slice(wiped);
+                }
+            }
             if random.gen() {
                 held.mark = 0;
             }
@@ -64,19 +124,40 @@ impl ForgetfulDisk {
 impl Disk for ForgetfulDisk {
     fn open(&self, path: &Path) -> io::Result<Box<dyn RowFile>> {
         let mut files = self.files.lock().unwrap();
-        let held = Arc::clone(files.entry(path.to_owned()).or_default());
-        let wrong = Arc::clone(&self.wrong);
-        Ok(Box::new(ForgetfulFile { held, wrong }))
+        Ok(Box::new(ForgetfulFile {
+            held: Arc::clone(files.entry(path.to_owned()).or_default()),
+            wrong: Arc::clone(&self.wrong),
+            meanwhile: Arc::clone(&self.meanwhile),
+        }))
     }
 }
 
 struct ForgetfulFile {
     held: Arc<Mutex<Held>>,
     wrong: Arc<Mutex<Wrong>>,
+    meanwhile: Arc<Mutex<Option<Meanwhile>>>,
+}
+
+impl ForgetfulFile {
+    /// Does what is to be done before this call.
+    fn pause(&self, call: Call) {
+        let mut meanwhile = self.meanwhile.lock().unwrap();
+        let Some(next) = meanwhile.as_mut().filter(|next| next.call == call) else {
+            return;
+        };
+        if next.but > 0 {
+            next.but -= 1;
+            return;
+        }
+        let work = meanwhile.take().map(|next| next.work);
+        drop(meanwhile);
+        work.into_iter().for_each(|work| work());
+    }
 }
 
 impl RowFile for ForgetfulFile {
-    fn append(&mut self, bytes: &[u8]) -> io::Result<usize> {
+    fn append(&mut self, bytes: &[u8]) -> io::Result<Range<u64>> {
+        self.pause(Call::Append);
         let mut wrong = self.wrong.lock().unwrap();
         let mut length = bytes.len();
         if let Wrong::Room(left) = &mut *wrong {
@@ -87,11 +168,21 @@ impl RowFile for ForgetfulFile {
             *left -= length;
         }
         let mut held = self.held.lock().unwrap();
+        let begin = held.bytes.len() as u64;
         held.bytes.extend_from_slice(&bytes[..length]);
-        Ok(length)
+        Ok(begin..begin + length as u64)
+    }
+
+    fn wipe(&mut self, end: u64) -> io::Result<()> {
+        let mut held = self.held.lock().unwrap();
+        let wiped = held.bytes[..end as usize].to_vec();
+        held.bytes[..end as usize].fill(0);
+        held.wiped = wiped;
+        Ok(())
     }
 
     fn sync(&mut self) -> io::Result<()> {
+        self.pause(Call::Sync);
         let mut held = self.held.lock().unwrap();
         if *self.wrong.lock().unwrap() == Wrong::Sync {
             let synced = held.synced;
@@ -107,6 +198,7 @@ impl RowFile for ForgetfulFile {
     }
 
     fn read(&self, at: u64, bytes: &mut [u8]) -> io::Result<()> {
+        self.pause(Call::Read);
         let held = self.held.lock().unwrap();
         let from = held.bytes.get(at as usize..at as usize + bytes.len());
         bytes.copy_from_slice(from.ok_or(io::ErrorKind::UnexpectedEof)?);
@@ -160,6 +252,17 @@ impl Engine for LossyEngine {
             return Err(Fault::Silent("the reply is lost".to_owned()));
         }
         self.engine.get(row, first).await
+    }
+
+    async fn trim(&self, row: &RowName, last: u64) -> Result<(), Fault> {
+        if self.loses() {
+            return Err(Fault::Silent("the request is lost".to_owned()));
+        }
+        let told = self.engine.trim(row, last).await;
+        if self.loses() {
+            return Err(Fault::Silent("the reply is lost".to_owned()));
+        }
+        told
     }
 
     async fn follow(&self, row: &RowName) -> Result<Box<dyn Tidings>, Fault> {

@@ -5,7 +5,7 @@ mod failures;
 mod proxy;
 mod rights;
 
-use crate::conformance::{self, all, row};
+use crate::conformance::{self, all, row, set};
 use bytes::Bytes;
 pub use cluster::open_by;
 use cluster::{open, Cluster, HasRows, Setup};
@@ -20,6 +20,11 @@ async fn one() -> Cluster {
 #[tokio::test]
 async fn cells_are_set_once_in_order_and_together() {
     conformance::cells_are_set_once_in_order_and_together(&one().await).await;
+}
+
+#[tokio::test]
+async fn a_trimmed_row_keeps_its_end_and_never_begins_anew() {
+    conformance::a_trimmed_row_keeps_its_end_and_never_begins_anew(&one().await).await;
 }
 
 #[tokio::test]
@@ -42,6 +47,16 @@ async fn of_processes_that_are_killed_each_cell_has_one_writer() {
     let lasts = Duration::from_millis(1000);
     conformance::of_processes_that_are_killed_each_cell_has_one_writer(&mut one().await, lasts)
         .await;
+}
+
+#[tokio::test]
+async fn of_a_row_that_is_trimmed_by_processes_that_are_killed_no_cell_is_set_again() {
+    let lasts = Duration::from_millis(1000);
+    let mut store = one().await;
+    conformance::of_a_row_that_is_trimmed_by_processes_that_are_killed_no_cell_is_set_again(
+        &mut store, lasts,
+    )
+    .await;
 }
 
 #[tokio::test]
@@ -111,4 +126,17 @@ async fn a_row_is_read_in_pages() {
     cluster.operate("del /groups/ward/n1/g1/00000000000000002001");
     let told = engine.get(&row(), 1).await;
     assert!(matches!(told, Err(Fault::Broken(_))), "{told:?}");
+    let told = set(&engine, 2_001, &["again"]).await;
+    assert!(matches!(told, Err(Fault::Broken(_))), "{told:?}");
+    // A row is trimmed in pieces.
+    for last in [3_199, 3_200] {
+        assert_eq!(engine.trim(&row(), last).await, Ok(()));
+        assert_eq!(engine.get(&row(), 1).await, Err(Fault::Trimmed(last)));
+        assert_eq!(
+            engine.get(&row(), last - 1).await,
+            Err(Fault::Trimmed(last))
+        );
+        let left = engine.get(&row(), last).await;
+        assert_eq!(left, Ok(all_set[last as usize - 1..].to_vec()));
+    }
 }

@@ -1,4 +1,6 @@
 //! Rows as files in a folder, on this machine's disk and on one that forgets, fills up and fails.
+mod trimming;
+
 use crate::conformance::{self, all, row, set, texts};
 use crate::doubles::{ForgetfulDisk, Wrong};
 use crate::stores::Store;
@@ -68,6 +70,11 @@ async fn cells_are_set_once_in_order_and_together() {
 }
 
 #[tokio::test]
+async fn a_trimmed_row_keeps_its_end_and_never_begins_anew() {
+    conformance::a_trimmed_row_keeps_its_end_and_never_begins_anew(&Folder::new()).await;
+}
+
+#[tokio::test]
 async fn a_text_that_is_no_line_is_refused() {
     conformance::a_text_that_is_no_line_is_refused(&Folder::new()).await;
 }
@@ -87,6 +94,16 @@ async fn of_processes_that_are_killed_each_cell_has_one_writer() {
     let lasts = Duration::from_millis(200);
     conformance::of_processes_that_are_killed_each_cell_has_one_writer(&mut Folder::new(), lasts)
         .await;
+}
+
+#[tokio::test]
+async fn of_a_row_that_is_trimmed_by_processes_that_are_killed_no_cell_is_set_again() {
+    let lasts = Duration::from_millis(200);
+    let mut store = Folder::new();
+    conformance::of_a_row_that_is_trimmed_by_processes_that_are_killed_no_cell_is_set_again(
+        &mut store, lasts,
+    )
+    .await;
 }
 
 #[tokio::test(start_paused = true)]

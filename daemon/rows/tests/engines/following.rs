@@ -3,7 +3,7 @@
 use crate::doubles::LossyEngine;
 use bytes::Bytes;
 use rows::cell::{Call, Cell, Chain, Identity, Lost, Why};
-use rows::{sure_set, Engine, Files, FollowFault, Follower, RowName, Told};
+use rows::{sure_set, Engine, Fault, Files, FollowFault, Follower, RowName, Told};
 use serde_json::value::RawValue;
 use std::path::Path;
 use std::sync::Arc;
@@ -81,6 +81,27 @@ async fn a_row_that_is_silent_is_not_empty() {
         let mut follower = Follower::of(reader, chain()).await.unwrap();
         assert_eq!(follower.there().await.unwrap().len(), all.len());
     }
+}
+
+#[tokio::test]
+async fn who_follows_a_trimmed_row_is_told_that_it_is_too_late() {
+    let folder = tempfile::tempdir().unwrap();
+    let all = cells("w", chain(), 5);
+    let engine = Arc::new(Files::of(folder.path()));
+    set(&*engine, 1, &all).await;
+    let mut read_to = chain();
+    for text in &all[..4] {
+        read_to.take(text).unwrap();
+    }
+    let follower = |chain| Follower::of(Arc::clone(&engine) as Arc<dyn Engine>, chain);
+    let (mut late, mut in_time) = (
+        follower(chain()).await.unwrap(),
+        follower(read_to).await.unwrap(),
+    );
+    engine.trim(chain().row(), 5).await.unwrap();
+    let told = late.next().await.unwrap_err();
+    assert_eq!(told, FollowFault::Engine(Fault::Trimmed(5)));
+    assert_eq!(in_time.next().await.unwrap().len(), 1);
 }
 
 /// Takes the row's file back to what it was, as an old copy of a folder does.

@@ -11,7 +11,7 @@ use bytes::Bytes;
 use rand::rngs::StdRng;
 use rand::Rng;
 use rows::postgres::Options;
-use rows::{Engine, Fault, Postgres, RowName, Told};
+use rows::{sure_trim, Engine, Fault, Postgres, RowName, Told};
 use server::{HasRows, Server};
 use std::sync::atomic::{AtomicU32, Ordering};
 use std::sync::Arc;
@@ -122,6 +122,11 @@ async fn cells_are_set_once_in_order_and_together() {
 }
 
 #[tokio::test]
+async fn a_trimmed_row_keeps_its_end_and_never_begins_anew() {
+    conformance::a_trimmed_row_keeps_its_end_and_never_begins_anew(&Schema::new()).await;
+}
+
+#[tokio::test]
 async fn a_text_that_is_no_line_is_refused() {
     conformance::a_text_that_is_no_line_is_refused(&Schema::new()).await;
 }
@@ -141,6 +146,16 @@ async fn of_processes_and_servers_that_are_killed_each_cell_has_one_writer() {
     let mut store = Killed(Server::start(&[]));
     let lasts = Duration::from_millis(1500);
     conformance::of_processes_that_are_killed_each_cell_has_one_writer(&mut store, lasts).await;
+}
+
+#[tokio::test]
+async fn of_a_row_that_is_trimmed_by_processes_that_are_killed_no_cell_is_set_again() {
+    let lasts = Duration::from_millis(1500);
+    let mut store = Killed(Server::start(&[]));
+    conformance::of_a_row_that_is_trimmed_by_processes_that_are_killed_no_cell_is_set_again(
+        &mut store, lasts,
+    )
+    .await;
 }
 
 #[tokio::test]
@@ -192,6 +207,12 @@ async fn a_full_row_is_read_whole() {
     assert_eq!(there[65_535], "65536 ".repeat(60).as_bytes());
     assert_eq!(set(&engine, 65_536, &["a"]).await, Ok(Told::Taken));
     assert_eq!(set(&engine, 65_537, &["a", "b"]).await, Ok(Told::Set));
+    assert_eq!(engine.trim(&row(), 65_537).await, Ok(()));
+    assert_eq!(
+        engine.get(&row(), 65_536).await,
+        Err(Fault::Trimmed(65_537))
+    );
+    assert_eq!(engine.get(&row(), 65_537).await, Ok(texts(&["a", "b"])));
 }
 
 #[tokio::test]
@@ -239,6 +260,31 @@ async fn of_two_sets_of_one_cell_the_second_waits_for_what_becomes_of_the_first(
     store.server.run(&delete).await;
     assert_eq!(beside(&store, "COMMIT").await, Ok(Told::Taken));
     assert_eq!(all(&store.open().await).await, texts(&["other"]));
+}
+
+/// Has each set of the text `paused` wait amid its statement.
+const PAUSE: &str = "CREATE FUNCTION SCHEMA.pause() RETURNS trigger LANGUAGE plpgsql AS $$ BEGIN PERFORM pg_sleep(3); RETURN NEW; END $$;
+    CREATE TRIGGER pause BEFORE INSERT ON SCHEMA.cells FOR EACH ROW WHEN (NEW.text = 'paused'::bytea) EXECUTE FUNCTION SCHEMA.pause()";
+
+#[tokio::test]
+async fn a_set_that_began_before_the_row_had_a_cell_sets_none_that_is_removed() {
+    let store = Schema::new();
+    let (engine, paused) = (store.open().await, store.open().await);
+    store
+        .server
+        .run(&PAUSE.replace("SCHEMA", &store.name))
+        .await;
+    let setting = tokio::spawn(async move { set(&paused, 1, &["paused"]).await });
+    let operator = store.server.operator().await;
+    let sleeping = "SELECT FROM pg_stat_activity WHERE wait_event = 'PgSleep'";
+    while operator.query(sleeping, &[]).await.unwrap().is_empty() {
+        sleep(Duration::from_millis(10)).await;
+    }
+    assert_eq!(set(&engine, 1, &["1", "2", "3"]).await, Ok(Told::Set));
+    sure_trim(&engine, &row(), 3).await.unwrap();
+    assert_eq!(setting.await.unwrap(), Ok(Told::Taken));
+    assert_eq!(engine.get(&row(), 1).await, Err(Fault::Trimmed(3)));
+    assert_eq!(engine.get(&row(), 3).await, Ok(texts(&["3"])));
 }
 
 #[tokio::test]

@@ -77,6 +77,9 @@ async fn a_store_that_others_have_filled_is_used_again_once_it_is_compacted() {
     let cluster = Cluster::start(1, Setup::of(&["--quota-backend-bytes=4194304"])).await;
     let engine = open(cluster.options()).await;
     assert_eq!(set(&engine, 1, &["one"]).await, Ok(Told::Set));
+    let ended = RowName::of_node("n1", 10).unwrap();
+    let told = engine.set(&ended, 1, &texts(&["one", "end"])).await;
+    assert_eq!(told, Ok(Told::Set));
     let large = "x".repeat(100_000);
     let put = |_: &i32| !cluster.etcdctl(&["put", "other", &large]).is_empty();
     let revision = (0..60).filter(put).count();
@@ -84,6 +87,8 @@ async fn a_store_that_others_have_filled_is_used_again_once_it_is_compacted() {
     assert_eq!(set(&engine, 3, &["three"]).await, Err(Fault::Full));
     assert_eq!(set(&engine, 1, &["one"]).await, Ok(Told::Taken));
     assert_eq!(all(&engine).await, texts(&["one"]));
+    assert_eq!(engine.trim(&ended, 2).await, Ok(()));
+    assert_eq!(engine.get(&ended, 1).await, Err(Fault::Trimmed(2)));
     cluster.operate(&format!("compact {revision}\ndefrag\nalarm disarm"));
     assert_eq!(set(&engine, 2, &["two"]).await, Ok(Told::Set));
     assert_eq!(all(&engine).await, texts(&["one", "two"]));
@@ -119,6 +124,10 @@ impl Engine for Patient {
                 told => return told,
             }
         }
+    }
+
+    async fn trim(&self, row: &RowName, last: u64) -> Result<(), Fault> {
+        self.0.trim(row, last).await
     }
 
     async fn follow(&self, row: &RowName) -> Result<Box<dyn Tidings>, Fault> {

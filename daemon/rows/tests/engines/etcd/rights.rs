@@ -87,10 +87,17 @@ async fn a_node_sets_cells_of_its_own_row_alone() {
     assert_eq!(n2.get(&row_of("n2"), 1).await, Ok(Vec::new()));
     assert_eq!(n2.set(&row_of("n2"), 1, &cells).await, Ok(Told::Set));
     assert_eq!(n1.get(&row_of("n2"), 1).await, Ok(cells.clone()));
+    // So it is of the removal of cells.
+    assert_eq!(n1.set(&row_of("n1"), 2, &cells).await, Ok(Told::Set));
+    assert!(is_refused(n2.trim(&row_of("n1"), 2).await));
+    assert_eq!(n2.get(&row_of("n1"), 2).await, Ok(cells.clone()));
+    assert_eq!(n1.trim(&row_of("n1"), 2).await, Ok(()));
+    let trimmed = n2.get(&row_of("n1"), 1).await;
+    assert_eq!(trimmed, Err(Fault::Trimmed(2)));
     // A right that is taken away is one no more.
     cluster.operate("role revoke-permission --prefix=true ward-n1 /groups/ward/n1/");
-    assert!(is_refused(n1.set(&row_of("n1"), 2, &cells).await));
-    assert_eq!(n2.get(&row_of("n1"), 1).await, Ok(cells));
+    assert!(is_refused(n1.set(&row_of("n1"), 3, &cells).await));
+    assert_eq!(n2.get(&row_of("n1"), 2).await, Ok(cells));
 }
 
 #[tokio::test]

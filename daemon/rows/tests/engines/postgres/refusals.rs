@@ -185,6 +185,34 @@ async fn a_node_sets_cells_of_its_own_rows_alone() {
 }
 
 #[tokio::test]
+async fn a_node_removes_cells_of_its_own_rows_alone_where_it_may() {
+    let server = Server::start(&[]);
+    let of = |role: &str| server.options(role, SCHEMA);
+    assert!(Postgres::open(of("operator")).await.is_ok());
+    server.run(RIGHTS).await;
+    let (n1, n2) = (open(of("n1")).await, open(of("n2")).await);
+    assert_eq!(set(&n1, 1, &["1", "2", "3"]).await, Ok(Told::Set));
+    let rights = [
+        "SELECT",
+        "GRANT DELETE ON cells_of_a_test.cells TO n1, n2",
+        "CREATE POLICY n2_trims ON cells_of_a_test.cells FOR DELETE TO n2 USING (starts_with(row, 'n2/'))",
+    ];
+    for right in rights {
+        server.run(right).await;
+        for engine in [&n1, &n2] {
+            let told = engine.trim(&row(), 3).await;
+            assert!(matches!(told, Err(Fault::Refused(_))), "{told:?}");
+        }
+        assert_eq!(all(&n1).await, texts(&["1", "2", "3"]));
+    }
+    let right = "CREATE POLICY n1_trims ON cells_of_a_test.cells FOR DELETE TO n1 USING (starts_with(row, 'n1/'))";
+    server.run(right).await;
+    assert_eq!(n1.trim(&row(), 3).await, Ok(()));
+    assert_eq!(n2.get(&row(), 1).await, Err(Fault::Trimmed(3)));
+    assert_eq!(set(&n1, 1, &["again"]).await, Ok(Told::Taken));
+}
+
+#[tokio::test]
 async fn a_role_that_may_make_no_table_is_refused_until_there_is_one() {
     let server = Server::start(&[]);
     server.run("CREATE ROLE n1 LOGIN").await;
