@@ -262,14 +262,21 @@ impl<W> RowMember<W> {
     /// # Errors
     /// Where a message can't be taken.
     pub fn turn(&mut self) -> Result<(), MemberFault> {
-        for member in self.others() {
-            while self.may_take_first(member)? && self.receive_first(member)? {}
+        loop {
+            let before = self.steps;
+            for member in self.others() {
+                while self.may_take_first(member)? && self.receive_first(member)? {}
+            }
+            // Once a message of one member was taken, that of another may want something else.
+            if self.steps == before {
+                return self.deliver();
+            }
         }
-        self.deliver()
     }
 
     /// Whether there is a message of a member that can be taken with no acknowledgement. None is wanted where the member itself has sent
-    /// something later; of each other message the library says it.
+    /// something later; of each other message the library says it, and says it anew once the member took another one: a message that wanted an
+    /// acknowledgement may want none any more.
     fn may_take_first(&mut self, member: u32) -> Result<bool, MemberFault> {
         let inbox = &self.inboxes[member as usize - 1];
         let Some(message) = inbox.first() else {
@@ -278,7 +285,11 @@ impl<W> RowMember<W> {
         if message.clock < self.sent_clock {
             return Ok(true);
         }
-        Ok(inbox.wanted.is_none() && self.ask_first(member)? == Asked::WantsNothing)
+        let wanted = inbox.wanted.as_ref();
+        if wanted.is_some_and(|wanted| wanted.asked_at == self.steps) {
+            return Ok(false);
+        }
+        Ok(self.ask_first(member)? == Asked::WantsNothing)
     }
 
     /// The cell that is to be set next: its number and text. None where there is none, or one is being set. Whoever asks it has to tell
@@ -291,7 +302,7 @@ impl<W> RowMember<W> {
             return Ok(None);
         }
         self.turn()?;
-        let acknowledgement = self.acknowledgement()?;
+        let acknowledgement = self.acknowledgement();
         let (message, batch) = match (acknowledgement, self.next_submit()?) {
             (Some(sent), Some(submitted)) if !self.goes_first(&submitted) => (sent, None),
             (_, Some(submitted)) => (submitted, Some(self.queue.take())),
@@ -434,21 +445,11 @@ impl<W> RowMember<W> {
         Ok(true)
     }
 
-    /// The acknowledgement that lets most of what was read be taken, where one is wanted.
-    fn acknowledgement(&mut self) -> Result<Option<String>, MemberFault> {
-        let mut latest: Option<(u64, String)> = None;
-        for member in self.others().collect::<Vec<u32>>() {
-            let wanted = self.inboxes[member as usize - 1].wanted.as_ref();
-            let asked_at = wanted.map(|wanted| wanted.asked_at);
-            if asked_at.is_some_and(|asked_at| asked_at != self.steps) {
-                self.ask_first(member)?;
-            }
-            if let Some(wanted) = &self.inboxes[member as usize - 1].wanted {
-                let told = (own_clock(&wanted.answer), wanted.answer.clone());
-                latest = latest.max(Some(told));
-            }
-        }
-        Ok(latest.map(|(_, answer)| answer))
+    /// The acknowledgement that lets most of what was read be taken, where one is wanted. What each message wants was asked by the turn before.
+    fn acknowledgement(&self) -> Option<String> {
+        let wanted = self.inboxes.iter().filter_map(|it| it.wanted.as_ref());
+        let latest = wanted.max_by_key(|wanted| own_clock(&wanted.answer));
+        latest.map(|wanted| wanted.answer.clone())
     }
 
     /// The message that the calls that wait go into, as many as have room.

@@ -359,3 +359,49 @@ fn what_is_no_command_is_refused_and_sends_nothing() {
     }
     assert_eq!(held.next_cell().unwrap(), None);
 }
+
+/// A member reads so many more cells of another's row.
+fn read(held: &mut Held, chain: &mut Chain, row: &[Bytes], cells: usize) {
+    let from = chain.next() as usize - 1;
+    for text in &row[from..from + cells] {
+        let cell = chain.take_sent(text).unwrap();
+        let member = if chain.row().as_str() == "n1/g1" {
+            1
+        } else {
+            2
+        };
+        held.put_cell(member, cell);
+    }
+}
+
+#[test]
+fn a_message_that_wants_an_acknowledgement_no_more_is_taken_without_any_event() {
+    let founding = founding(2, "");
+    let (mut one, mut row) = (made_of(&founding, 2, 1, &[]), Vec::new());
+    let (mut two, mut theirs) = (made_of(&founding, 2, 2, &[]), Vec::new());
+    let [mut of_one, mut of_two] = [1, 2].map(|member| chain_of(&founding, member));
+    let asked = |held: &mut Held, user: &str| held.ask(call(None, &add_user(user)), 1);
+    for user in ["ann", "bob"] {
+        asked(&mut two, user);
+        set(&mut two, &mut theirs);
+    }
+    read(&mut one, &mut of_two, &theirs, 1);
+    asked(&mut one, "cat");
+    asked(&mut two, "dan");
+    // This set is not told yet.
+    theirs.push(two.next_cell().unwrap().unwrap().1);
+    read(&mut one, &mut of_two, &theirs, 1);
+    set(&mut one, &mut row);
+    set(&mut one, &mut row);
+    read(&mut one, &mut of_two, &theirs, 1);
+    asked(&mut one, "eve");
+    set(&mut one, &mut row);
+    read(&mut two, &mut of_one, &row, 3);
+    asked(&mut two, "joe");
+    two.was_set().unwrap();
+    // An acknowledgement, then the call: behind it the last message of the other one, which wanted one too, wants none.
+    set(&mut two, &mut theirs);
+    set(&mut two, &mut theirs);
+    assert_eq!(two.next_cell().unwrap(), None);
+    assert_eq!(two.taken(), [3, 5]);
+}
