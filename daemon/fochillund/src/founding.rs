@@ -16,7 +16,7 @@ pub const GENERATION: u64 = 1;
 /// The least `sent_limit` of a group over rows. A row that ends early ends the group.
 pub const LEAST_SENT_LIMIT: i64 = 16_384;
 
-/// After this time a node that may not found the group looks whether another has.
+/// After this time a node that can't found the group looks whether another has.
 const PAUSE: Duration = Duration::from_millis(500);
 
 /// How many messages a member sends where the founding file does not say.
@@ -101,8 +101,9 @@ pub async fn join(
     let text = Bytes::from(serde_json::to_vec(founding).expect("a founding is JSON"));
     while sure_get(engine, &row, 1).await?.is_empty() {
         match sure_set(engine, &row, 1, std::slice::from_ref(&text)).await {
-            Err(Fault::Refused(why)) => {
-                tracing::info!("another node has to found the group: {why}");
+            // Another node may found it, or somebody makes room.
+            Err(fault @ (Fault::Refused(_) | Fault::Full)) => {
+                tracing::info!("the group can't be founded here now: {fault}");
                 tokio::time::sleep(PAUSE).await;
             }
             told => drop(told?),

@@ -330,12 +330,38 @@ async fn a_sync_that_fails_ends_the_process_before_anybody_is_told() {
     assert_eq!(ended(process), Some(5));
 }
 
+/// A process of the first member that has no file of more than so many bytes.
+fn limited(group: &Group, bytes: u32, more: &[&str]) -> Child {
+    let words = format!("trap '' XFSZ; exec prlimit --fsize={bytes}: \"$0\" \"$@\"");
+    group.spawn_by(&["sh", "-c", &words], 1, more)
+}
+
+fn give_room(process: &Child) {
+    let words = ["--pid", &process.id().to_string(), "--fsize=unlimited:"];
+    let given = std::process::Command::new("prlimit").args(words).status();
+    assert!(given.unwrap().success());
+}
+
+#[tokio::test]
+async fn a_group_is_founded_once_there_is_room() {
+    let group = Group::of(1);
+    let mut process = limited(&group, 16, &[]);
+    tokio::time::sleep(Duration::from_millis(1500)).await;
+    assert_eq!(process.try_wait().unwrap(), None);
+    assert!(!group.socket(1).exists());
+    give_room(&process);
+    assert_eq!(
+        answers(&post(&group, 1, &call(1, None, ANN)).await),
+        ["Done"]
+    );
+    process.kill().unwrap();
+    process.wait().unwrap();
+}
+
 #[tokio::test]
 async fn a_member_whose_rows_are_full_goes_on_once_there_is_room() {
     let group = Group::of(1);
-    let limited = "trap '' XFSZ; exec prlimit --fsize=4096: \"$0\" \"$@\"";
-    let more = ["--patience", "1"];
-    let mut process = group.spawn_by(&["sh", "-c", limited], 1, &more);
+    let mut process = limited(&group, 4096, &["--patience", "1"]);
     connected(&group, 1).await;
     let mut asked = 0;
     let waits = loop {
@@ -348,10 +374,7 @@ async fn a_member_whose_rows_are_full_goes_on_once_there_is_room() {
     };
     assert_eq!((waits.0, &waits.1["error"]), (503, &json!("Waits")));
     assert_eq!(waits.1["engine"]["condition"], json!("full"));
-    let id = process.id().to_string();
-    let words = ["--pid", &id, "--fsize=unlimited:"];
-    let given = std::process::Command::new("prlimit").args(words).status();
-    assert!(given.unwrap().success());
+    give_room(&process);
     let told = post(&group, 1, &call(1, Some(&asked.to_string()), ANN)).await;
     assert_eq!(told.0, 200);
     let state = told_state(&group).await;
