@@ -1,7 +1,8 @@
 //! Groups of one to four members over rows in memory: random schedules in which processes die, are made anew of their row or of an old prefix of
 //! it, run twice, and lose replies. Each schedule is checked from outside, by what callers were told, what rows hold and what processes show.
 //!
-//! `SIMULATION_SCHEDULES` says how many there are. `SIMULATION_SEED` plays one alone, which tells its steps when it fails.
+//! `SIMULATION_SCHEDULES` says how many there are, and `SIMULATION_FIRST` the seed of the first. `SIMULATION_SEED` plays one alone, which tells its
+//! steps when it fails.
 mod checks;
 mod commands;
 #[path = "../judge/mod.rs"]
@@ -91,19 +92,20 @@ fn each_schedule_is_right() {
         return;
     }
     let count = number_of("SIMULATION_SCHEDULES").unwrap_or(SCHEDULES);
+    let first = number_of("SIMULATION_FIRST").unwrap_or(0);
     let mut all = Figures::default();
     let mut histories = Vec::new();
-    for seed in 0..count {
+    for seed in first..first + count {
         let played = catch_unwind(AssertUnwindSafe(|| play(seed, false)));
         let Ok((figures, records)) = played else {
             panic!("schedule {seed} is wrong: SIMULATION_SEED={seed} tells its steps");
         };
         all.add(figures);
-        if seed % (count / PLAYED).max(1) == 0 {
+        if (seed - first).is_multiple_of((count / PLAYED).max(1)) {
             let founding = format!("version = 1\nmembers = 1\n{VOCABULARY}");
             histories.push(History { founding, records });
         }
     }
-    println!("{count} schedules: {all:#?}");
+    println!("{count} schedules from {first} on: {all:?}");
     judge::check(&histories);
 }
