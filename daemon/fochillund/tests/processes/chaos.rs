@@ -196,9 +196,10 @@ fn run(store: &Store, seed: u64) -> Figures {
 /// Runs groups side by side over one store, which things befall too meanwhile.
 fn whatever_befalls(store: &Store, runs: u64) {
     let (mut figures, ends) = (Figures::default(), AtomicBool::new(false));
+    let seeds = seeds(runs);
     std::thread::scope(|scope| {
-        let befalling = scope.spawn(|| store.befall_until(&ends));
-        for few in seeds(runs).chunks(SIDE_BY_SIDE) {
+        let befalling = scope.spawn(|| store.befall_until(&ends, seeds[0]));
+        for few in seeds.chunks(SIDE_BY_SIDE) {
             let running = few
                 .iter()
                 .map(|&seed| scope.spawn(move || run(store, seed)));
@@ -230,22 +231,22 @@ fn whatever_befalls_where_it_can(store: Result<Store, String>, runs: u64) {
 }
 
 #[test]
-fn whatever_befalls_processes_each_call_is_answered_once_and_rightly() {
+fn whatever_befalls_files_each_call_is_answered_once_and_rightly() {
     whatever_befalls(&Store::files(), 40);
 }
 
 #[test]
-fn whatever_befalls_processes_and_a_small_disk_each_call_is_answered_once_and_rightly() {
+fn whatever_befalls_a_small_disk_each_call_is_answered_once_and_rightly() {
     whatever_befalls_where_it_can(Store::small_disk(), 8);
 }
 
 #[test]
-fn whatever_befalls_processes_and_etcd_each_call_is_answered_once_and_rightly() {
+fn whatever_befalls_etcd_each_call_is_answered_once_and_rightly() {
     whatever_befalls(&Store::etcd(), 8);
 }
 
 #[test]
-fn whatever_befalls_processes_and_postgresql_each_call_is_answered_once_and_rightly() {
+fn whatever_befalls_postgresql_each_call_is_answered_once_and_rightly() {
     whatever_befalls(&Store::postgres(), 8);
 }
 

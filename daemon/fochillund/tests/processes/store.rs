@@ -112,8 +112,8 @@ impl Store {
     }
 
     /// Has one thing after the other befall servers and network until it is to end, and tells how often what did.
-    pub fn befall_until(&self, ends: &AtomicBool) -> Figures {
-        let (mut random, mut figures) = (StdRng::seed_from_u64(1), Figures::default());
+    pub fn befall_until(&self, ends: &AtomicBool, seed: u64) -> Figures {
+        let (mut random, mut figures) = (StdRng::seed_from_u64(seed), Figures::default());
         while !ends.load(Ordering::SeqCst) {
             let pause = random.gen_range(200..1500);
             std::thread::sleep(Duration::from_millis(pause));

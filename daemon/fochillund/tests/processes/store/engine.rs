@@ -136,14 +136,14 @@ fn befall_cluster(
     figures: &mut Figures,
 ) {
     match random.gen_range(0..10) {
-        0..=5 => {
+        0..=4 => {
             figures.count("a server killed");
             let leader = cluster.leader();
             cluster.kill_member(leader);
             sleep(lasts);
             cluster.start_member(leader);
         }
-        6..=8 => {
+        5..=7 => {
             figures.count("a server stopped for a while");
             let place = random.gen_range(0..cluster.members());
             cluster.stop_member(place);
@@ -164,10 +164,13 @@ fn befall_cluster(
 fn fill(cluster: &Cluster) -> bool {
     let large = "x".repeat(LARGE);
     let began = Instant::now();
-    while cluster.etcdctl(&["alarm", "list"]).is_empty() && began.elapsed() < LONGEST {
-        cluster.etcdctl_reading(&["put", "other"], &large);
+    while began.elapsed() < LONGEST {
+        let told = cluster.etcdctl_reading(&["put", "other"], &large);
+        if told.is_empty() && !cluster.etcdctl(&["alarm", "list"]).is_empty() {
+            return true;
+        }
     }
-    began.elapsed() < LONGEST
+    false
 }
 
 /// Gives an etcd the room back that others have taken, as an operator does.
