@@ -1,4 +1,19 @@
 //! A member over its row, where it could go wrong: each test is named for what has to hold.
+//!
+//! Of the 14 holes that the study of rows found, each has a test by name, here or where its part is tested, but for 2 to 4 and 13, which are of
+//! generations, and wait for these:
+//!
+//! 1. what is delivered behind an acknowledgement that is lost: `nothing_is_delivered_behind_an_acknowledgement_that_is_not_set`
+//! 2. a seal that is no message; 3. an own seal behind another's; 4. a call between a dump's batches; 13. old rows that are deleted: of generations
+//! 5. a set whose reply was lost: `what_became_of_a_set_is_found_where_replies_are_lost`, of each engine in `rows`
+//! 6. several cells in one set: `cells_are_set_once_in_order_and_together`, of each engine in `rows`
+//! 7. a row that lost its end: `a_row_that_lost_its_end_is_told_at_recovery`, `a_cell_of_another_chain_stops`
+//! 8. what another generation left: `a_cell_of_another_generation_or_member_stops`
+//! 9. a call that is asked elsewhere: `what_is_asked_wrongly_is_refused_and_not_carried_out`, of the processes' callers
+//! 10. other rules: `whoever_joins_with_another_founding_stops`, in `founding`
+//! 11. the end of a row's numbers: `a_row_at_its_limit_refuses_and_what_was_sent_is_answered`
+//! 12. a read of what can be lost: `what_the_standby_may_not_have_is_not_shown`, and the disk that forgets, both in `rows`
+//! 14. two healthy processes: `a_second_process_of_a_member_waits_politely`, of the processes' callers
 use bytes::Bytes;
 use fochillun::{Member, MemberError};
 use fochillund::row_member::{MemberFault, NewCall, Refusal, Reply, MOST_BYTES, MOST_WAITING};
@@ -89,6 +104,27 @@ fn a_message_has_no_effect_before_its_cell_is_set() {
     let record = held.records(1..2).pop().unwrap();
     assert_eq!(told(&mut held), [(1, Ok(vec![record]))]);
     assert_eq!(calls_in(&text), [1]);
+}
+
+#[test]
+fn nothing_is_delivered_behind_an_acknowledgement_that_is_not_set() {
+    let founding = founding(2, "");
+    let (mut one, mut row) = (made_of(&founding, 2, 1, &[]), Vec::new());
+    one.ask(call(None, &add_user("bob")), 1);
+    set(&mut one, &mut row);
+    let mut two = made_of(&founding, 2, 2, &[]);
+    two.put_cell(1, chain_of(&founding, 1).take_sent(&row[0]).unwrap());
+    let (number, acknowledgement) = two.next_cell().unwrap().unwrap();
+    two.turn().unwrap();
+    assert_eq!((number, two.history_length()), (1, 0));
+    assert_eq!(two.taken(), [0, 0]);
+    // Whoever is made anew before it is set may send something earlier, and shows nothing that would stand behind that.
+    let mut anew = made_of(&founding, 2, 2, &[]);
+    anew.ask(call(None, &add_user("eve")), 1);
+    let other = anew.next_cell().unwrap().unwrap();
+    assert!(other.0 == 1 && other.1 != acknowledgement);
+    two.was_set().unwrap();
+    assert_eq!((two.history_length(), two.taken()), (1, vec![1, 1]));
 }
 
 #[test]
@@ -341,6 +377,21 @@ fn a_cell_of_another_chain_stops() {
     chain.take(&row[1]).unwrap();
     let mut elsewhere = chain_of("another founding", 1);
     assert_eq!(elsewhere.take(&row[0]).unwrap_err().why, Why::OtherChain);
+}
+
+#[test]
+fn a_cell_of_another_generation_or_member_stops() {
+    let founding = founding(2, "");
+    let (mut one, mut row) = (made_of(&founding, 2, 1, &[]), Vec::new());
+    one.ask(call(None, &add_user("bob")), 1);
+    set(&mut one, &mut row);
+    for (generation, member) in [(2, 1), (1, 2)] {
+        let name = RowName::of_node("n1", generation).unwrap();
+        let mut chain = Chain::of(name, generation, member, founding.as_bytes());
+        assert_eq!(chain.take(&row[0]).unwrap_err().why, Why::OtherPlace);
+        assert_eq!(chain.take_sent(&row[0]).unwrap_err().why, Why::OtherPlace);
+        assert_eq!(chain.next(), 1);
+    }
 }
 
 #[test]
