@@ -1,18 +1,18 @@
 //! One member's process: its row, the rows of the others, and its callers.
 mod joining;
 mod lock;
+mod take_over;
 
 use crate::callers::{Question, State};
 use crate::engine::{Heard, Place};
 use crate::founding::GENERATION;
-use crate::row_member::{NewCall, Reply, RowMember};
+use crate::row_member::{Reply, RowMember};
 use crate::stop::Stop;
 use bytes::Bytes;
 use joining::{join_group, Joined};
 use lock::Lock;
 use rows::cell::{Cell, Founding, Sent};
 use rows::{sure_set, Engine, Fault, Follower, RowName, Told, SWEEP};
-use serde_json::value::RawValue;
 use std::future::Future;
 use std::path::PathBuf;
 use std::pin::Pin;
@@ -28,9 +28,6 @@ const MOST_RECORDS: u64 = 1000;
 
 /// After this time a set is tried again for which the engine had no room.
 const FULL_PAUSE: Duration = Duration::from_millis(500);
-
-/// A command that changes nothing. By it a process makes a cell of its own, so that it is known which process is the member now.
-const NO_CHANGE: &str = r#"[{"name":"SsdRoleSets"}]"#;
 
 /// What a process is started with.
 #[derive(Clone, Debug)]
@@ -111,13 +108,8 @@ struct Process {
 }
 
 impl Process {
-    fn of(options: &Options, engine: Arc<Heard>, mut joined: Joined) -> Process {
+    fn of(options: &Options, engine: Arc<Heard>, joined: Joined) -> Process {
         let (tell, read) = mpsc::channel(ROOM);
-        if options.takes_over {
-            let commands = RawValue::from_string(NO_CHANGE.to_owned()).expect("it is JSON");
-            let (identity, waiter) = (None, oneshot::channel().0);
-            joined.member.ask(NewCall { identity, commands }, waiter);
-        }
         for (member, follower) in joined.followers {
             tokio::spawn(follow(member, follower, tell.clone()));
         }

@@ -1,4 +1,5 @@
 //! Joining a group: the founding's cell, the member's own row, and the rows of the others.
+use super::take_over::take_over;
 use super::{Options, Waiter};
 use crate::founding::{join, GENERATION};
 use crate::row_member::{check_ends, RowMember};
@@ -25,6 +26,9 @@ pub(super) async fn join_group(
     options: &Options,
 ) -> Result<Joined, Stop> {
     let founding = join(&**engine, &options.founding).await??;
+    if options.takes_over {
+        take_over(&**engine, options, &founding).await?;
+    }
     let (chain, own) = read_own(&**engine, options, &founding).await?;
     let row = chain.row().clone();
     let members = options.founding.nodes.len() as u32;
@@ -62,7 +66,7 @@ pub(super) async fn join_group(
 }
 
 /// The member's own cells, and where the next one goes.
-async fn read_own(
+pub(super) async fn read_own(
     engine: &dyn Engine,
     options: &Options,
     founding: &Bytes,
@@ -80,6 +84,6 @@ fn chain_of(options: &Options, member: u32, founding: &[u8]) -> Chain {
 }
 
 /// A word that no other process has.
-fn writer() -> String {
+pub(super) fn writer() -> String {
     format!("{:032x}", rand::thread_rng().gen::<u128>())
 }

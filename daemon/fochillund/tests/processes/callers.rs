@@ -3,6 +3,7 @@ use crate::group::Group;
 use hyper::client::conn::handshake;
 use hyper::{Body, Method, Request};
 use serde_json::{json, Value};
+use std::path::PathBuf;
 use std::process::Child;
 use std::time::Duration;
 use tokio::net::UnixStream;
@@ -283,6 +284,42 @@ async fn a_member_is_moved_by_one_command() {
     let told: Vec<&str> = records.iter().map(|record| record.get()).collect();
     assert_eq!(told.len(), 2);
     assert!(told[0].contains("AddUser") && told[1].contains("SsdRoleSets"));
+    moved.kill().unwrap();
+    moved.wait().unwrap();
+}
+
+/// Asks a member again and again, until its socket is gone.
+async fn ask_on(folder: PathBuf, caller: u32) {
+    let mut client = fochillund::ask::Members::of(&folder, Duration::ZERO);
+    for call in 0.. {
+        let id = format!("{caller} {call}");
+        if client.call(1, &id, ANN).await.is_err() {
+            return;
+        }
+    }
+}
+
+#[tokio::test]
+async fn a_member_that_is_asked_much_is_moved_by_one_command() {
+    let mut group = Group::started(1);
+    assert_eq!(
+        answers(&post(&group, 1, &call(1, Some("a"), ANN)).await),
+        ["Done"]
+    );
+    let asking = |caller| tokio::spawn(ask_on(group.folder().to_owned(), caller));
+    let asking: Vec<_> = (0..16).map(asking).collect();
+    let there = tempfile::tempdir().unwrap();
+    let rows = group.folder().to_str().unwrap().to_owned();
+    let more = ["--rows", &rows, "--take-over"];
+    let mut moved = group.spawn_in(there.path(), 1, &more);
+    for each in asking {
+        each.await.unwrap();
+    }
+    assert_eq!(ended_of(group.first_process(1)), Some(3));
+    let mut client = fochillund::ask::Members::of(there.path(), Duration::from_secs(60));
+    let told = client.call(1, "b", ANN).await.unwrap();
+    assert_eq!(told.0.as_u16(), 200);
+    assert_eq!(client.state(1).await.unwrap().process, moved.id());
     moved.kill().unwrap();
     moved.wait().unwrap();
 }
