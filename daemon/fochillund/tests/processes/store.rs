@@ -117,21 +117,30 @@ impl Store {
         while !ends.load(Ordering::SeqCst) {
             let pause = random.gen_range(200..1500);
             std::thread::sleep(Duration::from_millis(pause));
-            if let Some(wires) = &self.wires {
-                figures.count(wires.befall(&mut random));
-            }
-            if self.wires.is_none() || random.gen() {
+            if random.gen_ratio(1, 5) {
                 let mut engine = self.engine.lock().unwrap();
-                engine.befall(&mut random, &mut figures);
+                engine.be_full(&mut random, &mut figures);
             } else {
-                let lasts = random.gen_range(200..2500);
-                std::thread::sleep(Duration::from_millis(lasts));
-            }
-            if let Some(wires) = &self.wires {
-                wires.mend();
+                self.befall(&mut random, &mut figures);
             }
             self.engine.lock().unwrap().mend();
         }
         figures
+    }
+
+    /// Something befalls the network, or a server, or both at one time.
+    fn befall(&self, random: &mut StdRng, figures: &mut Figures) {
+        if let Some(wires) = &self.wires {
+            figures.count(wires.befall(random));
+        }
+        if self.wires.is_none() || random.gen() {
+            self.engine.lock().unwrap().befall(random, figures);
+        } else {
+            let lasts = random.gen_range(200..2500);
+            std::thread::sleep(Duration::from_millis(lasts));
+        }
+        if let Some(wires) = &self.wires {
+            wires.mend();
+        }
     }
 }

@@ -17,7 +17,7 @@ const QUOTA: usize = 48 << 20;
 /// A value that fills it up with others.
 const LARGE: usize = 1 << 20;
 
-/// So long an etcd has until it is mended.
+/// So long an etcd has until it is full, and until it has room again.
 const LONGEST: Duration = Duration::from_secs(120);
 
 /// What has the rows of all groups.
@@ -103,20 +103,36 @@ impl Engine {
         words.map(str::to_owned).to_vec()
     }
 
-    /// Something befalls it for a while, and is counted.
+    /// Something befalls its servers for a while, and is counted.
     pub fn befall(&mut self, random: &mut StdRng, figures: &mut Figures) {
         let lasts = Duration::from_millis(random.gen_range(0..800));
         match self {
-            Engine::Files => {}
-            Engine::SmallDisk(disk) => {
-                figures.count("a full disk");
+            Engine::Files | Engine::SmallDisk(_) => {}
+            Engine::Etcd(cluster) => befall_cluster(cluster, lasts, random, figures),
+            Engine::Postgres(it) => it.befall(lasts, random, figures),
+        }
+    }
+
+    /// It has no room for a while, and that is counted.
+    pub fn be_full(&mut self, random: &mut StdRng, figures: &mut Figures) {
+        let lasts = Duration::from_millis(random.gen_range(0..800));
+        match self {
+            Engine::SmallDisk(disk)
+            | Engine::Postgres(Postgres {
+                disk: Some(disk), ..
+            }) => {
                 disk.fill();
                 sleep(lasts);
                 disk.make_room();
             }
-            Engine::Etcd(cluster) => befall_cluster(cluster, lasts, random, figures),
-            Engine::Postgres(it) => it.befall(lasts, random, figures),
+            Engine::Etcd(cluster) => {
+                fill(cluster);
+                sleep(lasts);
+                make_room(cluster);
+            }
+            _ => return,
         }
+        figures.count("a full engine");
     }
 
     /// Starts again what has ended by itself.
@@ -136,41 +152,31 @@ fn befall_cluster(
     figures: &mut Figures,
 ) {
     match random.gen_range(0..10) {
-        0..=4 => {
+        0..=5 => {
             figures.count("a server killed");
             let leader = cluster.leader();
             cluster.kill_member(leader);
             sleep(lasts);
             cluster.start_member(leader);
         }
-        5..=7 => {
+        _ => {
             figures.count("a server stopped for a while");
             let place = random.gen_range(0..cluster.members());
             cluster.stop_member(place);
             sleep(lasts * 3);
             cluster.resume_member(place);
         }
-        _ => {
-            if fill(cluster) {
-                figures.count("a full engine");
-            }
-            sleep(lasts);
-            make_room(cluster);
-        }
     }
 }
 
-/// Puts what is none of a group's rows until there is no room. Tells whether that was reached.
-fn fill(cluster: &Cluster) -> bool {
+/// Puts what is none of a group's rows until there is no room.
+fn fill(cluster: &Cluster) {
     let large = "x".repeat(LARGE);
     let began = Instant::now();
-    while began.elapsed() < LONGEST {
-        let told = cluster.etcdctl_reading(&["put", "other"], &large);
-        if told.is_empty() && !cluster.etcdctl(&["alarm", "list"]).is_empty() {
-            return true;
-        }
+    let put = || cluster.etcdctl_reading(&["put", "other"], &large);
+    while !put().is_empty() || cluster.etcdctl(&["alarm", "list"]).is_empty() {
+        assert!(began.elapsed() < LONGEST, "etcd is never full");
     }
-    false
 }
 
 /// Gives an etcd the room back that others have taken, as an operator does.
@@ -193,20 +199,14 @@ fn answers(cluster: &Cluster) -> bool {
 
 impl Postgres {
     fn befall(&mut self, lasts: Duration, random: &mut StdRng, figures: &mut Figures) {
-        match (random.gen_range(0..10), &self.disk) {
-            (0..=2, Some(disk)) => {
-                figures.count("a full engine");
-                disk.fill();
-                sleep(lasts);
-                disk.make_room();
-            }
-            (0..=5, _) => {
+        match random.gen_range(0..10) {
+            0..=5 => {
                 figures.count("a server killed");
                 self.server.kill();
                 sleep(lasts);
                 self.server.go_on();
             }
-            (6 | 7, _) => {
+            6 | 7 => {
                 figures.count("a server stopped for a while");
                 self.server.stop();
                 sleep(lasts * 3);
