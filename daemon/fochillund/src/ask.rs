@@ -141,9 +141,7 @@ impl Members {
     async fn ask_line(&mut self, line: Line) -> io::Result<Result<Box<RawValue>, String>> {
         let commands = format!("[{}]", line.command.get());
         let id = format!("{:032x}", rand::thread_rng().gen::<u128>());
-        let Some((status, body)) = self.call(line.at, &id, &commands).await? else {
-            return Ok(Err("UnknownMember".to_owned()));
-        };
+        let (status, body) = self.call(line.at, &id, &commands).await?;
         if status != StatusCode::OK {
             let told: Refused = serde_json::from_slice(&body)?;
             return Ok(Err(told.error));
@@ -155,23 +153,19 @@ impl Members {
     }
 
     /// Asks a call of the group's member of this number, and again by its id where the member went meanwhile, or waits. A call that its generation
-    /// has ended without is asked of the member of that number in the next. None where there is no such member.
+    /// has ended without is asked of the member of that number in the next. Where there is no such member it is told so as of a path that is not there.
     ///
     /// # Errors
     /// Where the member did not answer for as long as is waited.
-    pub async fn call(
-        &mut self,
-        member: u32,
-        id: &str,
-        commands: &str,
-    ) -> io::Result<Option<Told>> {
+    pub async fn call(&mut self, member: u32, id: &str, commands: &str) -> io::Result<Told> {
         let began = Instant::now();
         let mut group = self.known(0).await?;
         let mut is_first = true;
         loop {
             let at = (member as usize).checked_sub(1);
             let Some(node) = at.and_then(|at| group.nodes.get(at)).cloned() else {
-                return Ok(None);
+                let told = json!({ "error": "UnknownMember" });
+                return Ok((StatusCode::NOT_FOUND, told.to_string().into_bytes()));
             };
             let body = format!(
                 r#"{{"generation":{},"member":{member},"id":{},"commands":{commands}}}"#,
@@ -181,8 +175,8 @@ impl Members {
             let told = self.post(&node, &body).await;
             let is_last = began.elapsed() > self.patience;
             match next_of(&told, is_first) {
-                Next::Told => return told.map(Some),
-                Next::Again if is_last => return told.map(Some),
+                Next::Told => return told,
+                Next::Again if is_last => return told,
                 Next::Again => tokio::time::sleep(PAUSE).await,
                 Next::In(generation) => group = self.known(generation).await?,
             }

@@ -1,5 +1,6 @@
 //! Generations: what each is founded with, by the cells of the founding's row.
 use crate::founding::{sent_limit_of, with_members, FoundingFault, RULES};
+use crate::process::OwnRow;
 use crate::row_member::Dump;
 use bytes::Bytes;
 use fochillun::{Monitor, OpenError};
@@ -41,12 +42,17 @@ impl Generation {
 
     /// The start of a member's row.
     pub fn chain(&self, member: u32) -> Chain {
-        chain(
-            self.number,
-            &self.nodes[member as usize - 1],
+        let node = &self.nodes[member as usize - 1];
+        chain(self.number, node, member, &self.cell)
+    }
+
+    /// A member's row.
+    pub fn row(&self, member: u32) -> OwnRow {
+        OwnRow {
+            chain: self.chain(member),
             member,
-            &self.cell,
-        )
+            members: self.nodes.len(),
+        }
     }
 }
 
@@ -171,11 +177,16 @@ impl Foundings {
         &self.cells[number as usize - 1].0.nodes
     }
 
-    /// The start of the row of a node in a generation, and which member it is there; none where it is none.
-    pub fn chain_of(&self, number: u64, node: &str) -> Option<(u32, Chain)> {
-        let at = self.nodes(number).iter().position(|named| named == node)?;
+    /// The row of a node in a generation; none where it is no member there.
+    pub fn row_of(&self, number: u64, node: &str) -> Option<OwnRow> {
+        let nodes = self.nodes(number);
+        let at = nodes.iter().position(|named| named == node)?;
         let member = at as u32 + 1;
-        Some((member, chain(number, node, member, self.text(number))))
+        Some(OwnRow {
+            chain: chain(number, node, member, self.text(number)),
+            member,
+            members: nodes.len(),
+        })
     }
 
     /// The text of a generation's cell.

@@ -6,14 +6,13 @@ mod lock;
 mod sealing;
 mod survey;
 
-pub use sealing::seal_row;
+pub use sealing::{seal_row, OwnRow};
 pub use survey::survey;
 
 use crate::callers::{Question, State};
 use crate::engine::{Heard, Place};
 use crate::founding::NewGroup;
-use crate::node::{Asked, NextCell, Node, NodeFault, Phase, Reply};
-use crate::row_member::NewCall;
+use crate::node::{NextCell, Node, NodeFault, Phase, Reply};
 use crate::stop::Stop;
 use following::{Following, Read};
 use founded::{base_of, founded};
@@ -21,7 +20,6 @@ use leaving::Leaving;
 use lock::Lock;
 use rand::Rng;
 use rows::{sure_get, sure_set, Engine, Fault, RowName, Told};
-use serde_json::value::RawValue;
 use std::future::Future;
 use std::path::PathBuf;
 use std::pin::Pin;
@@ -37,9 +35,6 @@ const MOST_RECORDS: u64 = 1000;
 
 /// After this time a set is tried again for which the engine had no room.
 const FULL_PAUSE: Duration = Duration::from_millis(500);
-
-/// A command that changes nothing. By it a process makes a cell of its own, so that it is known which process is the member now.
-const NO_CHANGE: &str = r#"[{"name":"SsdRoleSets"}]"#;
 
 /// What a process is started with.
 #[derive(Clone, Debug)]
@@ -118,7 +113,6 @@ async fn start(options: &Options) -> Result<Stop, Stop> {
         cells,
         began.elapsed().as_millis()
     );
-    process.take_over();
     Ok(process.go_on(asked).await)
 }
 
@@ -141,7 +135,6 @@ pub fn writer() -> String {
 struct Process {
     node: Node<Waiter>,
     writer: String,
-    takes_over: bool,
     name: Option<String>,
     engine: Arc<Heard>,
     following: Following,
@@ -156,35 +149,17 @@ impl Process {
         let writer = writer();
         let node = Node::begin(options.node.as_deref(), &writer, foundings, base)?;
         let as_engine: Arc<dyn Engine> = Arc::clone(&engine) as _;
-        let following = Following::of(as_engine, node.foundings().latest()).await?;
+        let latest = node.foundings().latest();
+        let following = Following::of(as_engine, latest, options.takes_over);
         Ok(Process {
             leaving: Leaving::of(options, Arc::clone(&engine), &writer),
             node,
             writer,
-            takes_over: options.takes_over,
             name: options.node.clone(),
             engine,
             following,
             setting: None,
         })
-    }
-
-    /// Sets a cell that changes nothing, by which each other process of the node is fenced.
-    fn take_over(&mut self) {
-        if let (true, Some(member)) = (self.takes_over, self.node.member()) {
-            let commands = RawValue::from_string(NO_CHANGE.to_owned()).expect("it is JSON");
-            let call = NewCall {
-                identity: None,
-                commands,
-            };
-            let generation = self.node.generation().number;
-            let asked = Asked {
-                generation,
-                member,
-                call,
-            };
-            self.node.ask(asked, oneshot::channel().0);
-        }
     }
 
     /// Reads the rows of the generation that goes on, and of each that it leads to.

@@ -152,10 +152,9 @@ async fn seal_left_out(
     for generation in generations {
         let named = foundings.nodes(generation);
         for node in named.iter().filter(|node| !nodes.contains(node)) {
-            let (member, chain) = foundings
-                .chain_of(generation, node)
-                .expect("it is one of the nodes");
-            seal_row(engine, chain, member, named.len(), writer).await?;
+            let row = foundings.row_of(generation, node);
+            let row = row.expect("it is one of the nodes");
+            seal_row(engine, row, writer).await?;
         }
     }
     Ok(())

@@ -1,4 +1,21 @@
 //! A member over its row, where it could go wrong: each test is named for what has to hold.
+//!
+//! Of the 14 holes that the study of rows found, each has a test by name, here or where its part is tested:
+//!
+//! 1. what is delivered behind an acknowledgement that is lost: `nothing_is_delivered_behind_an_acknowledgement_that_is_not_set`
+//! 2. a seal that is no message: `a_seal_is_an_acknowledgement_that_ends_a_row`, in `generations`
+//! 3. an own seal behind another's: `another_seal_waits_for_the_own_one`, in `generations`
+//! 4. a call between a dump's batches: `nobody_sends_a_call_before_it_has_the_dump`, in `generations`
+//! 5. a set whose reply was lost: `what_became_of_a_set_is_found_where_replies_are_lost`, of each engine in `rows`
+//! 6. several cells in one set: `cells_are_set_once_in_order_and_together`, of each engine in `rows`
+//! 7. a row that lost its end: `a_row_that_lost_its_end_is_told_at_recovery`, `a_cell_of_another_chain_stops`
+//! 8. what another generation left: `a_cell_of_another_generation_or_member_stops`
+//! 9. a call that is asked elsewhere: `what_is_asked_wrongly_is_refused_and_not_carried_out`, of the processes' callers
+//! 10. other rules: `whoever_joins_with_another_founding_stops`, in `process`
+//! 11. the end of a row's numbers: `a_row_at_its_limit_refuses_and_what_was_sent_is_answered`
+//! 12. a read of what can be lost: `what_the_standby_may_not_have_is_not_shown`, and the disk that forgets, both in `rows`
+//! 13. old rows that are deleted: `a_trimmed_row_keeps_its_end_and_never_begins_anew`, of each engine in `rows`
+//! 14. two healthy processes: `a_second_process_of_a_member_waits_politely`, of the processes' callers
 use bytes::Bytes;
 use fochillun::{Member, MemberError};
 use fochillund::generation::{Foundings, Generation};
@@ -7,6 +24,7 @@ use fochillund::row_member::{
 };
 use fochillund::{check_ends, RowMember};
 use rows::cell::{Cell, Chain, Identity, Why};
+use rows::RowName;
 use serde_json::value::RawValue;
 
 type Held = RowMember<u32>;
@@ -101,6 +119,28 @@ fn a_message_has_no_effect_before_its_cell_is_set() {
     let record = held.records(1..2).pop().unwrap();
     assert_eq!(told(&mut held), [(1, Ok(vec![record]))]);
     assert_eq!(calls_in(&text), [1]);
+}
+
+#[test]
+fn nothing_is_delivered_behind_an_acknowledgement_that_is_not_set() {
+    let founding = founding(2, "");
+    let (mut one, mut row) = (made_of(&founding, 2, 1, &[]), Vec::new());
+    one.ask(call(None, &add_user("bob")), 1);
+    set(&mut one, &mut row);
+    let mut two = made_of(&founding, 2, 2, &[]);
+    two.put_cell(1, chain_of(&founding, 1).take_sent(&row[0]).unwrap())
+        .unwrap();
+    let (number, acknowledgement) = two.next_cell().unwrap().unwrap();
+    two.turn().unwrap();
+    assert_eq!((number, two.history_length()), (1, 0));
+    assert_eq!(two.taken(), [0, 0]);
+    // Whoever is made anew before it is set may send something earlier, and shows nothing that would stand behind that.
+    let mut anew = made_of(&founding, 2, 2, &[]);
+    anew.ask(call(None, &add_user("eve")), 1);
+    let other = anew.next_cell().unwrap().unwrap();
+    assert!(other.0 == 1 && other.1 != acknowledgement);
+    two.was_set().unwrap();
+    assert_eq!((two.history_length(), two.taken()), (1, vec![1, 1]));
 }
 
 #[test]
@@ -361,6 +401,21 @@ fn a_cell_of_another_chain_stops() {
 }
 
 #[test]
+fn a_cell_of_another_generation_or_member_stops() {
+    let founding = founding(2, "");
+    let (mut one, mut row) = (made_of(&founding, 2, 1, &[]), Vec::new());
+    one.ask(call(None, &add_user("bob")), 1);
+    set(&mut one, &mut row);
+    for (generation, member) in [(2, 1), (1, 2)] {
+        let name = RowName::of_node("n1", generation).unwrap();
+        let mut chain = Chain::of(name, generation, member, founding.as_bytes());
+        assert_eq!(chain.take(&row[0]).unwrap_err().why, Why::OtherPlace);
+        assert_eq!(chain.take_sent(&row[0]).unwrap_err().why, Why::OtherPlace);
+        assert_eq!(chain.next(), 1);
+    }
+}
+
+#[test]
 fn what_is_no_command_is_refused_and_sends_nothing() {
     let founding = founding(1, "");
     let mut held = made_of(&founding, 1, 1, &[]);
@@ -375,4 +430,50 @@ fn what_is_no_command_is_refused_and_sends_nothing() {
         assert_eq!(refusal, Refusal::Commands(why), "{commands}");
     }
     assert_eq!(held.next_cell().unwrap(), None);
+}
+
+/// A member reads so many more cells of another's row.
+fn read(held: &mut Held, chain: &mut Chain, row: &[Bytes], cells: usize) {
+    let from = chain.next() as usize - 1;
+    for text in &row[from..from + cells] {
+        let cell = chain.take_sent(text).unwrap();
+        let member = if chain.row().as_str() == "n1/g1" {
+            1
+        } else {
+            2
+        };
+        held.put_cell(member, cell).unwrap();
+    }
+}
+
+#[test]
+fn a_message_that_wants_an_acknowledgement_no_more_is_taken_without_any_event() {
+    let founding = founding(2, "");
+    let (mut one, mut row) = (made_of(&founding, 2, 1, &[]), Vec::new());
+    let (mut two, mut theirs) = (made_of(&founding, 2, 2, &[]), Vec::new());
+    let [mut of_one, mut of_two] = [1, 2].map(|member| chain_of(&founding, member));
+    let asked = |held: &mut Held, user: &str| held.ask(call(None, &add_user(user)), 1);
+    for user in ["ann", "bob"] {
+        asked(&mut two, user);
+        set(&mut two, &mut theirs);
+    }
+    read(&mut one, &mut of_two, &theirs, 1);
+    asked(&mut one, "cat");
+    asked(&mut two, "dan");
+    // This set is not told yet.
+    theirs.push(two.next_cell().unwrap().unwrap().1);
+    read(&mut one, &mut of_two, &theirs, 1);
+    set(&mut one, &mut row);
+    set(&mut one, &mut row);
+    read(&mut one, &mut of_two, &theirs, 1);
+    asked(&mut one, "eve");
+    set(&mut one, &mut row);
+    read(&mut two, &mut of_one, &row, 3);
+    asked(&mut two, "joe");
+    two.was_set().unwrap();
+    // An acknowledgement, then the call: behind it the last message of the other one, which wanted one too, wants none.
+    set(&mut two, &mut theirs);
+    set(&mut two, &mut theirs);
+    assert_eq!(two.next_cell().unwrap(), None);
+    assert_eq!(two.taken(), [3, 5]);
 }

@@ -1,13 +1,15 @@
-//! A cluster of etcd on this machine, that a test starts, kills, and starts again.
+//! A cluster of etcd, that a test starts, kills, and starts again.
+use crate::host::{command_of, Host};
 use nix::sys::signal::{kill, Signal};
 use nix::unistd::Pid;
 use rand::Rng;
 use serde_json::Value;
 use std::collections::HashSet;
 use std::fs::File;
+use std::io::Write;
 use std::net::TcpListener;
 use std::path::PathBuf;
-use std::process::{Child, Command, Stdio};
+use std::process::{Child, Stdio};
 use std::sync::{Mutex, PoisonError};
 use std::time::{Duration, Instant};
 use tempfile::TempDir;
@@ -24,6 +26,10 @@ pub struct Setup {
     pub certificate: Option<Certificate>,
     /// The words of a program that starts each member, in place of this one.
     pub by: Vec<String>,
+    /// Where each member runs; where none is named, all on this machine itself.
+    pub hosts: Vec<Host>,
+    /// Where an operator sits.
+    pub operator: Host,
 }
 
 /// Files in PEM.
@@ -61,6 +67,7 @@ pub struct Cluster {
 
 struct Member {
     name: String,
+    host: Host,
     /// Where clients find it, and the other members.
     ports: [u16; 2],
     process: Option<Child>,
@@ -79,6 +86,10 @@ pub fn free_port() -> u16 {
     }
 }
 
+fn address_of(member: &Member) -> String {
+    format!("{}:{}", member.host.address, member.ports[0])
+}
+
 impl Cluster {
     /// Starts a cluster, and waits until it answers.
     pub async fn start(members: usize, setup: Setup) -> Cluster {
@@ -90,8 +101,9 @@ impl Cluster {
     /// Starts a cluster.
     pub fn begin(members: usize, setup: Setup) -> Cluster {
         let folder = tempfile::Builder::new().tempdir_in("/var/tmp").unwrap();
-        let member = |number| Member {
+        let member = |number: usize| Member {
             name: format!("e{number}"),
+            host: setup.hosts.get(number).cloned().unwrap_or_default(),
             ports: [free_port(), free_port()],
             process: None,
         };
@@ -116,12 +128,11 @@ impl Cluster {
         if self.members[place].process.is_some() {
             return;
         }
-        let words = self.words_of(&self.members[place]);
+        let member = &self.members[place];
+        let (host, words) = (member.host.words(), self.words_of(member));
         let log = self.folder.path().join("log");
         let log = File::options().create(true).append(true).open(log).unwrap();
-        let mut words = [self.setup.by.clone(), words].concat().into_iter();
-        let process = Command::new(words.next().unwrap())
-            .args(words)
+        let process = command_of(&[host, self.setup.by.clone(), words].concat())
             .stdin(Stdio::null())
             .stdout(log.try_clone().unwrap())
             .stderr(log)
@@ -131,7 +142,7 @@ impl Cluster {
     }
 
     fn words_of(&self, member: &Member) -> Vec<String> {
-        let peer = |member: &Member| format!("http://127.0.0.1:{}", member.ports[1]);
+        let peer = |member: &Member| format!("http://{}:{}", member.host.address, member.ports[1]);
         let all = self.members.iter();
         let all = all.map(|member| format!("{}={}", member.name, peer(member)));
         let all = all.collect::<Vec<_>>().join(",");
@@ -163,7 +174,7 @@ impl Cluster {
     fn url(&self, member: &Member) -> String {
         match self.setup.certificate {
             Some(_) => format!("https://localhost:{}", member.ports[0]),
-            None => format!("http://127.0.0.1:{}", member.ports[0]),
+            None => format!("http://{}", address_of(member)),
         }
     }
 
@@ -185,11 +196,19 @@ impl Cluster {
         }
     }
 
-    /// Has a member hang, until it is killed.
+    /// Has a member hang, until it goes on or is killed.
     pub fn stop_member(&self, place: usize) {
+        self.signal(place, Signal::SIGSTOP);
+    }
+
+    /// Has a member that hangs go on.
+    pub fn resume_member(&self, place: usize) {
+        self.signal(place, Signal::SIGCONT);
+    }
+
+    fn signal(&self, place: usize, signal: Signal) {
         let process = self.members[place].process.as_ref().unwrap().id();
-        let process = Pid::from_raw(process as i32);
-        kill(process, Signal::SIGSTOP).unwrap();
+        kill(Pid::from_raw(process as i32), signal).unwrap();
     }
 
     /// Kills all members.
@@ -202,9 +221,9 @@ impl Cluster {
         self.members.len()
     }
 
-    /// Where clients find the members.
-    pub fn ports(&self) -> impl Iterator<Item = u16> + '_ {
-        self.members.iter().map(|member| member.ports[0])
+    /// Where clients find the members: address and port.
+    pub fn addresses(&self) -> impl Iterator<Item = String> + '_ {
+        self.members.iter().map(address_of)
     }
 
     /// The place of the leader; of the first member that runs while there is none.
@@ -225,13 +244,23 @@ impl Cluster {
 
     /// What etcd's own client prints; as the operator, where only users are let in.
     pub fn etcdctl(&self, words: &[&str]) -> String {
-        let mut command = Command::new("etcdctl");
+        self.etcdctl_reading(words, "")
+    }
+
+    /// The same, where it reads what the words leave out.
+    pub fn etcdctl_reading(&self, words: &[&str], input: &str) -> String {
+        let mut command = self.setup.operator.command("etcdctl");
         command.env("ETCDCTL_API", "3");
         if self.has_users {
             command.env("ETCDCTL_USER", "root:root's");
         }
         let endpoints = format!("--endpoints={}", self.urls());
-        let told = command.arg(endpoints).args(words).output().unwrap();
+        command.arg(endpoints).args(words).stdin(Stdio::piped());
+        let piped = command.stdout(Stdio::piped()).stderr(Stdio::null());
+        let mut process = piped.spawn().unwrap();
+        // One that needs it not may have ended.
+        let _ = process.stdin.take().unwrap().write_all(input.as_bytes());
+        let told = process.wait_with_output().unwrap();
         String::from_utf8(told.stdout).unwrap()
     }
 

@@ -1,7 +1,9 @@
 //! A server of PostgreSQL for a test: in a folder of its own, as a user that is not root, and killed at the end.
+use crate::host::{command_of, Host};
 use nix::sys::signal::{kill, Signal};
 use nix::unistd::{Pid, Uid};
 use std::fs::{self, File};
+use std::io::Write;
 use std::os::unix::fs::chown;
 use std::path::{Path, PathBuf};
 use std::process::{Child, Command, Stdio};
@@ -15,24 +17,37 @@ const PROGRAMS: &str = "/usr/lib/postgresql/15/bin";
 const USER: &str = "postgres";
 const PATIENCE: Duration = Duration::from_secs(120);
 
-/// A program of PostgreSQL, which does not run as root.
-fn program(name: &str) -> Command {
+/// The words of a program of PostgreSQL, which does not run as root.
+fn words_of_program(name: &str) -> Vec<String> {
     let path = format!("{PROGRAMS}/{name}");
     assert!(
         Path::new(&path).exists(),
         "apt-get install postgresql-15: there is no {path}"
     );
-    if !Uid::effective().is_root() {
-        return Command::new(path);
-    }
-    let mut command = Command::new("setpriv");
-    command.args(["--reuid", USER, "--regid", USER, "--clear-groups", &path]);
-    command
+    let user = [
+        "setpriv",
+        "--reuid",
+        USER,
+        "--regid",
+        USER,
+        "--clear-groups",
+    ]
+    .map(str::to_owned);
+    let user = Uid::effective().is_root().then_some(user);
+    user.into_iter().flatten().chain([path]).collect()
+}
+
+fn program(name: &str) -> Command {
+    command_of(&words_of_program(name))
 }
 
 /// A folder of the user that servers run as.
 fn folder() -> TempDir {
-    let folder = tempfile::tempdir().unwrap();
+    folder_in(&std::env::temp_dir())
+}
+
+fn folder_in(place: &Path) -> TempDir {
+    let folder = tempfile::tempdir_in(place).unwrap();
     give(folder.path());
     folder
 }
@@ -83,10 +98,33 @@ fn new_data() -> Arc<TempDir> {
     })
 }
 
+/// How a server is started.
+#[derive(Clone, Default)]
+pub struct Setup {
+    /// Settings `name=value`.
+    pub settings: Vec<String>,
+    /// The words of a program that starts it.
+    pub by: Vec<String>,
+    /// Where it runs. On a host of a network, clients of that network find it.
+    pub host: Host,
+    /// In which folder its own is made; where none is named, in that of all folders that last for a while.
+    pub place: Option<PathBuf>,
+}
+
+impl Setup {
+    /// With these settings.
+    pub fn of(settings: &[&str]) -> Setup {
+        Setup {
+            settings: settings.iter().map(|&it| it.to_owned()).collect(),
+            ..Setup::default()
+        }
+    }
+}
+
 /// Ends with all its processes and its folder.
 pub struct Server {
     folder: TempDir,
-    settings: Vec<String>,
+    setup: Setup,
     postmaster: Option<Child>,
     _new_data: Option<Arc<TempDir>>,
 }
@@ -94,13 +132,18 @@ pub struct Server {
 impl Server {
     /// A server with settings `name=value`.
     pub fn start(settings: &[&str]) -> Server {
+        Server::start_as(Setup::of(settings))
+    }
+
+    /// A server that is started so.
+    pub fn start_as(setup: Setup) -> Server {
         let new_data = new_data();
-        let folder = folder();
+        let folder = setup.place.as_deref().map_or_else(folder, folder_in);
         run(Command::new("cp")
             .arg("-a")
             .arg(new_data.path().join("data"))
             .arg(folder.path()));
-        Server::of(folder, settings, Some(new_data))
+        Server::of(folder, setup, Some(new_data))
     }
 
     /// A server that several tests have at one time.
@@ -117,18 +160,41 @@ impl Server {
             .arg(primary.path())
             .arg("-D")
             .arg(folder.path().join("data")));
-        Server::of(folder, &[&format!("cluster_name={name}")], None)
+        let setup = Setup::of(&[&format!("cluster_name={name}")]);
+        Server::of(folder, setup, None)
     }
 
-    fn of(folder: TempDir, settings: &[&str], new_data: Option<Arc<TempDir>>) -> Server {
+    fn of(folder: TempDir, setup: Setup, new_data: Option<Arc<TempDir>>) -> Server {
         let mut server = Server {
             folder,
-            settings: settings.iter().map(|&it| it.to_owned()).collect(),
+            setup,
             postmaster: None,
             _new_data: new_data,
         };
+        server.let_the_network_in();
         server.go_on();
         server
+    }
+
+    /// Lets the hosts of its network in, where it has one.
+    fn let_the_network_in(&self) {
+        if self.setup.host.namespace.is_some() {
+            let rules = File::options().append(true).open(self.file("pg_hba.conf"));
+            rules
+                .and_then(|mut rules| rules.write_all(b"host all all samenet trust\n"))
+                .unwrap();
+        }
+    }
+
+    /// Where clients of its network find it: address and port.
+    pub fn address(&self) -> String {
+        format!("{}:{}", self.setup.host.address, self.port())
+    }
+
+    fn port(&self) -> &str {
+        let settings = &self.setup.settings;
+        let port = settings.iter().find_map(|it| it.strip_prefix("port="));
+        port.unwrap_or("5432")
     }
 
     /// Its folder, where its socket is too.
@@ -143,8 +209,7 @@ impl Server {
 
     /// The words of a connection of a role.
     pub fn words(&self, role: &str) -> String {
-        let port = self.settings.iter().find_map(|it| it.strip_prefix("port="));
-        let (host, port) = (self.path().display(), port.unwrap_or("5432"));
+        let (host, port) = (self.path().display(), self.port());
         format!("host={host} port={port} user={role} dbname=postgres")
     }
 
@@ -192,18 +257,22 @@ impl Server {
         }
         let log = self.path().join("log");
         let log = File::options().create(true).append(true).open(log).unwrap();
+        let Setup { host, by, .. } = &self.setup;
+        let listens = match host.namespace {
+            Some(_) => host.address.as_str(),
+            None => "",
+        };
         let own = [
-            "listen_addresses=",
+            &format!("listen_addresses={listens}"),
             "shared_buffers=16MB",
             "max_connections=60",
         ];
-        let mut command = program("postgres");
+        let words = [host.words(), by.clone(), words_of_program("postgres")].concat();
+        let mut command = command_of(&words);
         command.arg("-D").arg(self.path().join("data"));
         command.arg("-k").arg(self.path());
-        for setting in own
-            .into_iter()
-            .chain(self.settings.iter().map(String::as_str))
-        {
+        let settings = self.setup.settings.iter().map(String::as_str);
+        for setting in own.into_iter().chain(settings) {
             command.args(["-c", setting]);
         }
         command
@@ -229,6 +298,29 @@ impl Server {
         }
         let log = fs::read_to_string(self.path().join("log")).unwrap_or_default();
         panic!("the server does not start: {log}");
+    }
+
+    /// Whether it has ended by itself.
+    pub fn has_ended(&mut self) -> bool {
+        let postmaster = self.postmaster.as_mut();
+        postmaster.is_none_or(|it| it.try_wait().unwrap().is_some())
+    }
+
+    /// Has all its processes hang, until they go on or are killed.
+    pub fn stop(&self) {
+        self.signal(Signal::SIGSTOP);
+    }
+
+    /// Has processes that hang go on.
+    pub fn resume(&self) {
+        self.signal(Signal::SIGCONT);
+    }
+
+    fn signal(&self, signal: Signal) {
+        for process in processes_in(&self.path().join("data")) {
+            // One that has ended meanwhile is none.
+            let _ = kill(process, signal);
+        }
     }
 
     /// Kills all its processes at once, as a crash of its machine does but for what the kernel holds. None of them is left then: one that was

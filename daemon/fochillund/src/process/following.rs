@@ -1,4 +1,5 @@
 //! The rows of the generation that goes on, and the founding's row, as they grow.
+use super::sealing::take_over;
 use crate::generation::Generation;
 use crate::node::Node;
 use crate::row_member::check_ends;
@@ -35,6 +36,8 @@ pub(super) struct Following {
     engine: Arc<dyn Engine>,
     /// Of which generation rows are read; 0 of none yet.
     generation: u64,
+    /// Whether a cell is set in the node's row before it is read.
+    takes_over: bool,
     tell: mpsc::Sender<Read>,
     read: mpsc::Receiver<Read>,
     rows: JoinSet<()>,
@@ -43,7 +46,7 @@ pub(super) struct Following {
 
 impl Following {
     /// Follows the founding's row behind so many cells.
-    pub(super) async fn of(engine: Arc<dyn Engine>, foundings: u64) -> Result<Following, Stop> {
+    pub(super) fn of(engine: Arc<dyn Engine>, foundings: u64, takes_over: bool) -> Following {
         let (tell, read) = mpsc::channel(super::ROOM);
         let mut tasks = JoinSet::new();
         tasks.spawn(follow_foundings(
@@ -51,14 +54,15 @@ impl Following {
             foundings + 1,
             tell.clone(),
         ));
-        Ok(Following {
+        Following {
             engine,
             generation: 0,
+            takes_over,
             tell,
             read,
             rows: JoinSet::new(),
             _foundings: tasks,
-        })
+        }
     }
 
     pub(super) fn generation(&self) -> u64 {
@@ -78,9 +82,12 @@ impl Following {
     pub(super) async fn go_to<W>(&mut self, node: &mut Node<W>, writer: &str) -> Result<(), Stop> {
         self.rows.abort_all();
         let generation = node.generation().clone();
-        let own = match node.wants_own_row() {
-            Some(chain) => Some(self.read_own(chain).await?),
-            None => None,
+        let own = match (node.wants_own_row(), node.member()) {
+            (Some(chain), Some(member)) => {
+                self.take_over(&generation, member, writer).await?;
+                Some(self.read_own(chain).await?)
+            }
+            _ => None,
         };
         let (mut followers, mut there) = (Vec::new(), vec![0; generation.nodes.len()]);
         let mut read = Vec::new();
@@ -108,6 +115,20 @@ impl Following {
         }
         self.generation = generation.number;
         Ok(())
+    }
+
+    /// Sets a cell in the node's row, where it is to be taken over from another process.
+    async fn take_over(
+        &self,
+        generation: &Generation,
+        member: u32,
+        writer: &str,
+    ) -> Result<(), Stop> {
+        if !self.takes_over {
+            return Ok(());
+        }
+        let (row, limit) = (generation.row(member), generation.sent_limit());
+        take_over(&*self.engine, row, writer, limit).await
     }
 
     async fn read_own(&self, mut chain: Chain) -> Result<(Chain, Vec<Cell>), Stop> {

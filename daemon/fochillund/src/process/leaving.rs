@@ -1,6 +1,6 @@
 //! What a member does for its group's next generation by itself: it proposes one where its row is nearly full, or where a member is silent for too long,
 //! and seals the rows of those that do not.
-use super::sealing::seal_row;
+use super::sealing::{seal_row, OwnRow};
 use super::{propose, serves, Options};
 use crate::engine::{Condition, Heard};
 use crate::node::{Node, NodeFault, Phase};
@@ -154,17 +154,16 @@ impl Leaving {
             let name = &generation.nodes[member as usize - 1];
             let is_time = !next.contains(name) || since.elapsed() >= grace;
             if is_time && self.seals.insert((generation.number, member)) {
-                let (chain, members) = (generation.chain(member), generation.nodes.len());
-                self.seal(chain, member, members);
+                self.seal(generation.row(member));
             }
         }
     }
 
-    fn seal(&self, chain: rows::cell::Chain, member: u32, members: usize) {
+    fn seal(&self, row: OwnRow) {
         let (engine, writer) = (Arc::clone(&self.engine), self.writer.clone());
-        let name = self.name().to_owned();
+        let (name, member) = (self.name().to_owned(), row.member);
         tokio::spawn(async move {
-            match seal_row(&*engine, chain, member, members, &writer).await {
+            match seal_row(&*engine, row, &writer).await {
                 Ok(()) => tracing::info!("{name}: the row of member {member} is sealed"),
                 Err(stop) => tracing::info!("{name}: sealing the row of member {member}: {stop}"),
             }

@@ -3,6 +3,7 @@ use crate::group::Group;
 use hyper::client::conn::handshake;
 use hyper::{Body, Method, Request};
 use serde_json::{json, Value};
+use std::path::PathBuf;
 use std::process::Child;
 use std::time::Duration;
 use tokio::net::UnixStream;
@@ -273,16 +274,52 @@ async fn a_member_is_moved_by_one_command() {
     let mut moved = group.spawn_in(there.path(), 1, &more);
     assert_eq!(ended_of(group.first_process(1)), Some(3));
     let mut client = fochillund::ask::Members::of(there.path(), Duration::from_secs(60));
-    let told = client.call(1, "a", ANN).await.unwrap().unwrap();
+    let told = client.call(1, "a", ANN).await.unwrap();
     assert_eq!(told.0.as_u16(), 200);
     let state = client.state(1).await.unwrap();
     assert_eq!(state.process, moved.id());
     assert_ne!(state.process, first);
-    // Its own command stands behind the one that was answered, which was carried out once.
+    // The cell by which it took the member over has no command.
     let records = client.records(1, 1).await.unwrap();
     let told: Vec<&str> = records.iter().map(|record| record.get()).collect();
-    assert_eq!(told.len(), 2);
-    assert!(told[0].contains("AddUser") && told[1].contains("SsdRoleSets"));
+    assert_eq!(told.len(), 1);
+    assert!(told[0].contains("AddUser"));
+    moved.kill().unwrap();
+    moved.wait().unwrap();
+}
+
+/// Asks a member again and again, until its socket is gone.
+async fn ask_on(folder: PathBuf, caller: u32) {
+    let mut client = fochillund::ask::Members::of(&folder, Duration::ZERO);
+    for call in 0.. {
+        let id = format!("{caller} {call}");
+        if client.call(1, &id, ANN).await.is_err() {
+            return;
+        }
+    }
+}
+
+#[tokio::test]
+async fn a_member_that_is_asked_much_is_moved_by_one_command() {
+    let mut group = Group::started(1);
+    assert_eq!(
+        answers(&post(&group, 1, &call(1, Some("a"), ANN)).await),
+        ["Done"]
+    );
+    let asking = |caller| tokio::spawn(ask_on(group.folder().to_owned(), caller));
+    let asking: Vec<_> = (0..16).map(asking).collect();
+    let there = tempfile::tempdir().unwrap();
+    let rows = group.folder().to_str().unwrap().to_owned();
+    let more = ["--rows", &rows, "--take-over"];
+    let mut moved = group.spawn_in(there.path(), 1, &more);
+    for each in asking {
+        each.await.unwrap();
+    }
+    assert_eq!(ended_of(group.first_process(1)), Some(3));
+    let mut client = fochillund::ask::Members::of(there.path(), Duration::from_secs(60));
+    let told = client.call(1, "b", ANN).await.unwrap();
+    assert_eq!(told.0.as_u16(), 200);
+    assert_eq!(client.state(1).await.unwrap().process, moved.id());
     moved.kill().unwrap();
     moved.wait().unwrap();
 }
@@ -330,12 +367,38 @@ async fn a_sync_that_fails_ends_the_process_before_anybody_is_told() {
     assert_eq!(ended(process), Some(5));
 }
 
+/// A process of the first member that has no file of more than so many bytes.
+fn limited(group: &Group, bytes: u32, more: &[&str]) -> Child {
+    let words = format!("trap '' XFSZ; exec prlimit --fsize={bytes}: \"$0\" \"$@\"");
+    group.spawn_by(&["sh", "-c", &words], 1, more)
+}
+
+fn give_room(process: &Child) {
+    let words = ["--pid", &process.id().to_string(), "--fsize=unlimited:"];
+    let given = std::process::Command::new("prlimit").args(words).status();
+    assert!(given.unwrap().success());
+}
+
+#[tokio::test]
+async fn a_group_is_founded_once_there_is_room() {
+    let group = Group::of(1);
+    let mut process = limited(&group, 16, &[]);
+    tokio::time::sleep(Duration::from_millis(1500)).await;
+    assert_eq!(process.try_wait().unwrap(), None);
+    assert!(!group.socket(1).exists());
+    give_room(&process);
+    assert_eq!(
+        answers(&post(&group, 1, &call(1, None, ANN)).await),
+        ["Done"]
+    );
+    process.kill().unwrap();
+    process.wait().unwrap();
+}
+
 #[tokio::test]
 async fn a_member_whose_rows_are_full_goes_on_once_there_is_room() {
     let group = Group::of(1);
-    let limited = "trap '' XFSZ; exec prlimit --fsize=4096: \"$0\" \"$@\"";
-    let more = ["--patience", "1"];
-    let mut process = group.spawn_by(&["sh", "-c", limited], 1, &more);
+    let mut process = limited(&group, 4096, &["--patience", "1"]);
     connected(&group, 1).await;
     let mut asked = 0;
     let waits = loop {
@@ -348,10 +411,7 @@ async fn a_member_whose_rows_are_full_goes_on_once_there_is_room() {
     };
     assert_eq!((waits.0, &waits.1["error"]), (503, &json!("Waits")));
     assert_eq!(waits.1["engine"]["condition"], json!("full"));
-    let id = process.id().to_string();
-    let words = ["--pid", &id, "--fsize=unlimited:"];
-    let given = std::process::Command::new("prlimit").args(words).status();
-    assert!(given.unwrap().success());
+    give_room(&process);
     let told = post(&group, 1, &call(1, Some(&asked.to_string()), ANN)).await;
     assert_eq!(told.0, 200);
     let state = told_state(&group).await;

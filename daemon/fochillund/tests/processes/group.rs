@@ -2,17 +2,27 @@
 use fochillund::ask::Members;
 use fochillund::founding::LEAST_SENT_LIMIT;
 use fochillund::group::{node, socket};
+use servers::host::command_of;
 use std::fs::File;
 use std::path::{Path, PathBuf};
-use std::process::{Child, Command, Stdio};
+use std::process::{Child, Stdio};
 use std::time::Duration;
 use tempfile::TempDir;
+
+/// How the processes of a member are started.
+#[derive(Clone, Default)]
+pub struct Start {
+    /// The words of a program that starts each.
+    pub by: Vec<String>,
+    /// By which words it finds its rows; where there are none they lie in the group's folder.
+    pub rows: Vec<String>,
+}
 
 /// Processes of members, each of which ends with this.
 pub struct Group {
     folder: TempDir,
-    /// What all processes are started with beside: where their rows are.
-    rows: Vec<String>,
+    /// Of each member.
+    starts: Vec<Start>,
     /// Of each member, the latest last.
     processes: Vec<Vec<Child>>,
 }
@@ -33,17 +43,18 @@ permissions = [["read", "chart"], ["read", "rota"], ["write", "chart"], ["write"
 impl Group {
     /// So many members, of which none runs yet.
     pub fn of(members: u32) -> Group {
-        Group::over(members, Vec::new())
+        Group::over(vec![Start::default(); members as usize])
     }
 
-    /// The same over rows that these words name.
-    pub fn over(members: u32, rows: Vec<String>) -> Group {
+    /// The same, each started so.
+    pub fn over(starts: Vec<Start>) -> Group {
         let folder = tempfile::tempdir().unwrap();
-        std::fs::write(folder.path().join("founding.toml"), founding(members)).unwrap();
-        let processes = (0..members).map(|_| Vec::new()).collect();
+        let text = founding(starts.len() as u32);
+        std::fs::write(folder.path().join("founding.toml"), text).unwrap();
+        let processes = starts.iter().map(|_| Vec::new()).collect();
         Group {
             folder,
-            rows,
+            starts,
             processes,
         }
     }
@@ -83,12 +94,12 @@ impl Group {
 
     /// A process that is to be a member, with these words more.
     pub fn spawn(&self, member: u32, more: &[&str]) -> Child {
-        self.spawn_by(&["env"], member, more)
+        self.spawn_by(&[], member, more)
     }
 
     /// The same in a folder of its own, as on another machine.
     pub fn spawn_in(&self, folder: &Path, member: u32, more: &[&str]) -> Child {
-        self.spawn_as(&["env"], folder, member, more)
+        self.spawn_as(&[], folder, member, more)
     }
 
     /// The same in the group's folder, started by another program's words.
@@ -98,15 +109,16 @@ impl Group {
 
     fn spawn_as(&self, words: &[&str], folder: &Path, member: u32, more: &[&str]) -> Child {
         let nodes: Vec<String> = (1..=self.members()).map(node).collect();
-        let mut command = Command::new(words[0]);
-        command
-            .args(&words[1..])
-            .arg(env!("CARGO_BIN_EXE_fochillund"));
+        let start = &self.starts[member as usize - 1];
+        let mut by = start.by.clone();
+        by.extend(words.iter().copied().map(str::to_owned));
+        by.push(env!("CARGO_BIN_EXE_fochillund").to_owned());
+        let mut command = command_of(&by);
         command.arg("member").arg("--folder").arg(folder);
         command.arg("--founding").arg(self.founding());
         command.arg("--nodes").arg(nodes.join(","));
         command.arg("--node").arg(node(member));
-        command.args(&self.rows).args(more);
+        command.args(&start.rows).args(more);
         let said = File::options().create(true).append(true).open(self.said());
         command.stdout(Stdio::null()).stderr(said.unwrap());
         command.spawn().unwrap()

@@ -1,83 +1,146 @@
 //! Where the rows of groups in chaos are, and what befalls them.
+mod engine;
+mod wires;
+
+use crate::chaos::Figures;
+use crate::group::Start;
+use engine::Engine;
 use rand::rngs::StdRng;
 use rand::{Rng, SeedableRng};
-use servers::etcd::{Cluster, Setup};
-use servers::postgres::Server;
 use std::sync::atomic::{AtomicBool, Ordering};
 use std::sync::Mutex;
 use std::time::Duration;
+use wires::Wires;
 
 /// Rows that many groups have side by side.
-pub enum Store {
-    /// Each group in its folder.
-    Files,
-    Etcd(Mutex<Cluster>),
-    Postgres(Mutex<Server>),
+pub struct Store {
+    engine: Mutex<Engine>,
+    /// The network between its servers and the groups' processes; none where all run on this machine itself.
+    wires: Option<Wires>,
 }
 
 impl Store {
-    /// A cluster of so many members.
-    pub fn etcd(members: usize) -> Store {
-        let cluster = Cluster::begin(members, Setup::of(&[]));
-        Store::Etcd(Mutex::new(cluster))
+    /// Files, of each group in its folder.
+    pub fn files() -> Store {
+        Store::of(Engine::Files, None)
+    }
+
+    /// Files on a disk that is full now and then.
+    pub fn small_disk() -> Result<Store, String> {
+        Ok(Store::of(Engine::small_disk()?, None))
+    }
+
+    /// An etcd of three.
+    pub fn etcd() -> Store {
+        Store::of(Engine::etcd(None), None)
     }
 
     pub fn postgres() -> Store {
-        Store::Postgres(Mutex::new(Server::start(&["max_connections=300"])))
+        let engine = Engine::postgres(None);
+        Store::of(engine.expect("it needs no right"), None)
     }
 
-    pub fn name(&self) -> &'static str {
-        match self {
-            Store::Files => "files",
-            Store::Etcd(_) => "etcd",
-            Store::Postgres(_) => "PostgreSQL",
+    /// An etcd of three, whose members have a host each.
+    pub fn etcd_over_a_network() -> Result<Store, String> {
+        let wires = Wires::of(3)?;
+        let engine = Engine::etcd(Some(wires.network()));
+        Ok(Store::of(engine, Some(wires)))
+    }
+
+    /// The same of PostgreSQL, on a small disk.
+    pub fn postgres_over_a_network() -> Result<Store, String> {
+        let wires = Wires::of(1)?;
+        let engine = Engine::postgres(Some(wires.network()))?;
+        Ok(Store::of(engine, Some(wires)))
+    }
+
+    fn of(engine: Engine, mut wires: Option<Wires>) -> Store {
+        if let Some(wires) = &mut wires {
+            wires.put_proxies(&engine.addresses());
+        }
+        Store {
+            engine: Mutex::new(engine),
+            wires,
         }
     }
 
-    /// By which words the processes of a group find its rows.
-    pub fn words(&self, group: &str) -> Vec<String> {
-        let rows = match self {
-            Store::Files => return Vec::new(),
-            Store::Etcd(cluster) => cluster.lock().unwrap().urls(),
-            Store::Postgres(server) => server.lock().unwrap().url("operator"),
+    pub fn name(&self) -> String {
+        let name = self.engine.lock().unwrap().name();
+        match self.wires {
+            Some(_) => format!("a network of {name}"),
+            None => name.to_owned(),
+        }
+    }
+
+    /// How the processes of a member of the group with this number are started.
+    pub fn start(&self, group: u64, member: u32) -> Start {
+        let engine = self.engine.lock().unwrap();
+        // Every other group asks etcd itself, and the rest by the proxies of their hosts, as all ask PostgreSQL, which wants TLS of other hosts.
+        let is_direct = group.is_multiple_of(2) && matches!(*engine, Engine::Etcd(_));
+        let (by, addresses) = match &self.wires {
+            None => (Vec::new(), engine.addresses()),
+            Some(wires) if is_direct => (wires.words(member), engine.addresses()),
+            Some(wires) => (wires.words(member), wires.proxies(member)),
         };
-        ["--rows", &rows, "--group", group]
-            .map(str::to_owned)
-            .to_vec()
+        let rows = engine.rows(&addresses, &format!("g{group}"));
+        Start { by, rows }
     }
 
     /// For how long things befall a group.
     pub fn lasts(&self) -> Duration {
-        match self {
-            Store::Files => Duration::from_millis(1200),
-            Store::Etcd(_) | Store::Postgres(_) => Duration::from_secs(4),
+        match (&*self.engine.lock().unwrap(), &self.wires) {
+            (Engine::Files, _) => Duration::from_millis(1200),
+            (_, None) => Duration::from_secs(4),
+            (_, Some(_)) => Duration::from_secs(8),
         }
     }
 
-    /// Kills servers by `kill -9` and starts them again, one after the other, until it is to end. Tells how many.
-    pub fn befall_until(&self, ends: &AtomicBool) -> usize {
-        let (mut random, mut kills) = (StdRng::seed_from_u64(1), 0);
-        while !ends.load(Ordering::SeqCst) {
-            std::thread::sleep(Duration::from_millis(random.gen_range(200..1500)));
-            let down = Duration::from_millis(random.gen_range(0..800));
-            match self {
-                Store::Files => continue,
-                Store::Etcd(cluster) => {
-                    let mut cluster = cluster.lock().unwrap();
-                    let leader = cluster.leader();
-                    cluster.kill_member(leader);
-                    std::thread::sleep(down);
-                    cluster.start_member(leader);
-                }
-                Store::Postgres(server) => {
-                    let mut server = server.lock().unwrap();
-                    server.kill();
-                    std::thread::sleep(down);
-                    server.go_on();
-                }
-            }
-            kills += 1;
+    /// So long it is at most until the next thing befalls a group: over a network it would never get on else.
+    pub fn pause(&self) -> Duration {
+        match self.wires {
+            None => Duration::from_millis(60),
+            Some(_) => Duration::from_millis(800),
         }
-        kills
+    }
+
+    /// How long a group may take behind that until its processes are killed once more.
+    pub fn patience(&self) -> Duration {
+        match self.wires {
+            None => Duration::from_secs(8),
+            Some(_) => Duration::from_secs(25),
+        }
+    }
+
+    /// Has one thing after the other befall servers and network until it is to end, and tells how often what did.
+    pub fn befall_until(&self, ends: &AtomicBool, seed: u64) -> Figures {
+        let (mut random, mut figures) = (StdRng::seed_from_u64(seed), Figures::default());
+        while !ends.load(Ordering::SeqCst) {
+            let pause = random.gen_range(200..1500);
+            std::thread::sleep(Duration::from_millis(pause));
+            if random.gen_ratio(1, 5) {
+                let mut engine = self.engine.lock().unwrap();
+                engine.be_full(&mut random, &mut figures);
+            } else {
+                self.befall(&mut random, &mut figures);
+            }
+            self.engine.lock().unwrap().mend();
+        }
+        figures
+    }
+
+    /// Something befalls the network, or a server, or both at one time.
+    fn befall(&self, random: &mut StdRng, figures: &mut Figures) {
+        if let Some(wires) = &self.wires {
+            figures.count(wires.befall(random));
+        }
+        if self.wires.is_none() || random.gen() {
+            self.engine.lock().unwrap().befall(random, figures);
+        } else {
+            let lasts = random.gen_range(200..2500);
+            std::thread::sleep(Duration::from_millis(lasts));
+        }
+        if let Some(wires) = &self.wires {
+            wires.mend();
+        }
     }
 }

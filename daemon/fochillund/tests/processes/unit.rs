@@ -56,7 +56,7 @@ async fn the_unit_starts_a_member() {
             break told;
         }
     };
-    assert_eq!(told.unwrap().0.as_u16(), 200);
+    assert_eq!(told.0.as_u16(), 200);
     assert!(group.folder().join("rows/n1/g1.row").exists());
     process.kill().unwrap();
     process.wait().unwrap();

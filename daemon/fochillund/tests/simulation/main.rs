@@ -2,7 +2,8 @@
 //! it, run twice, and lose replies; and in which generations are proposed, of other nodes and of other founding files, rows are sealed by others, and
 //! some processes only follow. Each schedule is checked from outside, by what callers were told, what rows hold and what processes show.
 //!
-//! `SIMULATION_SCHEDULES` says how many there are. `SIMULATION_SEED` plays one alone, which tells its steps when it fails.
+//! `SIMULATION_SCHEDULES` says how many there are, and `SIMULATION_FIRST` the seed of the first. `SIMULATION_SEED` plays one alone, which tells its
+//! steps when it fails.
 mod checks;
 mod commands;
 #[path = "../judge/mod.rs"]
@@ -98,18 +99,19 @@ fn each_schedule_is_right() {
         return;
     }
     let count = number_of("SIMULATION_SCHEDULES").unwrap_or(SCHEDULES);
+    let first = number_of("SIMULATION_FIRST").unwrap_or(0);
     let mut all = Figures::default();
     let mut histories = Vec::new();
-    for seed in 0..count {
+    for seed in first..first + count {
         let played = catch_unwind(AssertUnwindSafe(|| play(seed, false)));
         let Ok((figures, played)) = played else {
             panic!("schedule {seed} is wrong: SIMULATION_SEED={seed} tells its steps");
         };
         all.add(figures);
-        if seed % (count / PLAYED).max(1) == 0 {
+        if (seed - first).is_multiple_of((count / PLAYED).max(1)) {
             histories.extend(played);
         }
     }
-    println!("{count} schedules: {all:#?}");
+    println!("{count} schedules from {first} on: {all:?}");
     judge::check(&histories);
 }

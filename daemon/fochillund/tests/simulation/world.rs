@@ -281,14 +281,13 @@ impl World {
         let generation = self.random.gen_range(1..=furthest);
         let nodes = self.foundings.nodes(generation).to_vec();
         let node = nodes.choose(&mut self.random).expect("there are some");
-        self.seal(generation, node, nodes.len());
+        self.seal(generation, node);
     }
 
-    fn seal(&mut self, generation: u64, node: &str, members: usize) {
-        let (member, mut chain) = {
-            let chain = self.foundings.chain_of(generation, node);
-            chain.expect("it is one of the nodes")
-        };
+    fn seal(&mut self, generation: u64, node: &str) {
+        let own = self.foundings.row_of(generation, node);
+        let own = own.expect("it is one of the nodes");
+        let (member, members, mut chain) = (own.member, own.members, own.chain);
         let row = chain.row().clone();
         let cells = chain.take_all(self.rows.get(&row)).expect("cells of a row");
         if cells.iter().any(|cell| is_seal(cell.message.get())) {

@@ -2,7 +2,6 @@
 mod certificates;
 mod cluster;
 mod failures;
-mod proxy;
 mod rights;
 
 use crate::conformance::{self, all, row, set};

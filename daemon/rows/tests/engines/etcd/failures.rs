@@ -1,7 +1,6 @@
 //! What befalls a cluster: it is killed, cut off, filled up, compacted, and taken back to what it was.
 use super::cluster::{open, words_of, Cluster, HasRows, Setup};
 use super::one;
-use super::proxy::Proxy;
 use crate::conformance::{self, all, row, set, texts};
 use crate::stores::Store;
 use async_trait::async_trait;
@@ -10,6 +9,8 @@ use rand::rngs::StdRng;
 use rand::{Rng, SeedableRng};
 use rows::etcd::Options;
 use rows::{Engine, Etcd, Fault, RowName, Tidings, Told};
+use servers::host::Host;
+use servers::proxy::Proxy;
 use std::path::Path;
 use std::process::Command;
 use std::sync::Arc;
@@ -147,8 +148,11 @@ async fn cut(proxies: &[Proxy], random: &mut StdRng) {
 async fn over_leaders_that_are_killed_and_replies_that_are_lost_each_cell_has_one_writer() {
     let mut cluster = Cluster::start(3, Setup::default()).await;
     let mut random = StdRng::seed_from_u64(1);
-    let proxies: Vec<Proxy> = cluster.ports().map(Proxy::before).collect();
-    let urls = proxies.iter().map(|proxy| proxy.url().parse().unwrap());
+    let here = Host::default();
+    let before = |server: String| Proxy::on(&here, &server);
+    let proxies: Vec<Proxy> = cluster.addresses().map(before).collect();
+    let url = |proxy: &Proxy| format!("http://{}", proxy.address()).parse().unwrap();
+    let urls = proxies.iter().map(url);
     let store = Opened(Options {
         endpoints: urls.collect(),
         reply: Duration::from_secs(5),
