@@ -155,11 +155,11 @@ async fn chaos(store: &Store, seed: u64) -> Figures {
 }
 
 /// Waits until all callers were answered, while members are kept, and gives what they asked. After so long all processes are killed once more: a
-/// caller may know the socket of one that is gone.
+/// caller may know the socket of one that is gone. Each time they have longer: a machine that does much else is slow to start them.
 async fn ended(
     group: &mut Group,
     callers: Vec<JoinHandle<Vec<Answered>>>,
-    patience: Duration,
+    mut patience: Duration,
 ) -> Vec<Answered> {
     let mut last_kill = tokio::time::Instant::now();
     let mut calls = Vec::new();
@@ -174,6 +174,7 @@ async fn ended(
                 () = tokio::time::sleep_until(last_kill + patience) => {
                     (1..=group.members()).for_each(|member| group.kill(member));
                     last_kill = tokio::time::Instant::now();
+                    patience *= 2;
                 }
             }
         }
