@@ -186,9 +186,12 @@ impl Server {
         }
     }
 
-    /// Where clients of its network find it: address and port.
+    /// Where clients find it, as a URL has it: the folder of its socket, or on a host of a network address and port.
     pub fn address(&self) -> String {
-        format!("{}:{}", self.setup.host.address, self.port())
+        match self.setup.host.namespace {
+            Some(_) => format!("{}:{}", self.setup.host.address, self.port()),
+            None => self.path().display().to_string().replace('/', "%2F"),
+        }
     }
 
     fn port(&self) -> &str {
@@ -215,8 +218,7 @@ impl Server {
 
     /// The same as one URL.
     pub fn url(&self, role: &str) -> String {
-        let folder = self.path().display().to_string().replace('/', "%2F");
-        format!("postgresql://{role}@{folder}/postgres")
+        format!("postgresql://{role}@{}/postgres", self.address())
     }
 
     /// Asks as the operator, whom the server obeys in all.

@@ -106,8 +106,7 @@ async fn settled(group: &mut Group, length: usize, longest: Duration) -> Vec<Str
 fn keep(group: &mut Group) {
     let ended = group.keep();
     if ended.iter().any(|status| !matches!(status, None | Some(3))) {
-        let said = std::fs::read_to_string(group.said()).unwrap();
-        panic!("processes ended with {ended:?}:\n{said}");
+        panic!("processes ended with {ended:?}:\n{}", group.last_said());
     }
 }
 
@@ -156,22 +155,26 @@ async fn chaos(store: &Store, seed: u64) -> Figures {
 }
 
 /// Waits until all callers were answered, while members are kept, and gives what they asked. After so long all processes are killed once more: a
-/// caller may know the socket of one that is gone.
+/// caller may know the socket of one that is gone. Each time they have longer: a machine that does much else is slow to start them.
 async fn ended(
     group: &mut Group,
     callers: Vec<JoinHandle<Vec<Answered>>>,
-    patience: Duration,
+    mut patience: Duration,
 ) -> Vec<Answered> {
     let mut last_kill = tokio::time::Instant::now();
     let mut calls = Vec::new();
     for mut caller in callers {
         loop {
             tokio::select! {
-                told = &mut caller => break calls.extend(told.unwrap()),
+                told = &mut caller => match told {
+                    Ok(told) => break calls.extend(told),
+                    Err(fault) => panic!("{fault}:\n{}", group.last_said()),
+                },
                 () = tokio::time::sleep(Duration::from_millis(50)) => keep(group),
                 () = tokio::time::sleep_until(last_kill + patience) => {
                     (1..=group.members()).for_each(|member| group.kill(member));
                     last_kill = tokio::time::Instant::now();
+                    patience *= 2;
                 }
             }
         }
@@ -226,7 +229,10 @@ fn whatever_befalls(store: &Store, runs: u64) {
 fn whatever_befalls_where_it_can(store: Result<Store, String>, runs: u64) {
     match store {
         Ok(store) => whatever_befalls(&store, runs),
-        Err(why) => println!("passed over: chaos, since this machine makes no such store: {why}"),
+        Err(why) => {
+            let why = why.lines().next().unwrap_or_default();
+            println!("passed over: chaos, since this machine makes no such store: {why}");
+        }
     }
 }
 

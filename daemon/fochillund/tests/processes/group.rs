@@ -5,7 +5,7 @@ use fochillund::group::{node, socket};
 use servers::host::command_of;
 use std::fs::File;
 use std::path::{Path, PathBuf};
-use std::process::{Child, Stdio};
+use std::process::Child;
 use std::time::Duration;
 use tempfile::TempDir;
 
@@ -83,9 +83,15 @@ impl Group {
         self.folder().join("founding.toml")
     }
 
-    /// Where the processes say why they end.
-    pub fn said(&self) -> PathBuf {
+    fn said(&self) -> PathBuf {
         self.folder().join("said")
+    }
+
+    /// What the processes said at last.
+    pub fn last_said(&self) -> String {
+        let said = std::fs::read_to_string(self.said()).unwrap_or_default();
+        let lines: Vec<&str> = said.lines().collect();
+        lines[lines.len().saturating_sub(40)..].join("\n")
     }
 
     pub fn socket(&self, member: u32) -> PathBuf {
@@ -120,7 +126,8 @@ impl Group {
         command.arg("--node").arg(node(member));
         command.args(&start.rows).args(more);
         let said = File::options().create(true).append(true).open(self.said());
-        command.stdout(Stdio::null()).stderr(said.unwrap());
+        let said = said.unwrap();
+        command.stdout(said.try_clone().unwrap()).stderr(said);
         command.spawn().unwrap()
     }
 

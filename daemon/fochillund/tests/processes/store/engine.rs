@@ -18,7 +18,7 @@ const QUOTA: usize = 48 << 20;
 const LARGE: usize = 1 << 20;
 
 /// So long an etcd has until it is full, and until it has room again.
-const LONGEST: Duration = Duration::from_secs(120);
+const LONGEST: Duration = Duration::from_secs(300);
 
 /// What has the rows of all groups.
 pub enum Engine {
@@ -79,7 +79,7 @@ impl Engine {
         }
     }
 
-    /// Where clients find its servers: address and port; of PostgreSQL on this machine itself its socket.
+    /// Where clients find its servers, as a URL has it.
     pub fn addresses(&self) -> Vec<String> {
         match self {
             Engine::Files | Engine::SmallDisk(_) => Vec::new(),
