@@ -55,7 +55,7 @@ static uint32_t next_answer(struct member_place *place, struct told *told) { ret
 static uint32_t dump(struct member_place *place, struct told *told) { return member_dump(place, OUT); }
 
 static uint32_t review(struct member_place *place, struct told *told) {
-    return member_review(place, TEXT("{\"name\":\"RoleSets\",\"kind\":\"static\"}"), OUT);
+    return member_review(place, TEXT("{\"name\":\"SsdRoleSets\"}"), OUT);
 }
 
 static uint32_t denied_review(struct member_place *place, struct told *told) {
