@@ -1,5 +1,5 @@
 -- Calls in a place that only observes are moves of a member that watches its row.
-use Rattle.std.proofs.Common.{ℕ, Bool, true, false, ◌≡◌, ◌-◌, cond, List, [], ◌∷◌, ◌++◌, slice_get, refl, sym, ap, subst, ◌∙◌, append-nil, append_assoc, Option, Some, None, Ok}
+use Rattle.std.proofs.Common.{ℕ, Bool, true, false, ◌≡◌, ◌-◌, cond, List, [], ◌∷◌, ◌++◌, slice_get, refl, sym, ap, subst, ◌∙◌, append-nil, append_assoc, Option, Some, None, Ok, Err}
 use Rattle.rbac_words.specs.World.{World, acknowledgement, must_acknowledge}
 use Rattle.rbac_words.specs.Keeping.Member.{Member, founded, node_of, received, message_refusal}
 use Rattle.rbac_words.specs.Keeping.Own.{next_own}
