@@ -12,6 +12,7 @@ use Rattle.rbac_founding.specs.declared.founding.Founding.{Founding}
 use Rattle.rbac_embedded.specs.Calls.{verdict}
 use Rattle.rbac_embedded.specs.Holding.{with_text, room_status}
 use Rattle.rbac_embedded.specs.declared.status.Status.TheVariants.{Done, EmptyPlace, FullPlace, Checked, BadFounding}
+use Rattle.rbac_embedded_member.specs.Observing.{kept_after}
 use Rattle.rbac_embedded_member.specs.Step.{Step}
 use Rattle.rbac_embedded_member.specs.Texts.{Told, item_at, ReadsBackAs}
 use Rattle.rbac_embedded_member.specs.declared.kept.KeptMember.{KeptMember}
@@ -46,7 +47,7 @@ step_status step (Some k) = (step k).status
 
 abbrev pub step_kept : (KeptMember → Step) → Option KeptMember → Option KeptMember
 step_kept step None = None
-step_kept step (Some k) = Some (record { member = (step k).member; observes = k.observes })
+step_kept step (Some k) = Some (kept_after step k)
 
 abbrev pub step_told : (KeptMember → Step) → Option KeptMember → ℕ
 step_told step None = 0

@@ -9,6 +9,10 @@ use Rattle.rbac_embedded_member.specs.declared.status.MemberStatus.TheVariants.{
 use Rattle.rbac_embedded_member.specs.Step.{Step, refused, step_unless, if_read, message_step}
 use Rattle.rbac_embedded_member.specs.Texts.{Told, text_unless, text_read, message_told}
 
+-- what a step leaves in the place
+abbrev pub kept_after : (KeptMember → Step) → KeptMember → KeptMember
+kept_after step k = record { member = (step k).member; observes = k.observes }
+
 -- ---- What it would send of itself: one that observes is asked for none of it, whatever the text
 
 abbrev pub acting_step : (Member → Step) → KeptMember → Step

@@ -9,7 +9,7 @@ ghost use Rattle.rbac_embedded_member.specs.Status.{status_number};
 ghost use Rattle.rbac_embedded_member.specs.Step.{deliver_step, submit_batch_step, submit_step, take_own_step};
 ghost use Rattle.rbac_embedded_member.specs.Texts.{message_at, next_submit, next_submit_batch, policy_dump, record_at, review};
 
-use crate::kept::KeptMember;
+use crate::kept::{KeptMember, not_read};
 use crate::status::MemberStatus;
 use crate::texts::Told;
 use crate::waiting::{Waiting, waits_of};
@@ -41,13 +41,6 @@ impl Model for MemberHolder {
 }
 
 const EMPTY: MemberStatus = MemberStatus::Plain(Status::EmptyPlace);
-
-/// Why a text is not read.
-fn not_read(refusal: LineRefusal) -> MemberStatus
-    ensures { result ≡ MemberStatus.Plain (Status.BadCommand refusal) }
-{
-    MemberStatus::Plain(Status::BadCommand(refusal))
-}
 
 /// Puts a text into the buffer, where there is one.
 fn tell_text(told: Told, out: &mut [u8], written: &mut usize) -> MemberStatus
@@ -155,23 +148,9 @@ impl MemberHolder {
         ensures no_number { status_number result ≡ no_memory → told.new ≡ 0 }
     {
         *told = 0;
-        let Some(kept) = &mut self.kept else {
-            return EMPTY;
-        };
-        if kept.observes {
-            return MemberStatus::Observes;
-        }
-        match read_command(alloc, text) {
-            Ok(command) => steps::submit(
-                alloc,
-                &mut kept.member,
-                LONGEST_MESSAGE,
-                caller,
-                serial,
-                Commands::one(command),
-                told,
-            ),
-            Err(refusal) => not_read(refusal),
+        match &mut self.kept {
+            Some(kept) => kept.submit(alloc, caller, serial, text, told),
+            None => EMPTY,
         }
     }
 
@@ -191,23 +170,9 @@ impl MemberHolder {
         ensures no_number { status_number result ≡ no_memory → told.new ≡ 0 }
     {
         *told = 0;
-        let Some(kept) = &mut self.kept else {
-            return EMPTY;
-        };
-        if kept.observes {
-            return MemberStatus::Observes;
-        }
-        match read_commands(alloc, text) {
-            Ok(commands) => steps::submit(
-                alloc,
-                &mut kept.member,
-                LONGEST_MESSAGE,
-                caller,
-                serial,
-                commands,
-                told,
-            ),
-            Err(refusal) => not_read(refusal),
+        match &mut self.kept {
+            Some(kept) => kept.submit_batch(alloc, caller, serial, text, told),
+            None => EMPTY,
         }
     }
 
@@ -228,24 +193,9 @@ impl MemberHolder {
         ensures no_number { status_number result ≡ no_memory → told.new ≡ 0 }
     {
         *told = 0;
-        let Some(kept) = &mut self.kept else {
-            return EMPTY;
-        };
-        let observes = kept.observes;
-        match read_message(alloc, text) {
-            Ok(message) => {
-                let status = observing::receive(
-                    &mut kept.member,
-                    observes,
-                    from,
-                    number,
-                    &message,
-                    told,
-                );
-                drop(message);
-                status
-            }
-            Err(refusal) => not_read(refusal),
+        match &mut self.kept {
+            Some(kept) => kept.receive(alloc, from, number, text, told),
+            None => EMPTY,
         }
     }
 
@@ -265,19 +215,9 @@ impl MemberHolder {
         ensures no_number { status_number result ≡ no_memory → told.new ≡ 0 }
     {
         *told = 0;
-        let Some(kept) = &mut self.kept else {
-            return EMPTY;
-        };
-        match read_message(alloc, text) {
-            Ok(message) => steps::take_own(
-                alloc,
-                &mut kept.member,
-                LONGEST_MESSAGE,
-                number,
-                message,
-                told,
-            ),
-            Err(refusal) => not_read(refusal),
+        match &mut self.kept {
+            Some(kept) => kept.take_own(alloc, number, text, told),
+            None => EMPTY,
         }
     }
 
