@@ -1,12 +1,12 @@
 -- Calls are moves.
-use Rattle.std.proofs.Common.{ℕ, Bool, true, false, ◌≡◌, ◌≢◌, ◌<◌, ◌+◌, ◌-◌, ◌⊎◌, cond, nat_lt, List, [], ◌∷◌, ◌++◌, length, slice_get, refl, sym, ap, subst, ◌∙◌, Option, Some, None, Result, Ok, Err}
+use Rattle.std.proofs.Common.{ℕ, Bool, true, false, ◌≡◌, ◌<◌, ◌+◌, ◌-◌, ◌⊎◌, cond, nat_lt, List, [], ◌∷◌, ◌++◌, length, slice_get, refl, sym, ap, subst, ◌∙◌, Option, Some, None, Ok, Err}
 use Rattle.rbac_terms.specs.Vocabulary.{Vocabulary}
 use Rattle.rbac_terms.specs.declared.command.Command.{Command}
 use Rattle.rbac_words.specs.Group.{Group, IsGroup}
 use Rattle.rbac_words.specs.World.{World, acknowledgement}
 use Rattle.rbac_words.specs.Right.{AreHistoriesRight}
 use Rattle.rbac_words.specs.Play.{IsPrefixOf}
-use Rattle.rbac_words.specs.Keeping.Member.{Member, IsNumber, founded, node_of, batch, submitted}
+use Rattle.rbac_words.specs.Keeping.Member.{Member, founded, node_of, batch, submitted}
 use Rattle.rbac_words.specs.Keeping.Members.{member_at, world_of}
 use Rattle.rbac_words.specs.Keeping.Own.{next_own, took_own}
 use Rattle.rbac_words.specs.declared.event.Refusal.{Refusal}
@@ -15,7 +15,7 @@ use Rattle.rbac_text.specs.Fields.{Reading}
 use Rattle.rbac_text.specs.ReadCommand.{command}
 use Rattle.rbac_message_text.specs.MessageText.{longest_message, message_text}
 use Rattle.rbac_message_text.specs.Message.{message_read, commands_read}
-use Rattle.rbac_moves.specs.Moves.{Move, submits, receives, takes_own, delivers, move_refusal, moved, run, AreMoves, HasMade, WereSent, AreRun}
+use Rattle.rbac_moves.specs.Moves.{Move, submits, receives, takes_own, delivers, move_refusal, moved, run, AreMoves, WereSent, AreRun}
 use Rattle.rbac_moves.specs.Rows.{HasRunInRow, MaySet, AreSet, with_message}
 use Rattle.rbac_moves.proofs.MoveLemmas.{run-append, all_right, one_of_two}
 use Rattle.rbac_embedded_member.specs.Step.{Step, done, refused, step_unless, if_short, if_read, batch_step, command_step, own_step, message_step, told_acknowledgement}

@@ -20,7 +20,7 @@ use rbac_embedded::verdict::check;
 use rbac_founding::read_founding;
 use rbac_member::Member;
 use rbac_message_text::{LONGEST_MESSAGE, read_commands, read_message};
-use rbac_text::{LineRefusal, read_command};
+use rbac_text::read_command;
 use rbac_words::{Commands, Refusal};
 use std::alloc::Global;
 use std::marker::Model;
