@@ -287,6 +287,59 @@ static void dumps(void) {
     expect_text(out, length, LINE(ADD_ANN) "\n" LINE("{\"name\":\"AddRole\",\"role\":\"clerk\"}") "\n", "a dump");
 }
 
+/* What the policy of a member answers, by its text. */
+static void reviews(struct member_place *place, const char *command, uint32_t status, const char *wanted) {
+    uint8_t out[512];
+    size_t length = 99;
+    memset(out, '#', sizeof out);
+    expect(member_review(place, TEXT(command), out, sizeof out, &length), status, command);
+    expect_text(out, length, wanted, command);
+}
+
+#define USERS(role) "{\"name\":\"AssignedUsers\",\"role\":\"" role "\"}"
+#define CHECK(operation) "{\"name\":\"CheckAccess\",\"session\":\"s1\",\"operation\":\"" operation "\",\"object\":\"ledger\"}"
+
+/* Of member 2, which has delivered all. */
+static void each_review(void) {
+    reviews(&two, USERS("clerk"), POLICY_DONE, "{\"names\":[\"ann\"]}");
+    reviews(&two, USERS("boss"), POLICY_DONE, "{\"denied\":\"NoRole\",\"number\":4}");
+    reviews(&two, CHECK("read"), POLICY_DONE, "\"Granted\"");
+    reviews(&two, CHECK("pay"), POLICY_DONE, "\"Refused\"");
+    reviews(&two, CHECK("fly"), POLICY_DONE, "{\"denied\":\"NoOperation\",\"number\":27}");
+    reviews(&two, ADD_ANN, MEMBER_NOT_A_REVIEW, "");
+    for (size_t i = 0; i < COUNT(refused_commands); i++) reviews(&two, refused_commands[i].text, refused_commands[i].status, "");
+    uint8_t out[5] = "#";
+    size_t length = 0;
+    is_short(member_review(&two, TEXT(USERS("clerk")), out, sizeof out, &length), &length, strlen("{\"names\":[\"ann\"]}"), out);
+    uint8_t *text = many(65537, ' ');
+    expect(member_review(&two, text, 65537, out, sizeof out, &length), POLICY_COMMAND_TOO_LONG, "a review too long");
+    free(text);
+}
+
+/* A place that only observes member 2, beside it. */
+static void an_observer(void) {
+    static struct member_place observer;
+    expect(member_observe(&observer, TEXT(FOUNDING), 3), MEMBER_UNKNOWN_MEMBER, "an observer of none");
+    expect(member_observe(&observer, TEXT(""), 2), POLICY_FOUNDING_BAD_VERSION, "an observer of no founding");
+    expect(member_observe(&observer, TEXT(FOUNDING), 2), POLICY_DONE, "an observer");
+    expect(member_observe(&observer, TEXT(FOUNDING), 2), POLICY_FULL_PLACE, "an observer in a full place");
+    refuses(member_submit, &observer, 7, 0, ADD_ANN, MEMBER_OBSERVES, 0);
+    refuses(member_submit_batch, &observer, 7, 0, "no text", MEMBER_OBSERVES, 0);
+    refuses(member_receive, &observer, 1, 1, "{}", POLICY_COMMAND_MISSING_FIELD, 0);
+    refuses(member_receive, &observer, 1, 2, SENT_ANN, MEMBER_GAP, 1);
+    refuses(member_receive, &observer, 1, 1, SENT_ANN, MEMBER_NOT_YET, 0);
+    takes_own(&observer, 1, ACKNOWLEDGEMENT, POLICY_DONE, 1);
+    writes(member_next_answer, &observer, 1, 1, SENT_ANN, POLICY_DONE, "");
+    steps(member_receive, &observer, 1, 1, SENT_ANN, POLICY_DONE, 0);
+    refuses(member_receive, &observer, 1, 2, SENT_CLERK, MEMBER_NOT_YET, 0);
+    delivers(&observer, POLICY_DONE, 1);
+    tells(member_record, &observer, 1, POLICY_DONE, TOLD_ANN);
+    tells(member_message, &observer, 1, POLICY_DONE, ACKNOWLEDGEMENT);
+    tells(member_message, &observer, 2, MEMBER_NOT_SENT, "");
+    reviews(&observer, USERS("clerk"), POLICY_DONE, "{\"denied\":\"NoRole\",\"number\":4}");
+    expect(member_close(&observer), POLICY_DONE, "close an observer");
+}
+
 /* A member whose clock is at its end, and one that has sent all that it may. */
 static void full_members(void) {
     opens(&one, "clock = 9007199254740991\n" FOUNDING, 1, POLICY_DONE);
@@ -324,6 +377,7 @@ static void empty_place(void) {
     expect(member_waits(&one, &waiting), POLICY_EMPTY_PLACE, "waits of none");
     expect(waiting.clock | waiting.member | waiting.place | waiting.awaited, 0, "none waits");
     checks(&one, "s1", "read", "ledger", POLICY_EMPTY_PLACE, 0);
+    reviews(&one, ADD_ANN, POLICY_EMPTY_PLACE, "");
     expect(member_close(&one), POLICY_EMPTY_PLACE, "close of none");
 }
 
@@ -340,6 +394,8 @@ int main(void) {
     commands_by_the_row();
     dumps();
     short_buffers();
+    each_review();
+    an_observer();
     expect(member_close(&one), POLICY_DONE, "close");
     expect(member_close(&two), POLICY_DONE, "close the other");
     empty_place();

@@ -160,6 +160,9 @@ static void each_sentence(void) {
         {MEMBER_SENT_FULL, "as many messages"},
         {MEMBER_BAD_SERIAL, "caller's next"},
         {MEMBER_MESSAGE_TOO_LONG, "would be too long"},
+        {MEMBER_NOT_YET, "later message"},
+        {MEMBER_OBSERVES, "sends nothing"},
+        {MEMBER_NOT_A_REVIEW, "neither a review"},
     };
     size_t known = 0;
     for (size_t i = 0; i < COUNT(sentences); i++)

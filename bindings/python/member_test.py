@@ -23,6 +23,7 @@ CLERK = [
     {"name": "AssignUser", "user": "ann", "role": "clerk"},
     {"name": "CreateSession", "user": "ann", "session": "s1", "roles": ["clerk"]},
 ]
+CHECK = {"name": "CheckAccess", "session": "s1", "operation": "read", "object": "ledger"}
 
 
 def all_of(text):
@@ -102,6 +103,34 @@ class Groups(Case):
             self.assertEqual((one.receive(2, 1, two.message(1)), one.deliver(), one.waits()), (None, 1, None))
             self.assertEqual(one.record(1), b'{"answer":"Done","caller":7,"command":{"name":"AddUser","user":"ann"},"serial":0,"stamp":[1,1]}')
 
+    def test_an_observer_shows_what_the_member_shows(self):
+        rows = {1: [], 2: []}
+        with fochillun.Member(FOUNDING, 1) as one, fochillun.Member(FOUNDING, 2) as two, fochillun.Member.observe(FOUNDING, 2) as observer:
+            one.submit_batch(7, 0, [ANN, *CLERK])
+            rows[1].append(one.message(1))
+            for call, words in [(observer.submit, (7, 0, ANN)), (observer.submit_batch, (7, 0, [ANN])), (observer.next_submit, (7, 0, b"any")),
+                                (observer.next_submit_batch, (7, 0, b""))]:
+                self.refuses("Observes", call, *words)
+            self.refuses("NotYet", observer.receive, 1, 1, rows[1][0])
+            self.assertEqual(self.refuses("NotYet", observer.next_answer, 1, 1, rows[1][0]).number, 312)
+            self.refuses("Gap", observer.receive, 1, 2, rows[1][0])
+            bring(1, rows[1], two, rows[2])
+            self.assertEqual(observer.take_own(1, rows[2][0]), 1)
+            bring(1, rows[1], observer, [])
+            self.assertEqual((shown(observer), observer.review(CHECK)), (shown(two), "Granted"))
+            self.assertTrue(observer.check("s1", "read", "ledger"))
+
+    def test_what_reviews_tell(self):
+        users = {"name": "AssignedUsers", "role": "clerk"}
+        with fochillun.Member(FOUNDING, 2) as two:
+            self.assertEqual(two.review(users), fochillun.Denial("NoRole", 4))
+            two.receive(1, 1, {"caller": 7, "commands": [ANN, *CLERK], "serial": 0, "stamp": [1, 1]})
+            while two.deliver():
+                pass
+            self.assertEqual((two.review(users), two.review(json.dumps(CHECK))), ({"names": ["ann"]}, "Granted"))
+            self.assertEqual(self.refuses("NotAReview", two.review, ANN).number, 314)
+            self.refuses("NotJson", two.review, b"{")
+
     def test_a_text_longer_than_the_buffer(self):
         commands = [{"name": "AddUser", "user": f"user_of_a_rather_long_name_with_number_{i:02}"} for i in range(64)]
         with fochillun.Member(FOUNDING, 1) as one:
@@ -164,7 +193,7 @@ class Errors(Case):
         one.close()
         one.close()
         for call, words in [(one.submit, (7, 0, ANN)), (one.deliver, ()), (one.message, (1,)), (one.waits, ()), (one.check, ("s1", "read", "ledger")),
-                            (one.read, (2,)), (one.dump, ()), (one.__enter__, ())]:
+                            (one.read, (2,)), (one.dump, ()), (one.review, (CHECK,)), (one.__enter__, ())]:
             self.assertRaisesRegex(fochillun.Closed, "the member was closed", call, *words)
 
     def test_no_copy(self):

@@ -29,7 +29,7 @@ _REPEAT, _GAP, _BAD_SERIAL = 305, 306, 310
 _WORDS = {
     **dict(enumerate("TooLong NotToml BadVersion UnknownKey MissingKey WrongKind OutOfRange BadName Repeated UnknownName".split(), 101)),
     **dict(enumerate("TooLong NotJson NotObject UnknownWord MissingField WrongKind BadName ExtraField".split(), 201)),
-    **dict(enumerate("UnknownMember BadBatch FromSelf NotSent Repeat Gap StampNotRising ClockFull SentFull BadSerial MessageTooLong".split(), 301)),
+    **dict(enumerate("UnknownMember BadBatch FromSelf NotSent Repeat Gap StampNotRising ClockFull SentFull BadSerial MessageTooLong NotYet Observes NotAReview".split(), 301)),
     _NO_SESSION: "NoSession",
     _NO_OPERATION: "NoOperation",
     _NO_OBJECT: "NoObject",
@@ -62,6 +62,9 @@ _SENTENCES = {
     "SentFull": "the member has sent as many messages as it may",
     "BadSerial": "the serial is not the caller's next one",
     "MessageTooLong": "the message's text would be too long",
+    "NotYet": "an observer receives it once the member's own row has a later message",
+    "Observes": "an observer sends nothing",
+    "NotAReview": "the command is neither a review nor a check of access",
     "NoSession": "there is no such session",
     "NoOperation": "there is no such operation",
     "NoObject": "there is no such object",
@@ -196,6 +199,7 @@ def _library():
         "policy_dump": out,
         "policy_close": [],
         "member_open": [*text, number],
+        "member_observe": [*text, number],
         "member_submit": [number, number, *text, told],
         "member_submit_batch": [number, number, *text, told],
         "member_receive": [number, number, *text, told],
@@ -207,6 +211,7 @@ def _library():
         "member_next_submit_batch": [number, number, *text, *out],
         "member_next_answer": [number, number, *text, *out],
         "member_dump": out,
+        "member_review": [*text, *out],
         "member_read": [number, told],
         "member_next_serial": [number, told],
         "member_waits": [ctypes.POINTER(_Waiting)],
@@ -343,8 +348,7 @@ class Monitor(_Held):
         answer: a `Denial`, which is false, or else what JSON has,
         which is true. An empty review is {"names": []} and no denial, and CheckAccess is answered "Refused", a text: `check` is to be asked
         whether."""
-        answer = json.loads(self.apply_text(_bytes(command)))
-        return Denial(answer["denied"], answer["number"]) if isinstance(answer, dict) and "denied" in answer else answer
+        return _answer(self.apply_text(_bytes(command)))
 
     def apply_text(self, text):
         """Applies the command of these bytes, a client line or a command by itself, and gives the bytes of its answer."""
@@ -385,9 +389,17 @@ class Member(_Held):
     bytes or the text of a JSON object, commands a list of them or the text of an array. What a group is owed stands in
     docs/EMBEDDING.md."""
 
-    def __init__(self, founding, number):
-        super().__init__("member_open", "member_close", founding, number)
+    def __init__(self, founding, number, *, observes=False):
+        super().__init__("member_observe" if observes else "member_open", "member_close", founding, number)
         self._told = ctypes.c_uint64()
+
+    @classmethod
+    def observe(cls, founding, number):
+        """The member of this number as one that only observes, beside the process that acts as that member: it sends nothing. It takes what
+        stands in the member's row by `take_own`, receives what the others sent, delivers, and shows what the member would. What it would
+        have to acknowledge it refuses as NotYet, until the member's own row has a later message; submits, and what they would send, as
+        Observes."""
+        return cls(founding, number, observes=True)
 
     @classmethod
     def restore(cls, founding, number, messages):
@@ -455,6 +467,11 @@ class Member(_Held):
         """The client lines that make the member's policy, as `Monitor.dump` gives them."""
         return self._text(MemberRefused, self._calls.member_dump).splitlines()
 
+    def review(self, command):
+        """The answer that a review, or CheckAccess, has by the policy that the member's history left, as `Monitor.apply` gives it: a `Denial`
+        too. A review takes time and memory in proportion to the policy; `check` is the quicker question."""
+        return _answer(self._text(MemberRefused, self._calls.member_review, *_lent(command)))
+
     def read(self, sender):
         """How many messages of member `sender` were received."""
         return self._step(self._calls.member_read, sender)
@@ -491,6 +508,12 @@ class Member(_Held):
         if status != _DONE:
             self._fail(status, MemberRefused, told)
         return told
+
+
+def _answer(text):
+    """An answer of its text: what JSON has, and a `Denial`."""
+    answer = json.loads(text)
+    return Denial(answer["denied"], answer["number"]) if isinstance(answer, dict) and "denied" in answer else answer
 
 
 def _bytes(value):

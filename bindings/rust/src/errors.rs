@@ -112,6 +112,12 @@ errors_of_a_text! {
         SentFull = 309, "the member has sent as many messages as it may";
         BadSerial { next: Option<u64> } = 310, "the serial is not the caller's next one";
         MessageTooLong = 311, "the message's text would be too long";
+        /// Of an observer alone, of a message that it would have to acknowledge.
+        NotYet = 312, "an observer receives it once the member's own row has a later message";
+        /// Of an observer alone.
+        Observes = 313, "an observer sends nothing";
+        /// Of `review` alone.
+        NotAReview = 314, "the command is neither a review nor a check of access";
         /// Memory ran out. The call can be made again.
         NoMemory = NO_MEMORY, "no memory";
     }

@@ -58,13 +58,44 @@ impl Held for Member {
     const CLOSE: unsafe extern "C" fn(&mut Place<Member>) -> u32 = sys::member_close;
 }
 
-// SAFETY of each call below: the place is lent to it alone, and is full but for `member_open`; no two of the slices overlap, and none
+// SAFETY of each call below: the place is lent to it alone, and is full but for `member_open` and `member_observe`; no two of the slices overlap, and none
 // is without an address.
 impl Member {
     /// Founds the member of this number, from 1 on, with what a founding file says.
     pub fn open(founding: &[u8], number: u32) -> Result<Member, OpenError> {
         let place = Place::filled_by(|place| unsafe {
             sys::member_open(place, founding.as_ptr(), founding.len(), number)
+        });
+        Ok(Member {
+            place: place.map_err(OpenError::of)?,
+            text: buffer(),
+        })
+    }
+
+    /// Founds the member of this number as one that only observes, beside the process that acts as that member: it sends nothing. Take
+    /// what stands in the member's row by `take_own`, bring it what the others sent by `receive`, and `deliver`; it shows what the member
+    /// would. What it would have to acknowledge it refuses as `NotYet`, until the member's own row has a later message; submits, and what
+    /// they would send, as `Observes`.
+    ///
+    /// ```
+    /// use fochillun::{Member, MemberError};
+    ///
+    /// let founding = b"version = 1\nmembers = 2\noperations = []\nobjects = []\npermissions = []\n";
+    /// let (mut one, mut two) = (Member::open(founding, 1)?, Member::open(founding, 2)?);
+    /// let mut observer = Member::observe(founding, 2)?;
+    /// one.submit(0, 0, r#"{"name":"AddUser","user":"ann"}"#)?;
+    /// let sent = one.message(1)?;
+    /// assert_eq!(observer.receive(1, 1, &sent), Err(MemberError::NotYet));
+    /// two.receive(1, 1, &sent)?;
+    /// observer.take_own(1, &two.message(1)?)?;
+    /// observer.receive(1, 1, &sent)?;
+    /// assert_eq!(observer.deliver()?, two.deliver()?);
+    /// assert_eq!(observer.record(1)?, two.record(1)?);
+    /// # Ok::<(), Box<dyn std::error::Error>>(())
+    /// ```
+    pub fn observe(founding: &[u8], number: u32) -> Result<Member, OpenError> {
+        let place = Place::filled_by(|place| unsafe {
+            sys::member_observe(place, founding.as_ptr(), founding.len(), number)
         });
         Ok(Member {
             place: place.map_err(OpenError::of)?,
@@ -205,6 +236,15 @@ impl Member {
             sys::member_dump(place, out.as_mut_ptr(), out.len(), written)
         });
         dump.map(str::to_owned).map_err(DumpError::of)
+    }
+
+    /// The text of the answer that a review, or CheckAccess, has by the policy that the member's history left, as `Monitor::apply` gives
+    /// it: a denial too. A review takes time and memory in proportion to the policy; `check` is the quicker question.
+    pub fn review(&mut self, command: &str) -> Result<String, MemberError> {
+        let (text, length) = (command.as_ptr(), command.len());
+        self.told(|place, out, written| unsafe {
+            sys::member_review(place, text, length, out.as_mut_ptr(), out.len(), written)
+        })
     }
 
     /// How many messages of member `from` were received.

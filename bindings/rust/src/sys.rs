@@ -63,6 +63,12 @@ unsafe extern "C" {
         founding_length: usize,
         number: u32,
     ) -> u32;
+    pub(crate) fn member_observe(
+        place: &mut OfMember,
+        founding: *const u8,
+        founding_length: usize,
+        number: u32,
+    ) -> u32;
     pub(crate) fn member_submit(
         place: &mut OfMember,
         caller: u32,
@@ -141,6 +147,14 @@ unsafe extern "C" {
     ) -> u32;
     pub(crate) fn member_dump(
         place: &mut OfMember,
+        out: *mut u8,
+        out_length: usize,
+        written: &mut usize,
+    ) -> u32;
+    pub(crate) fn member_review(
+        place: &mut OfMember,
+        command: *const u8,
+        command_length: usize,
         out: *mut u8,
         out_length: usize,
         written: &mut usize,

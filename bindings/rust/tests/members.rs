@@ -113,6 +113,53 @@ fn a_receipt_tells_its_acknowledgement_and_a_delivery_its_record() {
 }
 
 #[test]
+fn an_observer_shows_what_the_member_shows_and_sends_nothing() {
+    let (mut one, mut two) = (member(1), member(2));
+    let mut observer = Member::observe(FOUNDING, 2).unwrap();
+    assert_eq!(
+        Member::observe(FOUNDING, 3).unwrap_err(),
+        OpenError::UnknownMember
+    );
+    one.submit(7, 0, ANN).unwrap();
+    one.submit_batch(7, 1, CLERK).unwrap();
+    let observes = MemberError::Observes;
+    assert_eq!(observer.submit(7, 0, ANN), Err(observes));
+    assert_eq!(observer.submit_batch(7, 0, ""), Err(observes));
+    assert_eq!(observer.next_submit(7, 0, "any"), Err(observes));
+    assert_eq!(observer.next_submit_batch(7, 0, CLERK), Err(observes));
+    let not_yet = MemberError::NotYet;
+    assert_eq!(observer.receive(1, 1, SENT_ANN), Err(not_yet));
+    assert_eq!(observer.next_answer(1, 1, SENT_ANN), Err(not_yet));
+    assert_eq!(observer.receive(1, 1, "[]"), Err(MemberError::NotObject));
+    let mut row = Vec::new();
+    bring((1, &mut one), &mut two, &mut row);
+    for (number, message) in (1..).zip(&row) {
+        observer.take_own(number, message).unwrap();
+    }
+    bring((1, &mut one), &mut observer, &mut Vec::new());
+    assert_eq!(shown(&mut observer), shown(&mut two));
+    assert_eq!(observer.check("s1", "read", "ledger"), (Ok(true), 5));
+    assert_eq!((not_yet.number(), observes.number()), (312, 313));
+}
+
+#[test]
+fn a_review_is_answered_by_the_policy_of_the_history() {
+    let (mut one, mut two) = (member(1), member(2));
+    let users = r#"{"name":"AssignedUsers","role":"clerk"}"#;
+    let check = r#"{"name":"CheckAccess","session":"s1","operation":"read","object":"ledger"}"#;
+    let denied = r#"{"denied":"NoRole","number":4}"#;
+    assert_eq!(two.review(users).unwrap(), denied);
+    one.submit(7, 0, ANN).unwrap();
+    one.submit_batch(7, 1, CLERK).unwrap();
+    bring((1, &mut one), &mut two, &mut Vec::new());
+    assert_eq!(two.review(users).unwrap(), r#"{"names":["ann"]}"#);
+    assert_eq!(two.review(check).unwrap(), r#""Granted""#);
+    assert_eq!(two.review(ANN), Err(MemberError::NotAReview));
+    assert_eq!(two.review("{"), Err(MemberError::NotJson));
+    assert_eq!(one.review(users).unwrap(), denied);
+}
+
+#[test]
 fn a_refusal_tells_what_would_be_next() {
     let mut two = member(2);
     two.receive(1, 1, SENT_ANN).unwrap();

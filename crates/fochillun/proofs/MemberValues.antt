@@ -14,7 +14,7 @@ use denote.Struct.Owning.{shape}
 use Rattle.fochillun.specs.Owned.{slot_owns}
 use Rattle.std.specs.contracts.alloc.Global as heap
 use Rattle.std.specs.contracts.impls.GlobalAllocator.TheImpl.{ghosts}
-use Rattle.rbac_member.specs.contracts.member.Member as held
+use Rattle.rbac_embedded_member.specs.contracts.kept.KeptMember as held
 use Rattle.loose_box.specs.contracts.loose.Loose as loose
 use Rattle.fochillun.specs.contracts.member.slot.MemberSlot as slot
 

@@ -1,4 +1,5 @@
 pub mod CallLemmas
+pub mod ObserverLemmas
 pub mod SentLemmas
 pub mod ShortLemmas
 pub mod SubmitLemmas

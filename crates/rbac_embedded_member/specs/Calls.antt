@@ -1,6 +1,6 @@
 -- Members that are called by bytes, each by itself: what they are after their calls, and when the texts that they got are those
 -- that the others told.
-use Rattle.std.specs.Prelude.{ℕ, ◌≡◌, ◌≢◌, ◌<◌, ◌+◌, ◌-◌, ⊤, List, [], ◌∷◌, length, Some, None, Ok, slice_get}
+use Rattle.std.specs.Prelude.{ℕ, Bool, true, false, ◌≡◌, ◌≢◌, ◌<◌, ◌+◌, ◌-◌, ⊤, List, [], ◌∷◌, length, Some, None, Ok, slice_get}
 use Rattle.rbac_terms.specs.Vocabulary.{Vocabulary}
 use Rattle.rbac_words.specs.Group.{Group}
 use Rattle.rbac_words.specs.World.{World}
@@ -12,6 +12,8 @@ use Rattle.rbac_words.specs.declared.message.Message.{Message}
 use Rattle.rbac_moves.specs.Seal.{row}
 use Rattle.rbac_moves.specs.Rows.{with_message}
 use Rattle.rbac_message_text.specs.Message.{message_read}
+use Rattle.rbac_embedded_member.specs.declared.kept.KeptMember.{KeptMember}
+use Rattle.rbac_embedded_member.specs.Observing.{acting_step, receiving}
 use Rattle.rbac_embedded_member.specs.Step.{Step, submit_step, submit_batch_step, receive_step, take_own_step, deliver_step}
 
 -- a call that was not answered NO_MEMORY, whatever else it was answered with
@@ -77,3 +79,45 @@ pub record MayBeSet (w : World) (k : ℕ) (m : Message) : Type 0 where
 abbrev pub WereSet : World → List (ℕ × Message) → Type 0
 WereSet w [] = ⊤
 WereSet w (s ∷ sets) = MayBeSet w s.0 s.1 × WereSet (with_message w s.0 s.1) sets
+
+-- ---- A place that only observes
+
+-- what a call does in a place, which acts or only observes
+abbrev pub call_step : Call → KeptMember → Step
+call_step (calls_submit caller serial text) k = acting_step (submit_step caller serial text) k
+call_step (calls_submit_batch caller serial text) k = acting_step (submit_batch_step caller serial text) k
+call_step (calls_receive from number text) k = receiving from number text k
+call_step (calls_take_own number text) k = take_own_step number text k.member
+call_step calls_deliver k = deliver_step k.member
+
+abbrev pub observing : Member → KeptMember
+observing v = record { member = v; observes = true }
+
+-- the member of a place that only observes, after these calls
+abbrev pub observed : Member → List Call → Member
+observed v [] = v
+observed v (call ∷ calls) = observed (call_step call (observing v)).member calls
+
+-- whether a call takes of the member's own row
+abbrev pub is_of_own : Call → Bool
+is_of_own (calls_take_own number text) = true
+is_of_own (calls_submit caller serial text) = false
+is_of_own (calls_submit_batch caller serial text) = false
+is_of_own (calls_receive from number text) = false
+is_of_own calls_deliver = false
+
+-- each text that was given as one of its own row is one of a message of that row, by its number
+abbrev pub WereOwn : List Message → List Call → Type 0
+WereOwn row [] = ⊤
+WereOwn row (calls_take_own number text ∷ calls) = IsTold row number text × WereOwn row calls
+WereOwn row (calls_submit caller serial text ∷ calls) = WereOwn row calls
+WereOwn row (calls_submit_batch caller serial text ∷ calls) = WereOwn row calls
+WereOwn row (calls_receive from number text ∷ calls) = WereOwn row calls
+WereOwn row (calls_deliver ∷ calls) = WereOwn row calls
+
+-- a process that observes a member by these calls, over a transport that brought only texts of what stands in the rows
+pub record IsObserved (w : World) (number : ℕ) (v : Member) (calls : List Call) : Type 0 where
+  pub is_number : IsNumber w.group number
+  pub made : observed (founded w.group number w.vocabulary) calls ≡ v
+  pub told : (k : ℕ) → IsNumber w.group k → k ≢ number → WereTold k (row w k) calls
+  pub own : WereOwn (row w number) calls

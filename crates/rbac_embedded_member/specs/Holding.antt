@@ -1,5 +1,6 @@
--- What each call on a holder of one member tells and leaves, where memory is there. A holder has a member, or nothing.
-use Rattle.std.specs.Prelude.{ℕ, Bool, ◌+◌, ◌==◌, not, nat_le, ◌&&◌, ◌||◌, if◌then◌else◌, Option, Some, None, List, length, Result, Ok, Err}
+-- What each call on a holder of one member tells and leaves, where memory is there. A holder has a member, which acts or only
+-- observes, or nothing.
+use Rattle.std.specs.Prelude.{ℕ, ⊤, Bool, ◌+◌, ◌==◌, not, nat_le, ◌&&◌, ◌||◌, if◌then◌else◌, Option, Some, None, List, length, Result, Ok, Err}
 use Rattle.rbac_words.specs.Stamp.{has_passed}
 use Rattle.rbac_words.specs.World.{least}
 use Rattle.rbac_words.specs.Keeping.Member.{Member, founded, latest_of}
@@ -11,8 +12,10 @@ use Rattle.rbac_founding.specs.declared.founding.Founding.{Founding}
 use Rattle.rbac_embedded.specs.Calls.{verdict}
 use Rattle.rbac_embedded.specs.Holding.{with_text, room_status}
 use Rattle.rbac_embedded.specs.declared.status.Status.TheVariants.{Done, EmptyPlace, FullPlace, Checked, BadFounding}
+use Rattle.rbac_embedded_member.specs.Observing.{kept_after}
 use Rattle.rbac_embedded_member.specs.Step.{Step}
-use Rattle.rbac_embedded_member.specs.Texts.{Told}
+use Rattle.rbac_embedded_member.specs.Texts.{Told, item_at, ReadsBackAs}
+use Rattle.rbac_embedded_member.specs.declared.kept.KeptMember.{KeptMember}
 use Rattle.rbac_embedded_member.specs.declared.status.MemberStatus.{MemberStatus}
 use Rattle.rbac_embedded_member.specs.declared.status.MemberStatus.TheVariants.{Plain, Refused}
 use Rattle.rbac_embedded_member.specs.declared.waiting.Waiting.{Waiting}
@@ -23,37 +26,43 @@ abbrev pub founded_status : ReadingFile Founding → ℕ → MemberStatus
 founded_status (Ok f) number = if nat_le 1 number && nat_le number f.group.members then Plain Done else Refused UnknownMember
 founded_status (Err refusal) number = Plain (BadFounding refusal)
 
-abbrev pub founded_member : ReadingFile Founding → ℕ → Option Member
-founded_member (Ok f) number = if nat_le 1 number && nat_le number f.group.members then Some (founded f.group number f.vocabulary) else None
-founded_member (Err refusal) number = None
+abbrev pub founded_as : Bool → ReadingFile Founding → ℕ → Option KeptMember
+founded_as observes (Ok f) number = if nat_le 1 number && nat_le number f.group.members then Some (record { member = founded f.group number f.vocabulary; observes = observes }) else None
+founded_as observes (Err refusal) number = None
 
-abbrev pub open_status : List ℕ → ℕ → Option Member → MemberStatus
+abbrev pub open_status : List ℕ → ℕ → Option KeptMember → MemberStatus
 open_status file number None = founded_status (founding_of file) number
-open_status file number (Some v) = Plain FullPlace
+open_status file number (Some k) = Plain FullPlace
 
-abbrev pub opened : List ℕ → ℕ → Option Member → Option Member
-opened file number None = founded_member (founding_of file) number
-opened file number (Some v) = Some v
+-- as one that acts, or as one that only observes
+abbrev pub opened_as : Bool → List ℕ → ℕ → Option KeptMember → Option KeptMember
+opened_as observes file number None = founded_as observes (founding_of file) number
+opened_as observes file number (Some k) = Some k
 
 -- ---- A step of the member, where there is one
 
-abbrev pub step_status : (Member → Step) → Option Member → MemberStatus
+abbrev pub step_status : (KeptMember → Step) → Option KeptMember → MemberStatus
 step_status step None = Plain EmptyPlace
-step_status step (Some v) = (step v).status
+step_status step (Some k) = (step k).status
 
-abbrev pub step_kept : (Member → Step) → Option Member → Option Member
+abbrev pub step_kept : (KeptMember → Step) → Option KeptMember → Option KeptMember
 step_kept step None = None
-step_kept step (Some v) = Some (step v).member
+step_kept step (Some k) = Some (kept_after step k)
 
-abbrev pub step_told : (Member → Step) → Option Member → ℕ
+abbrev pub step_told : (KeptMember → Step) → Option KeptMember → ℕ
 step_told step None = 0
-step_told step (Some v) = (step v).told
+step_told step (Some k) = (step k).told
 
 -- ---- A text that the member tells, in a caller's buffer
 
-abbrev pub asked : (Member → Told) → Option Member → Told
+abbrev pub asked : (KeptMember → Told) → Option KeptMember → Told
 asked text None = Err (Plain EmptyPlace)
-asked text (Some v) = text v
+asked text (Some k) = text k
+
+-- the text of that message, where it is not too long, reads as it
+abbrev pub ReadsBack : ℕ → Option KeptMember → Type 0
+ReadsBack number None = ⊤
+ReadsBack number (Some k) = ReadsBackAs (item_at k.member.sent number)
 
 abbrev pub text_status : Told → List ℕ → MemberStatus
 text_status (Ok text) buffer = Plain (room_status text buffer)
@@ -69,13 +78,13 @@ text_length (Err status) = 0
 
 -- ---- A number that the member tells
 
-abbrev pub number_status : Option Member → MemberStatus
+abbrev pub number_status : Option KeptMember → MemberStatus
 number_status None = Plain EmptyPlace
-number_status (Some v) = Plain Done
+number_status (Some k) = Plain Done
 
-abbrev pub number_told : (Member → ℕ) → Option Member → ℕ
+abbrev pub number_told : (Member → ℕ) → Option KeptMember → ℕ
 number_told number None = 0
-number_told number (Some v) = number v
+number_told number (Some k) = number k.member
 
 -- ---- What it waits for
 
@@ -95,12 +104,12 @@ abbrev pub if_held : Member → Option Submission → Option Waiting
 if_held v None = None
 if_held v (Some x) = Some (record { stamp = x.stamp; awaited = awaited_bits v x.stamp })
 
-abbrev pub waits_of : Option Member → Result (Option Waiting) MemberStatus
+abbrev pub waits_of : Option KeptMember → Result (Option Waiting) MemberStatus
 waits_of None = Err (Plain EmptyPlace)
-waits_of (Some v) = Ok (if_held v (least v.held))
+waits_of (Some k) = Ok (if_held k.member (least k.member.held))
 
 -- ---- Check: by the policy that its history left
 
-abbrev pub check_status : List ℕ → List ℕ → List ℕ → Option Member → MemberStatus
+abbrev pub check_status : List ℕ → List ℕ → List ℕ → Option KeptMember → MemberStatus
 check_status session operation object None = Plain EmptyPlace
-check_status session operation object (Some v) = Plain (Checked (verdict session operation object v.policy))
+check_status session operation object (Some k) = Plain (Checked (verdict session operation object k.member.policy))

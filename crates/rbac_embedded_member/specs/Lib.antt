@@ -1,5 +1,6 @@
 pub mod Status
 pub mod Step
 pub mod Texts
+pub mod Observing
 pub mod Holding
 pub mod Calls

@@ -1,5 +1,6 @@
 -- The texts that a member tells, and why there is none. The member stays as it is.
 use Rattle.std.specs.Prelude.{ℕ, ◌≡◌, ◌≤◌, ⊤, ◌-◌, nat_le, nat_lt, if◌then◌else◌, List, [], ◌∷◌, length, Option, Some, None, option_map, ok_or, slice_get, Result, Ok, Err}
+use Rattle.rbac_terms.specs.Effect.{reply}
 use Rattle.rbac_terms.specs.declared.command.Command.{Command}
 use Rattle.rbac_words.specs.World.{submit_refusal}
 use Rattle.rbac_words.specs.Keeping.Member.{Member, node_of, batch, message_refusal}
@@ -10,14 +11,16 @@ use Rattle.rbac_words.specs.declared.message.Message.{Message}
 use Rattle.rbac_words.specs.declared.message.Message.TheVariants.{Ack}
 use Rattle.rbac_words.specs.declared.stamp.Stamp.{Stamp}
 use Rattle.rbac_text.specs.ReadCommand.{command}
+use Rattle.rbac_text.specs.AnswerText.{answer_text as reply_text}
 use Rattle.rbac_text.specs.Fields.{Reading}
+use Rattle.rbac_decide.specs.Asking.{is_question}
 use Rattle.rbac_dump.specs.DumpText.{dump_text}
 use Rattle.rbac_embedded.specs.declared.status.Status.TheVariants.{BadCommand}
 use Rattle.rbac_message_text.specs.MessageText.{longest_message, message_text}
 use Rattle.rbac_message_text.specs.Message.{message_read, commands_read}
 use Rattle.rbac_message_text.specs.RecordText.{record_text}
 use Rattle.rbac_embedded_member.specs.declared.status.MemberStatus.{MemberStatus}
-use Rattle.rbac_embedded_member.specs.declared.status.MemberStatus.TheVariants.{Plain, Refused, MessageTooLong}
+use Rattle.rbac_embedded_member.specs.declared.status.MemberStatus.TheVariants.{Plain, Refused, MessageTooLong, NotAReview}
 use Rattle.rbac_embedded_member.specs.Step.{status_of}
 
 -- a text, or why there is none
@@ -42,14 +45,14 @@ record_at number v = ok_or (option_map record_text (item_at v.history number)) (
 abbrev pub policy_dump : Member → Told
 policy_dump v = Ok (dump_text v.policy)
 
+-- the answer that a command would have by its policy, where that is a review or a check, which change nothing
+abbrev pub question_told : Command → Member → Told
+question_told asked v = if is_question asked then Ok (reply_text (reply asked v.policy)) else Err NotAReview
+
 -- that message's text, where it is not too long, reads as it
 abbrev pub ReadsBackAs : Option Message → Type 0
 ReadsBackAs None = ⊤
 ReadsBackAs (Some m) = length (message_text m) ≤ longest_message → message_read (message_text m) ≡ Ok m
-
-abbrev pub ReadsBack : ℕ → Option Member → Type 0
-ReadsBack number None = ⊤
-ReadsBack number (Some v) = ReadsBackAs (item_at v.sent number)
 
 -- ---- What it would send next, to be set in its row first and taken from there
 
@@ -87,3 +90,8 @@ message_told from number m v = text_unless (message_refusal v from number m) (Ok
 
 abbrev pub next_answer : ℕ → ℕ → List ℕ → Member → Told
 next_answer from number text v = text_read (message_read text) (message_told from number) v
+
+-- ---- What it is asked by a text
+
+abbrev pub review : List ℕ → Member → Told
+review text v = text_read (command text) question_told v

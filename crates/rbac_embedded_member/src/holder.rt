@@ -1,51 +1,46 @@
 //! A place for one member of a group: the calls that another language makes, over values.
-ghost use Rattle.std.specs.Prelude.{◌≡◌, ◌≢◌, None, length, option_map, IfErr, IfOk};
+ghost use Rattle.std.specs.Prelude.{◌≡◌, ◌≢◌, false, true, None, length, option_map, IfErr, IfOk};
 ghost use Rattle.rbac_words.specs.Message.{next_serial, submissions};
 ghost use Rattle.rbac_member.specs.Calls.{taken_of};
 ghost use Rattle.rbac_embedded.specs.Status.{no_memory};
-ghost use Rattle.rbac_embedded_member.specs.Holding.{asked, check_status, number_status, number_told, open_status, opened, step_kept, step_status, step_told, text_buffer, text_length, text_status, waits_of};
+ghost use Rattle.rbac_embedded_member.specs.Holding.{asked, check_status, number_status, number_told, open_status, opened_as, step_kept, step_status, step_told, text_buffer, text_length, text_status, waits_of, ReadsBack};
+ghost use Rattle.rbac_embedded_member.specs.Observing.{acting_step, acting_told, answering, receiving};
 ghost use Rattle.rbac_embedded_member.specs.Status.{status_number};
-ghost use Rattle.rbac_embedded_member.specs.Step.{deliver_step, receive_step, submit_batch_step, submit_step, take_own_step};
-ghost use Rattle.rbac_embedded_member.specs.Texts.{message_at, next_answer, next_submit, next_submit_batch, policy_dump, record_at, ReadsBack};
+ghost use Rattle.rbac_embedded_member.specs.Step.{deliver_step, submit_batch_step, submit_step, take_own_step};
+ghost use Rattle.rbac_embedded_member.specs.Texts.{message_at, next_submit, next_submit_batch, policy_dump, record_at, review};
 
+use crate::kept::{KeptMember, not_read};
 use crate::status::MemberStatus;
 use crate::texts::Told;
 use crate::waiting::{Waiting, waits_of};
-use crate::{steps, texts};
+use crate::{observing, reviews, steps, texts};
 use rbac_embedded::Status;
 use rbac_embedded::buffer::tell;
 use rbac_embedded::verdict::check;
 use rbac_founding::read_founding;
 use rbac_member::Member;
 use rbac_message_text::{LONGEST_MESSAGE, read_commands, read_message};
-use rbac_text::{LineRefusal, read_command};
+use rbac_text::read_command;
 use rbac_words::{Commands, Refusal};
 use std::alloc::Global;
 use std::marker::Model;
 
-/// A member, or none.
+/// A member, which acts or only observes, or none.
 #[derive(Drop)]
 pub struct MemberHolder {
-    member: Option<Box<Member>>,
+    kept: Option<Box<KeptMember>>,
 }
 
 impl Model for MemberHolder {
     ghost use Rattle.std.specs.Prelude.{Option, option_map};
-    ghost use Rattle.rbac_words.specs.Keeping.Member.{Member as MemberValue};
+    ghost use Rattle.rbac_embedded_member.specs.declared.kept.KeptMember.{KeptMember as KeptValue};
 
-    ghost Value = { Option MemberValue };
+    ghost Value = { Option KeptValue };
 
-    ghost view = { λ h. option_map (λ b. b.value) h.member };
+    ghost view = { λ h. option_map (λ b. b.value) h.kept };
 }
 
 const EMPTY: MemberStatus = MemberStatus::Plain(Status::EmptyPlace);
-
-/// Why a text is not read.
-fn not_read(refusal: LineRefusal) -> MemberStatus
-    ensures { result ≡ MemberStatus.Plain (Status.BadCommand refusal) }
-{
-    MemberStatus::Plain(Status::BadCommand(refusal))
-}
 
 /// Puts a text into the buffer, where there is one.
 fn tell_text(told: Told, out: &mut [u8], written: &mut usize) -> MemberStatus
@@ -68,31 +63,31 @@ impl MemberHolder {
     pub fn empty() -> MemberHolder
         ensures { result ≡ None }
     {
-        MemberHolder { member: None }
+        MemberHolder { kept: None }
     }
 
     /// What a place had.
-    pub fn of(member: Option<Box<Member>>) -> MemberHolder
-        ensures { result ≡ option_map (λ b. b.value) member }
+    pub fn of(kept: Option<Box<KeptMember>>) -> MemberHolder
+        ensures { result ≡ option_map (λ b. b.value) kept }
     {
-        MemberHolder { member }
+        MemberHolder { kept }
     }
 
     /// What a place is to have.
-    pub fn into_member(self) -> Option<Box<Member>>
+    pub fn into_kept(self) -> Option<Box<KeptMember>>
         ensures { option_map (λ b. b.value) result ≡ self }
     {
-        let MemberHolder { member } = self;
-        member
+        let MemberHolder { kept } = self;
+        kept
     }
 
-    /// Founds the member of this number with what a founding file says.
-    pub fn open(&mut self, alloc: Global, file: &[u8], number: u32) -> MemberStatus
+    // Founds the member of this number with what a founding file says, as one that acts, or only observes.
+    fn open_as(&mut self, alloc: Global, file: &[u8], number: u32, observes: bool) -> MemberStatus
         ensures told { status_number result ≢ no_memory → result ≡ open_status file.now number self.old }
-        ensures opened { status_number result ≢ no_memory → self.new ≡ opened file.now number self.old }
+        ensures opened { status_number result ≢ no_memory → self.new ≡ opened_as observes file.now number self.old }
         ensures unchanged { status_number result ≡ no_memory → self.new ≡ self.old }
     {
-        if self.member.is_some() {
+        if self.kept.is_some() {
             return MemberStatus::Plain(Status::FullPlace);
         }
         let founding = match read_founding(alloc, file) {
@@ -103,9 +98,9 @@ impl MemberHolder {
             Ok(member) => member,
             Err(_) => return MemberStatus::Refused(Refusal::UnknownMember),
         };
-        match Box::new(alloc, member) {
-            Ok(member) => {
-                self.member = Some(member);
+        match Box::new(alloc, KeptMember { member, observes }) {
+            Ok(kept) => {
+                self.kept = Some(kept);
                 MemberStatus::Plain(Status::Done)
             }
             Err(refused) => {
@@ -115,7 +110,28 @@ impl MemberHolder {
         }
     }
 
-    /// Submits the command that a text stands for, as a caller's next one. Tells the number of the message that sends it: `message` gives its
+    /// Founds the member of this number with what a founding file says.
+    pub fn open(&mut self, alloc: Global, file: &[u8], number: u32) -> MemberStatus
+        ensures told { status_number result ≢ no_memory → result ≡ open_status file.now number self.old }
+        ensures opened { status_number result ≢ no_memory → self.new ≡ opened_as false file.now number self.old }
+        ensures unchanged { status_number result ≡ no_memory → self.new ≡ self.old }
+    {
+        self.open_as(alloc, file, number, false)
+    }
+
+    /// Founds the member of this number as one that only observes: it takes its own row by `take_own`, receives what it need not acknowledge,
+    /// delivers, and is asked as any other; it never sends. `submit`, `submit_batch`, `next_submit` and `next_submit_batch` are refused as
+    /// Observes, whatever they are given; `receive` and `next_answer`, where they are not refused otherwise, of a message that it would
+    /// have to acknowledge, as NotYet: a later message of its own row lets it be received.
+    pub fn observe(&mut self, alloc: Global, file: &[u8], number: u32) -> MemberStatus
+        ensures told { status_number result ≢ no_memory → result ≡ open_status file.now number self.old }
+        ensures opened { status_number result ≢ no_memory → self.new ≡ opened_as true file.now number self.old }
+        ensures unchanged { status_number result ≡ no_memory → self.new ≡ self.old }
+    {
+        self.open_as(alloc, file, number, true)
+    }
+
+    /// Submits the command that a text stands for, as a caller's next one, unless the place only observes. Tells the number of the message that sends it: `message` gives its
     /// text. Refused as BadSerial, it tells the serial that is due.
     pub fn submit(
         &mut self,
@@ -125,27 +141,16 @@ impl MemberHolder {
         text: &[u8],
         told: &mut u64,
     ) -> MemberStatus
-        ensures status { status_number result ≢ no_memory → result ≡ step_status (submit_step caller serial text.now) self.old }
-        ensures kept { status_number result ≢ no_memory → self.new ≡ step_kept (submit_step caller serial text.now) self.old }
-        ensures number { status_number result ≢ no_memory → told.new ≡ step_told (submit_step caller serial text.now) self.old }
+        ensures status { status_number result ≢ no_memory → result ≡ step_status (acting_step (submit_step caller serial text.now)) self.old }
+        ensures kept { status_number result ≢ no_memory → self.new ≡ step_kept (acting_step (submit_step caller serial text.now)) self.old }
+        ensures number { status_number result ≢ no_memory → told.new ≡ step_told (acting_step (submit_step caller serial text.now)) self.old }
         ensures unchanged { status_number result ≡ no_memory → self.new ≡ self.old }
         ensures no_number { status_number result ≡ no_memory → told.new ≡ 0 }
     {
         *told = 0;
-        let Some(member) = &mut self.member else {
-            return EMPTY;
-        };
-        match read_command(alloc, text) {
-            Ok(command) => steps::submit(
-                alloc,
-                member,
-                LONGEST_MESSAGE,
-                caller,
-                serial,
-                Commands::one(command),
-                told,
-            ),
-            Err(refusal) => not_read(refusal),
+        match &mut self.kept {
+            Some(kept) => kept.submit(alloc, caller, serial, text, told),
+            None => EMPTY,
         }
     }
 
@@ -158,27 +163,16 @@ impl MemberHolder {
         text: &[u8],
         told: &mut u64,
     ) -> MemberStatus
-        ensures status { status_number result ≢ no_memory → result ≡ step_status (submit_batch_step caller serial text.now) self.old }
-        ensures kept { status_number result ≢ no_memory → self.new ≡ step_kept (submit_batch_step caller serial text.now) self.old }
-        ensures number { status_number result ≢ no_memory → told.new ≡ step_told (submit_batch_step caller serial text.now) self.old }
+        ensures status { status_number result ≢ no_memory → result ≡ step_status (acting_step (submit_batch_step caller serial text.now)) self.old }
+        ensures kept { status_number result ≢ no_memory → self.new ≡ step_kept (acting_step (submit_batch_step caller serial text.now)) self.old }
+        ensures number { status_number result ≢ no_memory → told.new ≡ step_told (acting_step (submit_batch_step caller serial text.now)) self.old }
         ensures unchanged { status_number result ≡ no_memory → self.new ≡ self.old }
         ensures no_number { status_number result ≡ no_memory → told.new ≡ 0 }
     {
         *told = 0;
-        let Some(member) = &mut self.member else {
-            return EMPTY;
-        };
-        match read_commands(alloc, text) {
-            Ok(commands) => steps::submit(
-                alloc,
-                member,
-                LONGEST_MESSAGE,
-                caller,
-                serial,
-                commands,
-                told,
-            ),
-            Err(refusal) => not_read(refusal),
+        match &mut self.kept {
+            Some(kept) => kept.submit_batch(alloc, caller, serial, text, told),
+            None => EMPTY,
         }
     }
 
@@ -192,23 +186,16 @@ impl MemberHolder {
         text: &[u8],
         told: &mut u64,
     ) -> MemberStatus
-        ensures status { status_number result ≢ no_memory → result ≡ step_status (receive_step from number text.now) self.old }
-        ensures kept { status_number result ≢ no_memory → self.new ≡ step_kept (receive_step from number text.now) self.old }
-        ensures number { status_number result ≢ no_memory → told.new ≡ step_told (receive_step from number text.now) self.old }
+        ensures status { status_number result ≢ no_memory → result ≡ step_status (receiving from number text.now) self.old }
+        ensures kept { status_number result ≢ no_memory → self.new ≡ step_kept (receiving from number text.now) self.old }
+        ensures number { status_number result ≢ no_memory → told.new ≡ step_told (receiving from number text.now) self.old }
         ensures unchanged { status_number result ≡ no_memory → self.new ≡ self.old }
         ensures no_number { status_number result ≡ no_memory → told.new ≡ 0 }
     {
         *told = 0;
-        let Some(member) = &mut self.member else {
-            return EMPTY;
-        };
-        match read_message(alloc, text) {
-            Ok(message) => {
-                let status = steps::receive(member, from, number, &message, told);
-                drop(message);
-                status
-            }
-            Err(refusal) => not_read(refusal),
+        match &mut self.kept {
+            Some(kept) => kept.receive(alloc, from, number, text, told),
+            None => EMPTY,
         }
     }
 
@@ -221,33 +208,30 @@ impl MemberHolder {
         text: &[u8],
         told: &mut u64,
     ) -> MemberStatus
-        ensures status { status_number result ≢ no_memory → result ≡ step_status (take_own_step number text.now) self.old }
-        ensures kept { status_number result ≢ no_memory → self.new ≡ step_kept (take_own_step number text.now) self.old }
-        ensures number { status_number result ≢ no_memory → told.new ≡ step_told (take_own_step number text.now) self.old }
+        ensures status { status_number result ≢ no_memory → result ≡ step_status (λ k. take_own_step number text.now k.member) self.old }
+        ensures kept { status_number result ≢ no_memory → self.new ≡ step_kept (λ k. take_own_step number text.now k.member) self.old }
+        ensures number { status_number result ≢ no_memory → told.new ≡ step_told (λ k. take_own_step number text.now k.member) self.old }
         ensures unchanged { status_number result ≡ no_memory → self.new ≡ self.old }
         ensures no_number { status_number result ≡ no_memory → told.new ≡ 0 }
     {
         *told = 0;
-        let Some(member) = &mut self.member else {
-            return EMPTY;
-        };
-        match read_message(alloc, text) {
-            Ok(message) => steps::take_own(alloc, member, LONGEST_MESSAGE, number, message, told),
-            Err(refusal) => not_read(refusal),
+        match &mut self.kept {
+            Some(kept) => kept.take_own(alloc, number, text, told),
+            None => EMPTY,
         }
     }
 
     /// Delivers the command that is due, if one is. Tells the number of its record, which `record` gives, and 0 where none is due.
     pub fn deliver(&mut self, alloc: Global, told: &mut u64) -> MemberStatus
-        ensures status { status_number result ≢ no_memory → result ≡ step_status deliver_step self.old }
-        ensures kept { status_number result ≢ no_memory → self.new ≡ step_kept deliver_step self.old }
-        ensures number { status_number result ≢ no_memory → told.new ≡ step_told deliver_step self.old }
+        ensures status { status_number result ≢ no_memory → result ≡ step_status (λ k. deliver_step k.member) self.old }
+        ensures kept { status_number result ≢ no_memory → self.new ≡ step_kept (λ k. deliver_step k.member) self.old }
+        ensures number { status_number result ≢ no_memory → told.new ≡ step_told (λ k. deliver_step k.member) self.old }
         ensures unchanged { status_number result ≡ no_memory → self.new ≡ self.old }
         ensures no_number { status_number result ≡ no_memory → told.new ≡ 0 }
     {
         *told = 0;
-        match &mut self.member {
-            Some(member) => steps::deliver(alloc, member, told),
+        match &mut self.kept {
+            Some(kept) => steps::deliver(alloc, &mut kept.member, told),
             None => EMPTY,
         }
     }
@@ -260,18 +244,18 @@ impl MemberHolder {
         out: &mut [u8],
         written: &mut usize,
     ) -> MemberStatus
-        ensures told { status_number result ≢ no_memory → result ≡ text_status (asked (message_at number) self.now) out.old }
-        ensures buffer { status_number result ≢ no_memory → out.new ≡ text_buffer (asked (message_at number) self.now) out.old }
-        ensures length { status_number result ≢ no_memory → written.new ≡ text_length (asked (message_at number) self.now) }
+        ensures told { status_number result ≢ no_memory → result ≡ text_status (asked (λ k. message_at number k.member) self.now) out.old }
+        ensures buffer { status_number result ≢ no_memory → out.new ≡ text_buffer (asked (λ k. message_at number k.member) self.now) out.old }
+        ensures length { status_number result ≢ no_memory → written.new ≡ text_length (asked (λ k. message_at number k.member) self.now) }
         ensures reads_back { result ≡ MemberStatus.Plain Status.Done → ReadsBack number self.now }
         ensures buffer_unchanged { status_number result ≡ no_memory → out.new ≡ out.old }
         ensures no_length { status_number result ≡ no_memory → written.new ≡ 0 }
     {
         *written = 0;
-        let Some(member) = &self.member else {
+        let Some(kept) = &self.kept else {
             return EMPTY;
         };
-        tell_text(texts::message_at(alloc, member, number), out, written)
+        tell_text(texts::message_at(alloc, &kept.member, number), out, written)
     }
 
     /// The text of the record of this number, counted from 1, of the member's history.
@@ -282,32 +266,32 @@ impl MemberHolder {
         out: &mut [u8],
         written: &mut usize,
     ) -> MemberStatus
-        ensures told { status_number result ≢ no_memory → result ≡ text_status (asked (record_at number) self.now) out.old }
-        ensures buffer { status_number result ≢ no_memory → out.new ≡ text_buffer (asked (record_at number) self.now) out.old }
-        ensures length { status_number result ≢ no_memory → written.new ≡ text_length (asked (record_at number) self.now) }
+        ensures told { status_number result ≢ no_memory → result ≡ text_status (asked (λ k. record_at number k.member) self.now) out.old }
+        ensures buffer { status_number result ≢ no_memory → out.new ≡ text_buffer (asked (λ k. record_at number k.member) self.now) out.old }
+        ensures length { status_number result ≢ no_memory → written.new ≡ text_length (asked (λ k. record_at number k.member) self.now) }
         ensures buffer_unchanged { status_number result ≡ no_memory → out.new ≡ out.old }
         ensures no_length { status_number result ≡ no_memory → written.new ≡ 0 }
     {
         *written = 0;
-        let Some(member) = &self.member else {
+        let Some(kept) = &self.kept else {
             return EMPTY;
         };
-        tell_text(texts::record_at(alloc, member, number), out, written)
+        tell_text(texts::record_at(alloc, &kept.member, number), out, written)
     }
 
     /// The client lines that make the member's policy.
     pub fn dump(&self, alloc: Global, out: &mut [u8], written: &mut usize) -> MemberStatus
-        ensures told { status_number result ≢ no_memory → result ≡ text_status (asked (policy_dump) self.now) out.old }
-        ensures buffer { status_number result ≢ no_memory → out.new ≡ text_buffer (asked (policy_dump) self.now) out.old }
-        ensures length { status_number result ≢ no_memory → written.new ≡ text_length (asked (policy_dump) self.now) }
+        ensures told { status_number result ≢ no_memory → result ≡ text_status (asked (λ k. policy_dump k.member) self.now) out.old }
+        ensures buffer { status_number result ≢ no_memory → out.new ≡ text_buffer (asked (λ k. policy_dump k.member) self.now) out.old }
+        ensures length { status_number result ≢ no_memory → written.new ≡ text_length (asked (λ k. policy_dump k.member) self.now) }
         ensures buffer_unchanged { status_number result ≡ no_memory → out.new ≡ out.old }
         ensures no_length { status_number result ≡ no_memory → written.new ≡ 0 }
     {
         *written = 0;
-        let Some(member) = &self.member else {
+        let Some(kept) = &self.kept else {
             return EMPTY;
         };
-        tell_text(texts::policy_dump(alloc, member), out, written)
+        tell_text(texts::policy_dump(alloc, &kept.member), out, written)
     }
 
     /// The text of the message by which a submit of this command would send it; nothing changes. It can be set in the member's row first, and
@@ -321,20 +305,23 @@ impl MemberHolder {
         out: &mut [u8],
         written: &mut usize,
     ) -> MemberStatus
-        ensures told { status_number result ≢ no_memory → result ≡ text_status (asked (next_submit caller serial text.now) self.now) out.old }
-        ensures buffer { status_number result ≢ no_memory → out.new ≡ text_buffer (asked (next_submit caller serial text.now) self.now) out.old }
-        ensures length { status_number result ≢ no_memory → written.new ≡ text_length (asked (next_submit caller serial text.now) self.now) }
+        ensures told { status_number result ≢ no_memory → result ≡ text_status (asked (acting_told (next_submit caller serial text.now)) self.now) out.old }
+        ensures buffer { status_number result ≢ no_memory → out.new ≡ text_buffer (asked (acting_told (next_submit caller serial text.now)) self.now) out.old }
+        ensures length { status_number result ≢ no_memory → written.new ≡ text_length (asked (acting_told (next_submit caller serial text.now)) self.now) }
         ensures buffer_unchanged { status_number result ≡ no_memory → out.new ≡ out.old }
         ensures no_length { status_number result ≡ no_memory → written.new ≡ 0 }
     {
         *written = 0;
-        let Some(member) = &self.member else {
+        let Some(kept) = &self.kept else {
             return EMPTY;
         };
+        if kept.observes {
+            return MemberStatus::Observes;
+        }
         let told = match read_command(alloc, text) {
             Ok(command) => texts::next_batch(
                 alloc,
-                member,
+                &kept.member,
                 LONGEST_MESSAGE,
                 caller,
                 serial,
@@ -355,20 +342,23 @@ impl MemberHolder {
         out: &mut [u8],
         written: &mut usize,
     ) -> MemberStatus
-        ensures told { status_number result ≢ no_memory → result ≡ text_status (asked (next_submit_batch caller serial text.now) self.now) out.old }
-        ensures buffer { status_number result ≢ no_memory → out.new ≡ text_buffer (asked (next_submit_batch caller serial text.now) self.now) out.old }
-        ensures length { status_number result ≢ no_memory → written.new ≡ text_length (asked (next_submit_batch caller serial text.now) self.now) }
+        ensures told { status_number result ≢ no_memory → result ≡ text_status (asked (acting_told (next_submit_batch caller serial text.now)) self.now) out.old }
+        ensures buffer { status_number result ≢ no_memory → out.new ≡ text_buffer (asked (acting_told (next_submit_batch caller serial text.now)) self.now) out.old }
+        ensures length { status_number result ≢ no_memory → written.new ≡ text_length (asked (acting_told (next_submit_batch caller serial text.now)) self.now) }
         ensures buffer_unchanged { status_number result ≡ no_memory → out.new ≡ out.old }
         ensures no_length { status_number result ≡ no_memory → written.new ≡ 0 }
     {
         *written = 0;
-        let Some(member) = &self.member else {
+        let Some(kept) = &self.kept else {
             return EMPTY;
         };
+        if kept.observes {
+            return MemberStatus::Observes;
+        }
         let told = match read_commands(alloc, text) {
             Ok(commands) => texts::next_batch(
                 alloc,
-                member,
+                &kept.member,
                 LONGEST_MESSAGE,
                 caller,
                 serial,
@@ -390,19 +380,26 @@ impl MemberHolder {
         out: &mut [u8],
         written: &mut usize,
     ) -> MemberStatus
-        ensures told { status_number result ≢ no_memory → result ≡ text_status (asked (next_answer from number text.now) self.now) out.old }
-        ensures buffer { status_number result ≢ no_memory → out.new ≡ text_buffer (asked (next_answer from number text.now) self.now) out.old }
-        ensures length { status_number result ≢ no_memory → written.new ≡ text_length (asked (next_answer from number text.now) self.now) }
+        ensures told { status_number result ≢ no_memory → result ≡ text_status (asked (answering from number text.now) self.now) out.old }
+        ensures buffer { status_number result ≢ no_memory → out.new ≡ text_buffer (asked (answering from number text.now) self.now) out.old }
+        ensures length { status_number result ≢ no_memory → written.new ≡ text_length (asked (answering from number text.now) self.now) }
         ensures buffer_unchanged { status_number result ≡ no_memory → out.new ≡ out.old }
         ensures no_length { status_number result ≡ no_memory → written.new ≡ 0 }
     {
         *written = 0;
-        let Some(member) = &self.member else {
+        let Some(kept) = &self.kept else {
             return EMPTY;
         };
         let told = match read_message(alloc, text) {
             Ok(message) => {
-                let told = texts::first_answer(alloc, member, from, number, &message);
+                let told = observing::next_answer(
+                    alloc,
+                    &kept.member,
+                    kept.observes,
+                    from,
+                    number,
+                    &message,
+                );
                 drop(message);
                 told
             }
@@ -417,9 +414,9 @@ impl MemberHolder {
         ensures number { told.new ≡ number_told (λ v. taken_of v from) self.now }
     {
         *told = 0;
-        match &self.member {
-            Some(member) => {
-                *told = u64::from(member.read(from));
+        match &self.kept {
+            Some(kept) => {
+                *told = u64::from(kept.member.read(from));
                 MemberStatus::Plain(Status::Done)
             }
             None => EMPTY,
@@ -432,9 +429,9 @@ impl MemberHolder {
         ensures number { told.new ≡ number_told (λ v. next_serial caller (submissions v.sent)) self.now }
     {
         *told = 0;
-        match &self.member {
-            Some(member) => {
-                *told = member.next_serial(caller);
+        match &self.kept {
+            Some(kept) => {
+                *told = kept.member.next_serial(caller);
                 MemberStatus::Plain(Status::Done)
             }
             None => EMPTY,
@@ -448,8 +445,8 @@ impl MemberHolder {
     pub fn waits(&self) -> Result<Option<Waiting>, MemberStatus>
         ensures { result ≡ waits_of self.now }
     {
-        match &self.member {
-            Some(member) => Ok(waits_of(member)),
+        match &self.kept {
+            Some(kept) => Ok(waits_of(&kept.member)),
             None => Err(EMPTY),
         }
     }
@@ -467,14 +464,44 @@ impl MemberHolder {
         ensures number { told.new ≡ number_told (λ v. length v.history) self.now }
     {
         *told = 0;
-        match &self.member {
-            Some(member) => {
-                *told = member.history().len() as u64;
-                let verdict = check(member.policy(), session, operation, object);
+        match &self.kept {
+            Some(kept) => {
+                *told = kept.member.history().len() as u64;
+                let verdict = check(kept.member.policy(), session, operation, object);
                 MemberStatus::Plain(Status::Checked(verdict))
             }
             None => EMPTY,
         }
+    }
+
+    /// The text of the answer that a command would have by the policy that the member's history left, where it is a review or a check of
+    /// access; nothing changes. A review takes time and memory in proportion to the policy, a check neither.
+    pub fn review(
+        &self,
+        alloc: Global,
+        text: &[u8],
+        out: &mut [u8],
+        written: &mut usize,
+    ) -> MemberStatus
+        ensures told { status_number result ≢ no_memory → result ≡ text_status (asked (λ k. review text.now k.member) self.now) out.old }
+        ensures buffer { status_number result ≢ no_memory → out.new ≡ text_buffer (asked (λ k. review text.now k.member) self.now) out.old }
+        ensures length { status_number result ≢ no_memory → written.new ≡ text_length (asked (λ k. review text.now k.member) self.now) }
+        ensures buffer_unchanged { status_number result ≡ no_memory → out.new ≡ out.old }
+        ensures no_length { status_number result ≡ no_memory → written.new ≡ 0 }
+    {
+        *written = 0;
+        let Some(kept) = &self.kept else {
+            return EMPTY;
+        };
+        let told = match read_command(alloc, text) {
+            Ok(command) => {
+                let told = reviews::question_told(alloc, &kept.member, &command);
+                drop(command);
+                told
+            }
+            Err(refusal) => Err(not_read(refusal)),
+        };
+        tell_text(told, out, written)
     }
 
     /// Ends the member.
@@ -482,9 +509,9 @@ impl MemberHolder {
         ensures told { result ≡ number_status self.old }
         ensures closed { self.new ≡ None }
     {
-        match self.member.take() {
-            Some(member) => {
-                drop(member);
+        match self.kept.take() {
+            Some(kept) => {
+                drop(kept);
                 MemberStatus::Plain(Status::Done)
             }
             None => EMPTY,

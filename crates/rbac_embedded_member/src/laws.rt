@@ -1,5 +1,5 @@
 //! What follows for members of how each of them was called.
-ghost use Rattle.std.specs.Prelude.{ℕ, ◌≡◌, ◌<◌, ◌≤◌, ◌⊎◌, ◌++◌, List, length};
+ghost use Rattle.std.specs.Prelude.{ℕ, false, ◌≡◌, ◌<◌, ◌≤◌, ◌⊎◌, ◌++◌, List, length};
 ghost use Rattle.std.specs.List.{AllByRecursion as Each};
 ghost use Rattle.rbac_terms.specs.Vocabulary.{Vocabulary};
 ghost use Rattle.rbac_words.specs.Group.{Group, IsGroup};
@@ -8,8 +8,10 @@ ghost use Rattle.rbac_words.specs.Play.{IsPrefixOf};
 ghost use Rattle.rbac_words.specs.Keeping.Member.{Member, IsNumber, founded, node_of};
 ghost use Rattle.rbac_words.specs.Keeping.Members.{IsLawfulWorld, member_at, world_of};
 ghost use Rattle.rbac_words.specs.declared.message.Message.{Message};
+ghost use Rattle.rbac_words.specs.World.{World};
+ghost use Rattle.rbac_moves.specs.Seal.{row};
 ghost use Rattle.rbac_moves.specs.Rows.{rows_after};
-ghost use Rattle.rbac_embedded_member.specs.Calls.{Call, AreCalled, IsCalledInRow, WereSet, called};
+ghost use Rattle.rbac_embedded_member.specs.Calls.{Call, AreCalled, IsCalledInRow, IsObserved, WereSet, call_step, called, is_of_own, observing};
 ghost use Rattle.rbac_message_text.specs.MessageText.{longest_message, message_text};
 
 /// Members that are called one by one, each in a place of its own, over transports that bring only texts of sent messages, have right
@@ -31,4 +33,21 @@ pub fn what_was_told_by_rows_stays_right()
     ensures lawful { (group : Group) (vocabulary : Vocabulary) (sets : List (ℕ × Message)) → IsGroup group → WereSet (founding_world group vocabulary) sets → IsLawfulWorld (rows_after (founding_world group vocabulary) sets) }
     ensures right { (group : Group) (vocabulary : Vocabulary) (sets later : List (ℕ × Message)) (i : ℕ) (u : Member) (calls : List Call) → IsGroup group → WereSet (founding_world group vocabulary) (sets ++ later) → IsCalledInRow (rows_after (founding_world group vocabulary) sets) i u calls → IsRight (rows_after (founding_world group vocabulary) (sets ++ later)) (node_of u) }
     ensures one { (group : Group) (vocabulary : Vocabulary) (sets later : List (ℕ × Message)) (i j : ℕ) (u v : Member) (calls others : List Call) → IsGroup group → WereSet (founding_world group vocabulary) (sets ++ later) → IsCalledInRow (rows_after (founding_world group vocabulary) sets) i u calls → IsCalledInRow (rows_after (founding_world group vocabulary) (sets ++ later)) j v others → IsPrefixOf u.history v.history ⊎ IsPrefixOf v.history u.history }
+{}
+
+/// A place that only observes sends nothing: a call changes what its member has sent only by taking a message of its own row. So where each
+/// text that it is given as one of its row is one, all that its member has sent stands in the row, in its place.
+pub fn an_observing_place_sends_nothing()
+    ensures same { (v : Member) (call : Call) → is_of_own call ≡ false → (call_step call (observing v)).member.sent ≡ v.sent }
+    ensures in_row { (w : World) (number : ℕ) (v : Member) (calls : List Call) → IsObserved w number v calls → IsPrefixOf v.sent (row w number) }
+{}
+
+/// What a place that only observes shows at any time is right among the rows of any later time, where each message is set as
+/// `what_was_told_by_rows_stays_right` says; and its history goes on, or ends, as that of each process that acts as a member, before or
+/// after, and of each other that only observes, of the same member or of another.
+pub fn what_an_observer_shows_is_right()
+    ensures right { (group : Group) (vocabulary : Vocabulary) (sets later : List (ℕ × Message)) (i : ℕ) (u : Member) (calls : List Call) → IsGroup group → WereSet (founding_world group vocabulary) (sets ++ later) → IsObserved (rows_after (founding_world group vocabulary) sets) i u calls → IsRight (rows_after (founding_world group vocabulary) (sets ++ later)) (node_of u) }
+    ensures before_member { (group : Group) (vocabulary : Vocabulary) (sets later : List (ℕ × Message)) (i j : ℕ) (u v : Member) (calls others : List Call) → IsGroup group → WereSet (founding_world group vocabulary) (sets ++ later) → IsObserved (rows_after (founding_world group vocabulary) sets) i u calls → IsCalledInRow (rows_after (founding_world group vocabulary) (sets ++ later)) j v others → IsPrefixOf u.history v.history ⊎ IsPrefixOf v.history u.history }
+    ensures after_member { (group : Group) (vocabulary : Vocabulary) (sets later : List (ℕ × Message)) (i j : ℕ) (u v : Member) (calls others : List Call) → IsGroup group → WereSet (founding_world group vocabulary) (sets ++ later) → IsCalledInRow (rows_after (founding_world group vocabulary) sets) i u calls → IsObserved (rows_after (founding_world group vocabulary) (sets ++ later)) j v others → IsPrefixOf u.history v.history ⊎ IsPrefixOf v.history u.history }
+    ensures of_observers { (group : Group) (vocabulary : Vocabulary) (sets later : List (ℕ × Message)) (i j : ℕ) (u v : Member) (calls others : List Call) → IsGroup group → WereSet (founding_world group vocabulary) (sets ++ later) → IsObserved (rows_after (founding_world group vocabulary) sets) i u calls → IsObserved (rows_after (founding_world group vocabulary) (sets ++ later)) j v others → IsPrefixOf u.history v.history ⊎ IsPrefixOf v.history u.history }
 {}

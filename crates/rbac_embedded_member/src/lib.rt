@@ -3,15 +3,20 @@
 #![tactic(auto)]
 
 mod holder;
+mod kept;
 mod laws;
+mod observing;
+pub mod reviews;
 mod status;
 pub mod steps;
 pub mod texts;
 mod waiting;
 
 pub use holder::MemberHolder;
+pub use kept::KeptMember;
 pub use laws::{
-    each_sent_message_can_be_read, members_that_are_called_are_right,
+    an_observing_place_sends_nothing, each_sent_message_can_be_read,
+    members_that_are_called_are_right, what_an_observer_shows_is_right,
     what_was_told_by_rows_stays_right,
 };
 pub use status::MemberStatus;

@@ -114,8 +114,8 @@ pub fn policy_dump(alloc: Global, member: &Member) -> Told
     }
 }
 
-// Why a text is not told.
-fn not_told(refusal: Refusal) -> MemberStatus
+/// Why a text is not told.
+pub(crate) fn not_told(refusal: Refusal) -> MemberStatus
     ensures { result ≡ status_of refusal }
 {
     refused(refusal, &mut 0)

@@ -168,7 +168,7 @@ step_moved : (v : Member) (read : Reading Asked) → IsMoved v (read_step read v
 step_moved v (Ok (Submit one)) = batch_moved v longest_carried one.caller one.serial one.commands _
 step_moved v (Ok (Receive one)) = message_moved v one.from one.number one.message _ (λ k sent told. told)
 step_moved v (Ok (Own number m)) = own_moved v longest_carried number m _
-step_moved v (Ok Deliver) = record { moves = delivers ∷ []; allowed = (refl, tt); is = refl; sent = λ k sent told. tt }
+step_moved v (Ok Deliver) = record { moves = delivers ∷ []; allowed = (refl, tt); is = refl; holds = λ k sent told. tt }
 step_moved v (Ok (Tell question)) = stayed v _
 step_moved v (Err refusal) = stayed v _
 
@@ -202,7 +202,7 @@ module _ (group : Group) (vocabulary : Vocabulary) (members : List Member) (inpu
   are_run = record {
     count = are.count;
     made = λ i h. let m = lines_moved 1 (founded group (i + 1) vocabulary) (lines (inputs i)) in record { allowed = m.allowed; is = m.is ∙ are.made i h };
-    brought = λ i j hi hj d. let m = lines_moved 1 (founded group (i + 1) vocabulary) (lines (inputs i)) in m.sent (j + 1) (member_at members j).sent (are.brought i j hi hj d);
+    brought = λ i j hi hj d. let m = lines_moved 1 (founded group (i + 1) vocabulary) (lines (inputs i)) in m.holds (j + 1) (member_at members j).sent (are.brought i j hi hj d);
   }
 
   pub run_right : IsGroup group → AreHistoriesRight (world_of group vocabulary members)

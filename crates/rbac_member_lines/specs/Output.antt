@@ -13,7 +13,7 @@ use Rattle.rbac_embedded_member.specs.Step.{Step, done, batch_step, own_step, me
 use Rattle.rbac_embedded_member.specs.Texts.{Told, batch_told, message_told, message_at, record_at}
 use Rattle.rbac_embedded_member.specs.Holding.{if_held}
 use Rattle.rbac_embedded_member.specs.declared.status.MemberStatus.{MemberStatus}
-use Rattle.rbac_embedded_member.specs.declared.status.MemberStatus.TheVariants.{Plain, Refused, MessageTooLong}
+use Rattle.rbac_embedded_member.specs.declared.status.MemberStatus.TheVariants.{Plain, Refused, MessageTooLong, NotYet, Observes, NotAReview}
 use Rattle.rbac_member_lines.specs.declared.asked.Asked.{Asked}
 use Rattle.rbac_member_lines.specs.declared.asked.Asked.TheVariants.{Submit, Receive, Own, Deliver, Tell}
 use Rattle.rbac_member_lines.specs.declared.asked.Question.{Question}
@@ -42,6 +42,9 @@ abbrev pub done_unless : MemberStatus → List ℕ → Told
 done_unless (Plain status) text = Ok text
 done_unless (Refused refusal) text = Err (Refused refusal)
 done_unless MessageTooLong text = Err MessageTooLong
+done_unless NotYet text = Err NotYet
+done_unless Observes text = Err Observes
+done_unless NotAReview text = Err NotAReview
 
 -- a text that is told, in a line
 abbrev pub told_line : (List ℕ → List ℕ) → Told → Told
@@ -75,6 +78,9 @@ abbrev pub status_text : ℕ → MemberStatus → List ℕ
 status_text line (Plain status) = []
 status_text line (Refused refusal) = refusal_text line refusal
 status_text line MessageTooLong = refused_text line (codes "MessageTooLong")
+status_text line NotYet = refused_text line (codes "NotYet")
+status_text line Observes = refused_text line (codes "Observes")
+status_text line NotAReview = refused_text line (codes "NotAReview")
 
 abbrev pub told_text : ℕ → Told → List ℕ
 told_text line (Ok text) = text

@@ -75,6 +75,18 @@ fn refuse_step(text: &mut Vec<u8>, line: u64, status: MemberStatus) -> Result<bo
             put_refused_line(text, line, "MessageTooLong")?;
             Ok(true)
         }
+        MemberStatus::NotYet => {
+            put_refused_line(text, line, "NotYet")?;
+            Ok(true)
+        }
+        MemberStatus::Observes => {
+            put_refused_line(text, line, "Observes")?;
+            Ok(true)
+        }
+        MemberStatus::NotAReview => {
+            put_refused_line(text, line, "NotAReview")?;
+            Ok(true)
+        }
     }
 }
 

@@ -1,18 +1,18 @@
 //! The calls of other languages on one member of a group: each takes the member out of its place, calls what is proved, and puts it back.
-ghost use Rattle.std.specs.Prelude.{◌≡◌, ◌≢◌, None, length};
+ghost use Rattle.std.specs.Prelude.{◌≡◌, ◌≢◌, false, true, None, length};
 ghost use Rattle.rbac_words.specs.Message.{next_serial, submissions};
 ghost use Rattle.rbac_member.specs.Calls.{taken_of};
 ghost use Rattle.rbac_embedded.specs.Status.{no_memory};
-ghost use Rattle.rbac_embedded_member.specs.Holding.{asked, check_status, number_status, number_told, open_status, opened, step_kept, step_status, step_told, text_buffer, text_length, text_status, waits_of};
+ghost use Rattle.rbac_embedded_member.specs.Holding.{asked, check_status, number_status, number_told, open_status, opened_as, step_kept, step_status, step_told, text_buffer, text_length, text_status, waits_of, ReadsBack};
+ghost use Rattle.rbac_embedded_member.specs.Observing.{acting_step, acting_told, answering, receiving};
 ghost use Rattle.rbac_embedded_member.specs.Status.{status_number};
-ghost use Rattle.rbac_embedded_member.specs.Step.{deliver_step, receive_step, submit_batch_step, submit_step, take_own_step};
-ghost use Rattle.rbac_embedded_member.specs.Texts.{message_at, next_answer, next_submit, next_submit_batch, policy_dump, record_at, ReadsBack};
+ghost use Rattle.rbac_embedded_member.specs.Step.{deliver_step, submit_batch_step, submit_step, take_own_step};
+ghost use Rattle.rbac_embedded_member.specs.Texts.{message_at, next_submit, next_submit_batch, policy_dump, record_at, review};
 ghost use Rattle.fochillun.specs.Waits.{told_waiting, told_waits};
 
 use super::place::MemberPlace;
 use rbac_embedded::Status;
 use rbac_embedded_member::{MemberHolder, MemberStatus, Waiting};
-use rbac_member::Member;
 use std::alloc::Global;
 
 /// The least command that is held back, for a caller in another language: the stamp of its message, its place there, and the members that
@@ -53,12 +53,30 @@ pub extern "C" fn member_open(
     number: u32,
 ) -> u32
     ensures told { result ≢ no_memory → result ≡ status_number (open_status founding.now number place.old.slot.kept) }
-    ensures opened { result ≢ no_memory → place.new.slot.kept ≡ opened founding.now number place.old.slot.kept }
+    ensures opened { result ≢ no_memory → place.new.slot.kept ≡ opened_as false founding.now number place.old.slot.kept }
     ensures unchanged { result ≡ no_memory → place.new.slot.kept ≡ place.old.slot.kept }
 {
     let mut holder = MemberHolder::of(place.take(alloc));
     let status = holder.open(alloc, founding, number);
-    place.put(holder.into_member());
+    place.put(holder.into_kept());
+    status.number()
+}
+
+/// Founds the member of this number in an empty place, as one that only observes.
+#[unsafe(no_mangle)]
+pub extern "C" fn member_observe(
+    place: &mut MemberPlace,
+    alloc: Global,
+    founding: &[u8],
+    number: u32,
+) -> u32
+    ensures told { result ≢ no_memory → result ≡ status_number (open_status founding.now number place.old.slot.kept) }
+    ensures opened { result ≢ no_memory → place.new.slot.kept ≡ opened_as true founding.now number place.old.slot.kept }
+    ensures unchanged { result ≡ no_memory → place.new.slot.kept ≡ place.old.slot.kept }
+{
+    let mut holder = MemberHolder::of(place.take(alloc));
+    let status = holder.observe(alloc, founding, number);
+    place.put(holder.into_kept());
     status.number()
 }
 
@@ -72,15 +90,15 @@ pub extern "C" fn member_submit(
     command: &[u8],
     told: &mut u64,
 ) -> u32
-    ensures status { result ≢ no_memory → result ≡ status_number (step_status (submit_step caller serial command.now) place.old.slot.kept) }
-    ensures kept { result ≢ no_memory → place.new.slot.kept ≡ step_kept (submit_step caller serial command.now) place.old.slot.kept }
-    ensures number { result ≢ no_memory → told.new ≡ step_told (submit_step caller serial command.now) place.old.slot.kept }
+    ensures status { result ≢ no_memory → result ≡ status_number (step_status (acting_step (submit_step caller serial command.now)) place.old.slot.kept) }
+    ensures kept { result ≢ no_memory → place.new.slot.kept ≡ step_kept (acting_step (submit_step caller serial command.now)) place.old.slot.kept }
+    ensures number { result ≢ no_memory → told.new ≡ step_told (acting_step (submit_step caller serial command.now)) place.old.slot.kept }
     ensures unchanged { result ≡ no_memory → place.new.slot.kept ≡ place.old.slot.kept }
     ensures no_number { result ≡ no_memory → told.new ≡ 0 }
 {
     let mut holder = MemberHolder::of(place.take(alloc));
     let status = holder.submit(alloc, caller, serial, command, told);
-    place.put(holder.into_member());
+    place.put(holder.into_kept());
     status.number()
 }
 
@@ -94,15 +112,15 @@ pub extern "C" fn member_submit_batch(
     commands: &[u8],
     told: &mut u64,
 ) -> u32
-    ensures status { result ≢ no_memory → result ≡ status_number (step_status (submit_batch_step caller serial commands.now) place.old.slot.kept) }
-    ensures kept { result ≢ no_memory → place.new.slot.kept ≡ step_kept (submit_batch_step caller serial commands.now) place.old.slot.kept }
-    ensures number { result ≢ no_memory → told.new ≡ step_told (submit_batch_step caller serial commands.now) place.old.slot.kept }
+    ensures status { result ≢ no_memory → result ≡ status_number (step_status (acting_step (submit_batch_step caller serial commands.now)) place.old.slot.kept) }
+    ensures kept { result ≢ no_memory → place.new.slot.kept ≡ step_kept (acting_step (submit_batch_step caller serial commands.now)) place.old.slot.kept }
+    ensures number { result ≢ no_memory → told.new ≡ step_told (acting_step (submit_batch_step caller serial commands.now)) place.old.slot.kept }
     ensures unchanged { result ≡ no_memory → place.new.slot.kept ≡ place.old.slot.kept }
     ensures no_number { result ≡ no_memory → told.new ≡ 0 }
 {
     let mut holder = MemberHolder::of(place.take(alloc));
     let status = holder.submit_batch(alloc, caller, serial, commands, told);
-    place.put(holder.into_member());
+    place.put(holder.into_kept());
     status.number()
 }
 
@@ -116,15 +134,15 @@ pub extern "C" fn member_receive(
     message: &[u8],
     told: &mut u64,
 ) -> u32
-    ensures status { result ≢ no_memory → result ≡ status_number (step_status (receive_step from number message.now) place.old.slot.kept) }
-    ensures kept { result ≢ no_memory → place.new.slot.kept ≡ step_kept (receive_step from number message.now) place.old.slot.kept }
-    ensures number { result ≢ no_memory → told.new ≡ step_told (receive_step from number message.now) place.old.slot.kept }
+    ensures status { result ≢ no_memory → result ≡ status_number (step_status (receiving from number message.now) place.old.slot.kept) }
+    ensures kept { result ≢ no_memory → place.new.slot.kept ≡ step_kept (receiving from number message.now) place.old.slot.kept }
+    ensures number { result ≢ no_memory → told.new ≡ step_told (receiving from number message.now) place.old.slot.kept }
     ensures unchanged { result ≡ no_memory → place.new.slot.kept ≡ place.old.slot.kept }
     ensures no_number { result ≡ no_memory → told.new ≡ 0 }
 {
     let mut holder = MemberHolder::of(place.take(alloc));
     let status = holder.receive(alloc, from, number, message, told);
-    place.put(holder.into_member());
+    place.put(holder.into_kept());
     status.number()
 }
 
@@ -137,30 +155,30 @@ pub extern "C" fn member_take_own(
     message: &[u8],
     told: &mut u64,
 ) -> u32
-    ensures status { result ≢ no_memory → result ≡ status_number (step_status (take_own_step number message.now) place.old.slot.kept) }
-    ensures kept { result ≢ no_memory → place.new.slot.kept ≡ step_kept (take_own_step number message.now) place.old.slot.kept }
-    ensures number { result ≢ no_memory → told.new ≡ step_told (take_own_step number message.now) place.old.slot.kept }
+    ensures status { result ≢ no_memory → result ≡ status_number (step_status (λ k. take_own_step number message.now k.member) place.old.slot.kept) }
+    ensures kept { result ≢ no_memory → place.new.slot.kept ≡ step_kept (λ k. take_own_step number message.now k.member) place.old.slot.kept }
+    ensures number { result ≢ no_memory → told.new ≡ step_told (λ k. take_own_step number message.now k.member) place.old.slot.kept }
     ensures unchanged { result ≡ no_memory → place.new.slot.kept ≡ place.old.slot.kept }
     ensures no_number { result ≡ no_memory → told.new ≡ 0 }
 {
     let mut holder = MemberHolder::of(place.take(alloc));
     let status = holder.take_own(alloc, number, message, told);
-    place.put(holder.into_member());
+    place.put(holder.into_kept());
     status.number()
 }
 
 /// Delivers the command that is due, and tells its record's number.
 #[unsafe(no_mangle)]
 pub extern "C" fn member_deliver(place: &mut MemberPlace, alloc: Global, told: &mut u64) -> u32
-    ensures status { result ≢ no_memory → result ≡ status_number (step_status (deliver_step) place.old.slot.kept) }
-    ensures kept { result ≢ no_memory → place.new.slot.kept ≡ step_kept (deliver_step) place.old.slot.kept }
-    ensures number { result ≢ no_memory → told.new ≡ step_told (deliver_step) place.old.slot.kept }
+    ensures status { result ≢ no_memory → result ≡ status_number (step_status (λ k. deliver_step k.member) place.old.slot.kept) }
+    ensures kept { result ≢ no_memory → place.new.slot.kept ≡ step_kept (λ k. deliver_step k.member) place.old.slot.kept }
+    ensures number { result ≢ no_memory → told.new ≡ step_told (λ k. deliver_step k.member) place.old.slot.kept }
     ensures unchanged { result ≡ no_memory → place.new.slot.kept ≡ place.old.slot.kept }
     ensures no_number { result ≡ no_memory → told.new ≡ 0 }
 {
     let mut holder = MemberHolder::of(place.take(alloc));
     let status = holder.deliver(alloc, told);
-    place.put(holder.into_member());
+    place.put(holder.into_kept());
     status.number()
 }
 
@@ -173,9 +191,9 @@ pub extern "C" fn member_message(
     out: &mut [u8],
     written: &mut usize,
 ) -> u32
-    ensures told { result ≢ no_memory → result ≡ status_number (text_status (asked (message_at number) place.old.slot.kept) out.old) }
-    ensures buffer { result ≢ no_memory → out.new ≡ text_buffer (asked (message_at number) place.old.slot.kept) out.old }
-    ensures length { result ≢ no_memory → written.new ≡ text_length (asked (message_at number) place.old.slot.kept) }
+    ensures told { result ≢ no_memory → result ≡ status_number (text_status (asked (λ k. message_at number k.member) place.old.slot.kept) out.old) }
+    ensures buffer { result ≢ no_memory → out.new ≡ text_buffer (asked (λ k. message_at number k.member) place.old.slot.kept) out.old }
+    ensures length { result ≢ no_memory → written.new ≡ text_length (asked (λ k. message_at number k.member) place.old.slot.kept) }
     ensures reads_back { result ≡ 0 → ReadsBack number place.old.slot.kept }
     ensures unchanged { place.new.slot.kept ≡ place.old.slot.kept }
     ensures buffer_unchanged { result ≡ no_memory → out.new ≡ out.old }
@@ -183,7 +201,7 @@ pub extern "C" fn member_message(
 {
     let holder = MemberHolder::of(place.take(alloc));
     let status = holder.message(alloc, number, out, written);
-    place.put(holder.into_member());
+    place.put(holder.into_kept());
     status.number()
 }
 
@@ -196,16 +214,16 @@ pub extern "C" fn member_record(
     out: &mut [u8],
     written: &mut usize,
 ) -> u32
-    ensures told { result ≢ no_memory → result ≡ status_number (text_status (asked (record_at number) place.old.slot.kept) out.old) }
-    ensures buffer { result ≢ no_memory → out.new ≡ text_buffer (asked (record_at number) place.old.slot.kept) out.old }
-    ensures length { result ≢ no_memory → written.new ≡ text_length (asked (record_at number) place.old.slot.kept) }
+    ensures told { result ≢ no_memory → result ≡ status_number (text_status (asked (λ k. record_at number k.member) place.old.slot.kept) out.old) }
+    ensures buffer { result ≢ no_memory → out.new ≡ text_buffer (asked (λ k. record_at number k.member) place.old.slot.kept) out.old }
+    ensures length { result ≢ no_memory → written.new ≡ text_length (asked (λ k. record_at number k.member) place.old.slot.kept) }
     ensures unchanged { place.new.slot.kept ≡ place.old.slot.kept }
     ensures buffer_unchanged { result ≡ no_memory → out.new ≡ out.old }
     ensures no_length { result ≡ no_memory → written.new ≡ 0 }
 {
     let holder = MemberHolder::of(place.take(alloc));
     let status = holder.record(alloc, number, out, written);
-    place.put(holder.into_member());
+    place.put(holder.into_kept());
     status.number()
 }
 
@@ -220,16 +238,16 @@ pub extern "C" fn member_next_submit(
     out: &mut [u8],
     written: &mut usize,
 ) -> u32
-    ensures told { result ≢ no_memory → result ≡ status_number (text_status (asked (next_submit caller serial command.now) place.old.slot.kept) out.old) }
-    ensures buffer { result ≢ no_memory → out.new ≡ text_buffer (asked (next_submit caller serial command.now) place.old.slot.kept) out.old }
-    ensures length { result ≢ no_memory → written.new ≡ text_length (asked (next_submit caller serial command.now) place.old.slot.kept) }
+    ensures told { result ≢ no_memory → result ≡ status_number (text_status (asked (acting_told (next_submit caller serial command.now)) place.old.slot.kept) out.old) }
+    ensures buffer { result ≢ no_memory → out.new ≡ text_buffer (asked (acting_told (next_submit caller serial command.now)) place.old.slot.kept) out.old }
+    ensures length { result ≢ no_memory → written.new ≡ text_length (asked (acting_told (next_submit caller serial command.now)) place.old.slot.kept) }
     ensures unchanged { place.new.slot.kept ≡ place.old.slot.kept }
     ensures buffer_unchanged { result ≡ no_memory → out.new ≡ out.old }
     ensures no_length { result ≡ no_memory → written.new ≡ 0 }
 {
     let holder = MemberHolder::of(place.take(alloc));
     let status = holder.next_submit(alloc, caller, serial, command, out, written);
-    place.put(holder.into_member());
+    place.put(holder.into_kept());
     status.number()
 }
 
@@ -244,16 +262,16 @@ pub extern "C" fn member_next_submit_batch(
     out: &mut [u8],
     written: &mut usize,
 ) -> u32
-    ensures told { result ≢ no_memory → result ≡ status_number (text_status (asked (next_submit_batch caller serial commands.now) place.old.slot.kept) out.old) }
-    ensures buffer { result ≢ no_memory → out.new ≡ text_buffer (asked (next_submit_batch caller serial commands.now) place.old.slot.kept) out.old }
-    ensures length { result ≢ no_memory → written.new ≡ text_length (asked (next_submit_batch caller serial commands.now) place.old.slot.kept) }
+    ensures told { result ≢ no_memory → result ≡ status_number (text_status (asked (acting_told (next_submit_batch caller serial commands.now)) place.old.slot.kept) out.old) }
+    ensures buffer { result ≢ no_memory → out.new ≡ text_buffer (asked (acting_told (next_submit_batch caller serial commands.now)) place.old.slot.kept) out.old }
+    ensures length { result ≢ no_memory → written.new ≡ text_length (asked (acting_told (next_submit_batch caller serial commands.now)) place.old.slot.kept) }
     ensures unchanged { place.new.slot.kept ≡ place.old.slot.kept }
     ensures buffer_unchanged { result ≡ no_memory → out.new ≡ out.old }
     ensures no_length { result ≡ no_memory → written.new ≡ 0 }
 {
     let holder = MemberHolder::of(place.take(alloc));
     let status = holder.next_submit_batch(alloc, caller, serial, commands, out, written);
-    place.put(holder.into_member());
+    place.put(holder.into_kept());
     status.number()
 }
 
@@ -268,16 +286,16 @@ pub extern "C" fn member_next_answer(
     out: &mut [u8],
     written: &mut usize,
 ) -> u32
-    ensures told { result ≢ no_memory → result ≡ status_number (text_status (asked (next_answer from number message.now) place.old.slot.kept) out.old) }
-    ensures buffer { result ≢ no_memory → out.new ≡ text_buffer (asked (next_answer from number message.now) place.old.slot.kept) out.old }
-    ensures length { result ≢ no_memory → written.new ≡ text_length (asked (next_answer from number message.now) place.old.slot.kept) }
+    ensures told { result ≢ no_memory → result ≡ status_number (text_status (asked (answering from number message.now) place.old.slot.kept) out.old) }
+    ensures buffer { result ≢ no_memory → out.new ≡ text_buffer (asked (answering from number message.now) place.old.slot.kept) out.old }
+    ensures length { result ≢ no_memory → written.new ≡ text_length (asked (answering from number message.now) place.old.slot.kept) }
     ensures unchanged { place.new.slot.kept ≡ place.old.slot.kept }
     ensures buffer_unchanged { result ≡ no_memory → out.new ≡ out.old }
     ensures no_length { result ≡ no_memory → written.new ≡ 0 }
 {
     let holder = MemberHolder::of(place.take(alloc));
     let status = holder.next_answer(alloc, from, number, message, out, written);
-    place.put(holder.into_member());
+    place.put(holder.into_kept());
     status.number()
 }
 
@@ -289,16 +307,16 @@ pub extern "C" fn member_dump(
     out: &mut [u8],
     written: &mut usize,
 ) -> u32
-    ensures told { result ≢ no_memory → result ≡ status_number (text_status (asked (policy_dump) place.old.slot.kept) out.old) }
-    ensures buffer { result ≢ no_memory → out.new ≡ text_buffer (asked (policy_dump) place.old.slot.kept) out.old }
-    ensures length { result ≢ no_memory → written.new ≡ text_length (asked (policy_dump) place.old.slot.kept) }
+    ensures told { result ≢ no_memory → result ≡ status_number (text_status (asked (λ k. policy_dump k.member) place.old.slot.kept) out.old) }
+    ensures buffer { result ≢ no_memory → out.new ≡ text_buffer (asked (λ k. policy_dump k.member) place.old.slot.kept) out.old }
+    ensures length { result ≢ no_memory → written.new ≡ text_length (asked (λ k. policy_dump k.member) place.old.slot.kept) }
     ensures unchanged { place.new.slot.kept ≡ place.old.slot.kept }
     ensures buffer_unchanged { result ≡ no_memory → out.new ≡ out.old }
     ensures no_length { result ≡ no_memory → written.new ≡ 0 }
 {
     let holder = MemberHolder::of(place.take(alloc));
     let status = holder.dump(alloc, out, written);
-    place.put(holder.into_member());
+    place.put(holder.into_kept());
     status.number()
 }
 
@@ -316,7 +334,7 @@ pub extern "C" fn member_read(
 {
     let holder = MemberHolder::of(place.take(alloc));
     let status = holder.read(from, told);
-    place.put(holder.into_member());
+    place.put(holder.into_kept());
     status.number()
 }
 
@@ -334,7 +352,7 @@ pub extern "C" fn member_next_serial(
 {
     let holder = MemberHolder::of(place.take(alloc));
     let status = holder.next_serial(caller, told);
-    place.put(holder.into_member());
+    place.put(holder.into_kept());
     status.number()
 }
 
@@ -351,7 +369,7 @@ pub extern "C" fn member_waits(
 {
     let holder = MemberHolder::of(place.take(alloc));
     let waits = holder.waits();
-    place.put(holder.into_member());
+    place.put(holder.into_kept());
     match waits {
         Ok(least) => {
             *waiting = least.map_or(NOTHING, told);
@@ -381,7 +399,29 @@ pub extern "C" fn member_check(
 {
     let holder = MemberHolder::of(place.take(alloc));
     let status = holder.check(session, operation, object, told);
-    place.put(holder.into_member());
+    place.put(holder.into_kept());
+    status.number()
+}
+
+/// Puts the text of the answer that a review or a check would have by the member's policy into the buffer.
+#[unsafe(no_mangle)]
+pub extern "C" fn member_review(
+    place: &mut MemberPlace,
+    alloc: Global,
+    command: &[u8],
+    out: &mut [u8],
+    written: &mut usize,
+) -> u32
+    ensures told { result ≢ no_memory → result ≡ status_number (text_status (asked (λ k. review command.now k.member) place.old.slot.kept) out.old) }
+    ensures buffer { result ≢ no_memory → out.new ≡ text_buffer (asked (λ k. review command.now k.member) place.old.slot.kept) out.old }
+    ensures length { result ≢ no_memory → written.new ≡ text_length (asked (λ k. review command.now k.member) place.old.slot.kept) }
+    ensures unchanged { place.new.slot.kept ≡ place.old.slot.kept }
+    ensures buffer_unchanged { result ≡ no_memory → out.new ≡ out.old }
+    ensures no_length { result ≡ no_memory → written.new ≡ 0 }
+{
+    let holder = MemberHolder::of(place.take(alloc));
+    let status = holder.review(alloc, command, out, written);
+    place.put(holder.into_kept());
     status.number()
 }
 
@@ -393,6 +433,6 @@ pub extern "C" fn member_close(place: &mut MemberPlace, alloc: Global) -> u32
 {
     let mut holder = MemberHolder::of(place.take(alloc));
     let status = holder.close();
-    place.put(holder.into_member());
+    place.put(holder.into_kept());
     status.number()
 }

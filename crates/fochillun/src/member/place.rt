@@ -3,7 +3,7 @@ ghost use Rattle.std.specs.Prelude.{◌≡◌, None, false, is_some, option_map}
 
 use super::slot::MemberSlot;
 use loose_box::Loose;
-use rbac_member::Member;
+use rbac_embedded_member::KeptMember;
 use std::alloc::Global;
 use std::mem;
 
@@ -26,19 +26,19 @@ impl MemberPlace {
         }
     }
 
-    fn of(member: Option<Box<Member>>) -> MemberPlace
-        ensures { result.slot.kept ≡ option_map (λ b. b.value) member }
+    fn of(kept: Option<Box<KeptMember>>) -> MemberPlace
+        ensures { result.slot.kept ≡ option_map (λ b. b.value) kept }
     {
-        match member {
-            Some(member) => MemberPlace {
-                slot: MemberSlot::of(Loose::of(member)),
+        match kept {
+            Some(kept) => MemberPlace {
+                slot: MemberSlot::of(Loose::of(kept)),
                 is_full: true,
             },
             None => MemberPlace::empty(),
         }
     }
 
-    fn into_member(self, alloc: Global) -> Option<Box<Member>>
+    fn into_kept(self, alloc: Global) -> Option<Box<KeptMember>>
         ensures { option_map (λ b. b.value) result ≡ self.slot.kept }
     {
         let MemberPlace { slot, is_full } = self;
@@ -51,19 +51,19 @@ impl MemberPlace {
     }
 
     /// Takes the member out, where there is one.
-    pub(crate) fn take(&mut self, alloc: Global) -> Option<Box<Member>>
+    pub(crate) fn take(&mut self, alloc: Global) -> Option<Box<KeptMember>>
         ensures taken { option_map (λ b. b.value) result ≡ self.old.slot.kept }
         ensures left { self.new.slot.kept ≡ None }
     {
-        mem::replace(self, MemberPlace::empty()).into_member(alloc)
+        mem::replace(self, MemberPlace::empty()).into_kept(alloc)
     }
 
     /// Puts a member into an empty place, or leaves it empty.
-    pub(crate) fn put(&mut self, member: Option<Box<Member>>)
+    pub(crate) fn put(&mut self, kept: Option<Box<KeptMember>>)
         requires { self.old.slot.kept ≡ None }
-        ensures { self.new.slot.kept ≡ option_map (λ b. b.value) member }
+        ensures { self.new.slot.kept ≡ option_map (λ b. b.value) kept }
     {
-        mem::replace(self, MemberPlace::of(member)).forget();
+        mem::replace(self, MemberPlace::of(kept)).forget();
     }
 
     /// Lets go of an empty place.

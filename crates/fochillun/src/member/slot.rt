@@ -1,9 +1,9 @@
 //! The address of a member, or of none.
 ghost use Rattle.std.specs.Prelude.{◌≡◌, Option, Some, None, is_some, true, false};
-ghost use Rattle.rbac_words.specs.Keeping.Member.{Member as Kept};
+ghost use Rattle.rbac_embedded_member.specs.declared.kept.KeptMember.{KeptMember as Kept};
 
 use loose_box::Loose;
-use rbac_member::Member;
+use rbac_embedded_member::KeptMember;
 use std::alloc::Global;
 use std::marker::Model;
 
@@ -16,7 +16,7 @@ pub struct MemberSlot {
 
 impl Model for MemberSlot {
     ghost use Rattle.fochillun.specs.Owned.{slot_owns};
-    ghost use Rattle.rbac_member.specs.contracts.member.Member.{the_row};
+    ghost use Rattle.rbac_embedded_member.specs.contracts.kept.KeptMember.{the_row};
 
     ghost also_owns = { λ s. slot_owns the_row s.kept s.at };
 }
@@ -42,7 +42,7 @@ impl MemberSlot {
     }
 
     /// The address of a member.
-    pub fn of(loose: Loose<Member, Global>) -> MemberSlot
+    pub fn of(loose: Loose<KeptMember, Global>) -> MemberSlot
         ensures { result.kept ≡ Some loose.value }
     {
         let Loose { at, alloc: _ } = loose;
@@ -50,13 +50,13 @@ impl MemberSlot {
     }
 
     /// The member at the address.
-    pub fn into_loose(self, alloc: Global) -> Loose<Member, Global>
+    pub fn into_loose(self, alloc: Global) -> Loose<KeptMember, Global>
         requires { is_some self.kept ≡ true }
         ensures { Some result.value ≡ self.kept }
     {
         let MemberSlot { at } = self;
         Loose {
-            at: at as *mut Member,
+            at: at as *mut KeptMember,
             alloc,
         }
     }

@@ -3,8 +3,8 @@
 use crate::member::calls::{
     MemberWaiting, member_check, member_close, member_deliver, member_dump, member_message,
     member_next_answer, member_next_serial, member_next_submit, member_next_submit_batch,
-    member_open, member_read, member_receive, member_record, member_submit, member_submit_batch,
-    member_take_own, member_waits,
+    member_observe, member_open, member_read, member_receive, member_record, member_review,
+    member_submit, member_submit_batch, member_take_own, member_waits,
 };
 use crate::member::place::MemberPlace;
 use std::alloc::Global;
@@ -21,6 +21,13 @@ const ADD_ANN: &[u8] = br#"{"name":"AddUser","user":"ann"}"#;
 
 const TWO_COMMANDS: &[u8] =
     br#"[{"name":"AddUser","user":"ann"},{"name":"AddRole","role":"clerk"}]"#;
+
+const ADD_CLERK: &[u8] = br#"{"name":"AddRole","role":"clerk"}"#;
+
+const USERS: &[u8] = br#"{"name":"AssignedUsers","role":"clerk"}"#;
+
+const CHECK: &[u8] =
+    br#"{"name":"CheckAccess","session":"s1","operation":"read","object":"ledger"}"#;
 
 const NOTHING: MemberWaiting = MemberWaiting {
     clock: 0,
@@ -154,6 +161,48 @@ fn expect_dump(rt: &impl Abort, alloc: Global, place: &mut MemberPlace, wanted: 
     expect_text(rt, status, &out, written, wanted);
 }
 
+fn expect_review(
+    rt: &impl Abort,
+    alloc: Global,
+    place: &mut MemberPlace,
+    command: &[u8],
+    wanted: &[u8],
+) {
+    let (mut out, mut written) = ([0; 200], 9);
+    let status = member_review(place, alloc, command, &mut out, &mut written);
+    expect_text(rt, status, &out, written, wanted);
+}
+
+fn review(alloc: Global, place: &mut MemberPlace, command: &[u8]) -> (u32, usize) {
+    let mut written = 9;
+    let status = member_review(place, alloc, command, &mut [0; 5], &mut written);
+    (status, written)
+}
+
+/// What the calls that tell a next message answer, and that each of them writes no byte.
+fn expect_no_next(rt: &impl Abort, alloc: Global, place: &mut MemberPlace) {
+    let (mut out, mut written) = ([7; 20], 9);
+    let status = member_next_submit(place, alloc, 0, 0, b"any", &mut out, &mut written);
+    assert_eq!(rt; (status, written), (313, 0));
+    let status = member_next_submit_batch(place, alloc, 0, 0, b"any", &mut out, &mut written);
+    assert_eq!(rt; (status, written), (313, 0));
+    assert!(rt; out == [7; 20]);
+}
+
+fn expect_next_answer(
+    rt: &impl Abort,
+    alloc: Global,
+    place: &mut MemberPlace,
+    number: u32,
+    text: &[u8],
+    wanted: u32,
+) {
+    let (mut out, mut written) = ([7; 20], 9);
+    let status = member_next_answer(place, alloc, 1, number, text, &mut out, &mut written);
+    assert_eq!(rt; (status, written), (wanted, 0));
+    assert!(rt; out == [7; 20]);
+}
+
 #[test]
 fn an_empty_place_has_no_member(rt: HostRuntime) {
     let alloc = rt.alloc();
@@ -167,6 +216,8 @@ fn an_empty_place_has_no_member(rt: HostRuntime) {
     expect_told(&rt, read(alloc, &mut place, 2), (40, 0));
     expect_told(&rt, next_serial(alloc, &mut place), (40, 0));
     expect_waits(&rt, alloc, &mut place, 40, NOTHING);
+    assert_eq!(&rt; review(alloc, &mut place, USERS), (40, 0));
+    assert_eq!(&rt; member_observe(&mut place, alloc, FOUNDING, 3), 301);
     assert_eq!(&rt; member_open(&mut place, alloc, FOUNDING, 3), 301);
     assert_eq!(&rt; member_open(&mut place, alloc, FOUNDING, 2), 0);
     assert_eq!(&rt; member_open(&mut place, alloc, FOUNDING, 2), 41);
@@ -262,5 +313,55 @@ fn a_member_acts_by_its_row(rt: HostRuntime) {
     assert_eq!(&rt; (status, written), (42, 15));
     let status = member_message(&mut place, alloc, 4, &mut out, &mut written);
     assert_eq!(&rt; (status, written), (304, 0));
+    expect_end(&rt, alloc, place);
+}
+
+#[test]
+fn an_observer_follows_and_sends_nothing(rt: HostRuntime) {
+    let alloc = rt.alloc();
+    let mut place = MemberPlace::empty();
+    assert_eq!(&rt; member_observe(&mut place, alloc, FOUNDING, 2), 0);
+    assert_eq!(&rt; member_observe(&mut place, alloc, FOUNDING, 2), 41);
+    expect_told(&rt, submit(alloc, &mut place, 0), (313, 0));
+    expect_told(&rt, submit_batch(alloc, &mut place, 0), (313, 0));
+    expect_no_next(&rt, alloc, &mut place);
+    expect_told(&rt, receive(alloc, &mut place, 1, 1, b"{}"), (205, 0));
+    expect_told(&rt, receive(alloc, &mut place, 1, 2, SENT), (306, 1));
+    expect_told(&rt, receive(alloc, &mut place, 1, 1, SENT), (312, 0));
+    expect_next_answer(&rt, alloc, &mut place, 1, SENT, 312);
+    expect_told(&rt, read(alloc, &mut place, 1), (0, 0));
+    let answer = br#"{"stamp":[3,2]}"#;
+    expect_told(&rt, take_own(alloc, &mut place, 1, answer), (0, 1));
+    expect_next_answer(&rt, alloc, &mut place, 1, SENT, 0);
+    expect_next_answer(&rt, alloc, &mut place, 2, SENT, 306);
+    expect_told(&rt, receive(alloc, &mut place, 1, 1, SENT), (0, 0));
+    expect_told(&rt, deliver(alloc, &mut place), (0, 1));
+    expect_record(&rt, alloc, &mut place, 1, RECORD);
+    expect_message(&rt, alloc, &mut place, 1, answer);
+    let status = member_message(&mut place, alloc, 2, &mut [], &mut 9);
+    assert_eq!(&rt; status, 304);
+    expect_end(&rt, alloc, place);
+}
+
+#[test]
+fn reviews_tell_by_the_policy_of_the_history(rt: HostRuntime) {
+    let alloc = rt.alloc();
+    let mut place = opened(&rt, alloc, 1);
+    let no_role = br#"{"denied":"NoRole","number":4}"#;
+    expect_review(&rt, alloc, &mut place, USERS, no_role);
+    let mut told = 9;
+    let status = member_submit(&mut place, alloc, 0, 0, ADD_CLERK, &mut told);
+    expect_told(&rt, (status, told), (0, 1));
+    let answer = br#"{"stamp":[3,2]}"#;
+    expect_told(&rt, receive(alloc, &mut place, 2, 1, answer), (0, 0));
+    expect_review(&rt, alloc, &mut place, USERS, no_role);
+    expect_told(&rt, deliver(alloc, &mut place), (0, 1));
+    expect_review(&rt, alloc, &mut place, USERS, br#"{"names":[]}"#);
+    let no_session = br#"{"denied":"NoSession","number":10}"#;
+    expect_review(&rt, alloc, &mut place, CHECK, no_session);
+    assert_eq!(&rt; review(alloc, &mut place, USERS), (42, 12));
+    assert_eq!(&rt; review(alloc, &mut place, ADD_ANN), (314, 0));
+    assert_eq!(&rt; review(alloc, &mut place, b"[]"), (203, 0));
+    expect_told(&rt, deliver(alloc, &mut place), (0, 0));
     expect_end(&rt, alloc, place);
 }

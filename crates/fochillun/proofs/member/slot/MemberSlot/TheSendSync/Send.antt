@@ -3,8 +3,8 @@ use denote.Struct.Struct.{exits_of}
 use denote.Struct.Owning.{shape, fields, to}
 use denote.Param.Send.{IsSend, AllSend, owning_send, struct_send, sendable}
 use Rattle.std_alloc.proofs.SendSync.{quiet}
-use Rattle.rbac_member.specs.contracts.member.Member as held
-use Rattle.rbac_member.proofs.member.Member.TheSendSync.{the_send as held_send}
+use Rattle.rbac_embedded_member.specs.contracts.kept.KeptMember as held
+use Rattle.rbac_embedded_member.proofs.kept.KeptMember.TheSendSync.{the_send as held_send}
 use Rattle.fochillun.proofs.Kept.{kept_keyless}
 use Rattle.fochillun.specs.contracts.member.slot.MemberSlot.{the_row, the_type}
 

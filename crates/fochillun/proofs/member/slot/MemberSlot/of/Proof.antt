@@ -20,7 +20,7 @@ use Rattle.std.proofs.raw_atomic.Walks.{proved_at, leaves}
 use Rattle.std.specs.contracts.alloc.Global as heap
 use Rattle.std.proofs.alloc.Global.TheLaws as heap_laws
 use Rattle.std.specs.contracts.impls.GlobalAllocator.TheImpl.{ghosts}
-use Rattle.rbac_member.specs.contracts.member.Member as held
+use Rattle.rbac_embedded_member.specs.contracts.kept.KeptMember as held
 use Rattle.loose_box.proofs.Values.{loose_good, loose_out, both}
 use Rattle.fochillun.proofs.MemberValues.{Slot, LooseHeld, word, slot_in}
 use Rattle.fochillun.specs.contracts.member.slot.MemberSlot.of.{ended, clauses}
