@@ -53,6 +53,13 @@ struct Group {
     nodes: Vec<String>,
 }
 
+impl Group {
+    fn node(&self, member: u32) -> Option<String> {
+        let at = (member as usize).checked_sub(1)?;
+        self.nodes.get(at).cloned()
+    }
+}
+
 /// The members of a group, by their sockets in one folder.
 pub struct Members {
     folder: PathBuf,
@@ -160,10 +167,14 @@ impl Members {
     pub async fn call(&mut self, member: u32, id: &str, commands: &str) -> io::Result<Told> {
         let began = Instant::now();
         let mut group = self.known(0).await?;
+        if group.node(member).is_none() {
+            // There may be more members since it was asked last.
+            self.group = None;
+            group = self.known(0).await?;
+        }
         let mut is_first = true;
         loop {
-            let at = (member as usize).checked_sub(1);
-            let Some(node) = at.and_then(|at| group.nodes.get(at)).cloned() else {
+            let Some(node) = group.node(member) else {
                 let told = json!({ "error": "UnknownMember" });
                 return Ok((StatusCode::NOT_FOUND, told.to_string().into_bytes()));
             };

@@ -1,18 +1,19 @@
 //! Callers: HTTP/1.1 and JSON over a unix socket.
 //!
-//! `POST /v1/commands` with generation, member, commands and perhaps an id; `GET /v1/state`; `GET /v1/records?generation=G&from=N`.
+//! `POST /v1/commands` with generation, member, commands and perhaps an id; `GET /v1/state`; `GET /v1/records?generation=G&from=N`; and
+//! by what the process has delivered, `POST /v1/check` and `GET /v1/dump`.
 mod replies;
 mod requests;
 
 use crate::engine::EngineState;
-use crate::node::{Asked as AskedOfNode, Phase, Reply};
-use crate::process::Options;
+use crate::node::{Asked as AskedOfNode, Checked, Phase, Reply, ShownAt};
+use crate::process::{AskedCheck, Options};
 use crate::row_member::NewCall;
 use hyper::server::conn::Http;
 use hyper::service::service_fn;
 use hyper::{Body, Method, Request, Response};
 use replies::Told;
-use requests::{asked_of, from_of};
+use requests::{asked_of, from_of, read_of};
 use rows::cell::Identity;
 use serde::{Deserialize, Serialize};
 use std::convert::Infallible;
@@ -28,6 +29,10 @@ use tokio::sync::{mpsc, oneshot};
 pub(crate) enum Question {
     Call(AskedOfNode, oneshot::Sender<Reply>),
     State(oneshot::Sender<Box<State>>),
+    /// By what was delivered; it waits until that is far enough.
+    Check(AskedCheck, oneshot::Sender<Checked>),
+    /// The generation and the commands that make its policy, by what was delivered; none where nothing is shown yet.
+    Dump(oneshot::Sender<Option<(u64, Vec<String>)>>),
     /// The records of a generation, or else of the one that goes on, from this number on, as many as are told at once; none where its history is not
     /// kept.
     Records {
@@ -56,6 +61,8 @@ pub struct State {
     pub taken: Vec<u64>,
     /// How many cells are left of its row.
     pub cells_left: Option<u64>,
+    /// Up to where what it shows of its policy is right; none where it shows nothing yet.
+    pub shown: Option<ShownAt>,
     /// How many records its history has.
     pub records: u64,
     /// The nodes of whom a message is missing, without which the next command can't be delivered.
@@ -73,6 +80,7 @@ pub struct State {
 /// What the connections of a member share.
 struct Callers {
     patience: Duration,
+    freshness: Duration,
     questions: mpsc::Sender<Question>,
 }
 
@@ -80,6 +88,7 @@ struct Callers {
 pub(crate) fn serve(options: &Options, questions: mpsc::Sender<Question>) -> io::Result<()> {
     let callers = Arc::new(Callers {
         patience: options.patience,
+        freshness: options.freshness,
         questions,
     });
     let listener = listener(&options.socket)?;
@@ -132,7 +141,11 @@ impl Callers {
             (&Method::POST, "/v1/commands") => self.answer_call(caller, request).await,
             (&Method::GET, "/v1/state") => self.ask(Question::State).await.map(Told::State),
             (&Method::GET, "/v1/records") => self.answer_records(&request).await,
-            (_, "/v1/commands" | "/v1/state" | "/v1/records") => Err(Told::NoMethod),
+            (&Method::POST, "/v1/check") => self.answer_check(request).await,
+            (&Method::GET, "/v1/dump") => self.answer_dump().await,
+            (_, "/v1/commands" | "/v1/state" | "/v1/records" | "/v1/check" | "/v1/dump") => {
+                Err(Told::NoMethod)
+            }
             _ => Err(Told::NoPath),
         };
         told.unwrap_or_else(|refused| refused).response()
@@ -159,6 +172,33 @@ impl Callers {
             Ok(Ok(Err(refusal))) => Err(Told::Refused(refusal)),
             Ok(Err(_)) => Err(Told::Ends),
             Err(_) => Err(Told::Waits(self.ask(Question::State).await?)),
+        }
+    }
+
+    /// Answers a check by what was delivered here, where the rows were read lately.
+    async fn answer_check(&self, request: Request<Body>) -> Result<Told, Told> {
+        let asked: AskedCheck = read_of(request).await?;
+        let (tell, told) = oneshot::channel();
+        self.put(Question::Check(asked, tell)).await?;
+        let told = tokio::time::timeout(self.patience, told).await;
+        let state = self.ask(Question::State).await?;
+        if Duration::from_millis(state.engine.read_ms_ago) > self.freshness {
+            return Err(Told::Stale(state));
+        }
+        match told {
+            Ok(Ok(checked)) => Ok(Told::Checked(checked)),
+            Ok(Err(_)) => Err(Told::Ends),
+            Err(_) => Err(Told::Behind(state)),
+        }
+    }
+
+    async fn answer_dump(&self) -> Result<Told, Told> {
+        match self.ask(Question::Dump).await? {
+            Some((generation, commands)) => Ok(Told::Dump {
+                generation,
+                commands,
+            }),
+            None => Err(Told::Behind(self.ask(Question::State).await?)),
         }
     }
 

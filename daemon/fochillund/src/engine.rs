@@ -122,6 +122,8 @@ pub struct EngineState {
     pub said: Option<String>,
     /// How many milliseconds ago it answered at last.
     pub answered_ms_ago: u64,
+    /// How many milliseconds ago a read began at last that it answered: what was set before that is known here.
+    pub read_ms_ago: u64,
 }
 
 /// What came of the last call of a kind.
@@ -143,6 +145,8 @@ struct All {
     set: Last,
     get: Last,
     answered: Instant,
+    /// When the last read began that was answered.
+    read: Instant,
 }
 
 /// The kinds of calls. A full engine may be read all the same.
@@ -165,6 +169,7 @@ impl Heard {
             set: Last::answered(),
             get: Last::answered(),
             answered: Instant::now(),
+            read: Instant::now(),
         };
         Heard {
             engine,
@@ -182,8 +187,14 @@ impl Heard {
         EngineState {
             condition: last.condition,
             said: last.said.clone(),
-            answered_ms_ago: u64::try_from(all.answered.elapsed().as_millis()).unwrap_or(u64::MAX),
+            answered_ms_ago: milliseconds_since(all.answered),
+            read_ms_ago: milliseconds_since(all.read),
         }
+    }
+
+    fn has_read(&self, began: Instant) {
+        let mut all = self.last.lock().unwrap_or_else(PoisonError::into_inner);
+        all.read = all.read.max(began);
     }
 
     /// Notes what was told.
@@ -215,6 +226,10 @@ impl Heard {
     }
 }
 
+fn milliseconds_since(then: Instant) -> u64 {
+    u64::try_from(then.elapsed().as_millis()).unwrap_or(u64::MAX)
+}
+
 fn condition_of(fault: &Fault) -> Condition {
     match fault {
         Fault::BadText | Fault::TooMuch(_) | Fault::Trimmed(_) => Condition::Answers,
@@ -232,7 +247,11 @@ impl Engine for Heard {
     }
 
     async fn get(&self, row: &RowName, first: u64) -> Result<Vec<Bytes>, Fault> {
+        let began = Instant::now();
         let told = self.engine.get(row, first).await;
+        if told.is_ok() {
+            self.has_read(began);
+        }
         self.hear(Kind::Get, told, |_| true)
     }
 

@@ -77,6 +77,9 @@ enum Verb {
         /// For how many seconds a caller waits until it is told for whom its call waits
         #[arg(long, default_value_t = 10)]
         patience: u64,
+        /// How many seconds ago the rows were read at most where a check is answered by what was delivered
+        #[arg(long, value_parser = seconds, default_value = "1")]
+        freshness: Duration,
         /// End at the end of standard input
         #[arg(long, hide = true)]
         ends_with_stdin: bool,
@@ -94,6 +97,9 @@ enum Verb {
         /// For how many seconds a caller waits
         #[arg(long, default_value_t = 10)]
         patience: u64,
+        /// How many seconds ago the rows were read at most where a check is answered by what was delivered
+        #[arg(long, value_parser = seconds, default_value = "1")]
+        freshness: Duration,
     },
     /// Proposes a new generation of a group: other nodes, another founding file, or both. Waits until it has begun. Status 1: it was not proposed, or
     /// has not begun yet
@@ -166,6 +172,7 @@ async fn start(verb: Verb) -> Result<u8, String> {
             margin,
             socket,
             patience,
+            freshness,
             ends_with_stdin,
         } => {
             let new_group = founding.map(|file| new_group(&read(&file)?, &nodes).map_err(told));
@@ -178,6 +185,7 @@ async fn start(verb: Verb) -> Result<u8, String> {
                 takes_over,
                 grace,
                 margin,
+                freshness,
                 patience: Duration::from_secs(patience),
             };
             Ok(be_process(options, ends_with_stdin).await)
@@ -187,6 +195,7 @@ async fn start(verb: Verb) -> Result<u8, String> {
             place,
             folder,
             patience,
+            freshness,
         } => {
             let options = Options {
                 folder,
@@ -196,6 +205,7 @@ async fn start(verb: Verb) -> Result<u8, String> {
                 takes_over: false,
                 grace: None,
                 margin: MARGIN,
+                freshness,
                 socket,
                 patience: Duration::from_secs(patience),
             };

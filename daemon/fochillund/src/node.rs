@@ -5,6 +5,9 @@
 //! calls once they took the dump's end. Where the first member's row is sealed before that, nobody has sent a call in that generation: it is void, and
 //! the policy is that of the last one that is not.
 mod seat;
+mod shown;
+
+pub use shown::{Check, Checked, ShownAt, Stamp};
 
 use crate::generation::{CellFault, Foundings, Generation};
 use crate::message::commands_of;
@@ -90,7 +93,7 @@ pub enum NodeFault {
     },
 }
 
-/// Where a process begins: the last generation of which it is known that it began, and before which none is asked for any more.
+/// Where a process begins: a generation of which it is known that it began, and before which none is asked for any more.
 #[derive(Clone, Copy, Debug, PartialEq, Eq)]
 pub struct Base {
     /// Its number.
@@ -404,6 +407,16 @@ impl<W> Node<W> {
         };
         let dump = seat.dump()?;
         Ok(Some((&seat.generation, dump)))
+    }
+
+    /// Up to where what is shown is right; none where nothing is shown yet.
+    pub fn shown_at(&mut self) -> Option<ShownAt> {
+        self.shown().map(Seat::shown_at)
+    }
+
+    /// Whether a check is granted by the policy that is shown; none where nothing is shown yet.
+    pub fn check(&mut self, check: &Check) -> Option<Checked> {
+        self.shown()?.check(check)
     }
 
     fn shown(&mut self) -> Option<&mut Seat<W>> {

@@ -3,9 +3,11 @@ mod following;
 mod founded;
 mod leaving;
 mod lock;
+mod reads;
 mod sealing;
 mod survey;
 
+pub(crate) use reads::AskedCheck;
 pub use sealing::{seal_row, OwnRow};
 pub use survey::survey;
 
@@ -19,6 +21,7 @@ use founded::{base_of, founded};
 use leaving::Leaving;
 use lock::Lock;
 use rand::Rng;
+use reads::Reads;
 use rows::{sure_get, sure_set, Engine, Fault, RowName, Told};
 use std::future::Future;
 use std::path::PathBuf;
@@ -53,6 +56,8 @@ pub struct Options {
     pub grace: Option<Duration>,
     /// How many cells of its row are left when a member proposes a new generation.
     pub margin: u64,
+    /// How long ago the rows were read at most where a check is answered by what was delivered.
+    pub freshness: Duration,
     /// Where its callers find it.
     pub socket: PathBuf,
     /// How long a caller waits for its answer.
@@ -140,6 +145,7 @@ struct Process {
     following: Following,
     setting: Option<Setting>,
     leaving: Leaving,
+    reads: Reads,
 }
 
 impl Process {
@@ -159,6 +165,7 @@ impl Process {
             engine,
             following,
             setting: None,
+            reads: Reads::new(),
         })
     }
 
@@ -193,6 +200,7 @@ impl Process {
             // Who waits no longer asks again.
             let _ = waiter.send(reply);
         }
+        self.reads.look(&mut self.node);
         if self.following.generation() != self.node.generation().number {
             // There may be something to be set there.
             return self.follow_all().await;
@@ -289,6 +297,12 @@ impl Process {
             Question::State(waiter) => {
                 let _ = waiter.send(Box::new(self.state()));
             }
+            Question::Check(asked, waiter) => self.reads.ask(&mut self.node, asked, waiter),
+            Question::Dump(waiter) => {
+                let dump = self.node.dump();
+                let told = dump.ok().flatten();
+                let _ = waiter.send(told.map(|(generation, dump)| (generation.number, dump)));
+            }
             Question::Records {
                 generation,
                 from,
@@ -323,6 +337,7 @@ impl Process {
             process: std::process::id(),
             taken,
             cells_left: self.node.cells_left(),
+            shown: self.node.shown_at(),
             records,
             sets: waits.row,
             queued: waits.queued,

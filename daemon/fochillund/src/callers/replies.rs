@@ -1,8 +1,8 @@
 //! What callers are told.
 use super::State;
-use crate::node::{Answered, NodeRefusal};
+use crate::node::{Answered, Checked, NodeRefusal};
 use crate::row_member::Refusal;
-use fochillun::MemberError;
+use fochillun::{CheckError, MemberError};
 use hyper::header::{CONTENT_TYPE, RETRY_AFTER};
 use hyper::{Body, Response, StatusCode};
 use serde_json::{json, Value};
@@ -16,6 +16,15 @@ pub(super) enum Told {
         records: Vec<String>,
     },
     State(Box<State>),
+    Checked(Checked),
+    Dump {
+        generation: u64,
+        commands: Vec<String>,
+    },
+    /// What was delivered here does not go as far as was asked for.
+    Behind(Box<State>),
+    /// The rows were not read lately.
+    Stale(Box<State>),
     Refused(NodeRefusal),
     BadRequest(String),
     TooLong(usize),
@@ -55,6 +64,13 @@ impl Told {
                 let records = records.join(",");
                 format!(r#"{{"generation":{generation},"records":[{records}]}}"#)
             }
+            Told::Dump {
+                generation,
+                commands,
+            } => {
+                let commands = commands.join(",");
+                format!(r#"{{"generation":{generation},"commands":[{commands}]}}"#)
+            }
             other => other.told().to_string(),
         };
         let response = response.body(Body::from(body + "\n"));
@@ -63,7 +79,13 @@ impl Told {
 
     fn status(&self) -> StatusCode {
         match self {
-            Told::Answered(_) | Told::Records { .. } | Told::State(_) => StatusCode::OK,
+            Told::Answered(_)
+            | Told::Records { .. }
+            | Told::State(_)
+            | Told::Checked(_)
+            | Told::Dump { .. } => StatusCode::OK,
+            Told::Behind(_) => StatusCode::CONFLICT,
+            Told::Stale(_) => StatusCode::SERVICE_UNAVAILABLE,
             Told::Refused(refusal) => status_of(*refusal),
             Told::Waits(_) | Told::Ends => StatusCode::SERVICE_UNAVAILABLE,
             Told::BadRequest(_) => StatusCode::BAD_REQUEST,
@@ -82,6 +104,23 @@ impl Told {
             Told::Answered(Answered { records, .. }) | Told::Records { records, .. } => {
                 json!({ "records": records })
             }
+            Told::Dump { commands, .. } => json!({ "commands": commands }),
+            Told::Checked(checked) => json!({
+                "answer": answer_of(&checked.answer),
+                "generation": checked.at.generation,
+                "stamp": checked.at.stamp,
+                "records": checked.records,
+            }),
+            Told::Behind(state) => json!({
+                "error": "Behind",
+                "text": "what is delivered here does not go as far",
+                "shown": state.shown,
+            }),
+            Told::Stale(state) => json!({
+                "error": "Stale",
+                "text": "the rows were not read lately",
+                "engine": state.engine,
+            }),
             Told::Refused(refusal) => told_of(*refusal),
             Told::BadRequest(why) => refused("BadRequest", why),
             Told::TooLong(most) => refused("TooLong", &format!("a body has at most {most} bytes")),
@@ -103,8 +142,21 @@ impl Told {
                 "the process ends; the call may stand: ask again by its id",
             ),
             Told::NoMethod => refused("NoMethod", "another method is asked for here"),
-            Told::NoPath => refused("NoPath", "/v1/commands, /v1/state, /v1/records?from=N"),
+            Told::NoPath => refused(
+                "NoPath",
+                "/v1/commands, /v1/check, /v1/dump, /v1/state, /v1/records?from=N",
+            ),
         }
+    }
+}
+
+/// A check's answer as records have it.
+fn answer_of(answer: &Result<bool, CheckError>) -> Value {
+    match answer {
+        Ok(true) => json!("Granted"),
+        Ok(false) => json!("Refused"),
+        Err(CheckError::BadName) => json!({ "refused": "BadName" }),
+        Err(denial) => json!({ "denied": format!("{denial:?}"), "number": denial.number() }),
     }
 }
 

@@ -2,6 +2,7 @@
 use super::replies::Told;
 use hyper::body::HttpBody;
 use hyper::{Body, Request, Uri};
+use serde::de::DeserializeOwned;
 use serde::Deserialize;
 use serde_json::value::RawValue;
 
@@ -23,15 +24,19 @@ pub(super) struct Asked {
 
 /// Reads a call.
 pub(super) async fn asked_of(request: Request<Body>) -> Result<Asked, Told> {
-    let body = body_of(request).await?;
-    let asked: Asked =
-        serde_json::from_slice(&body).map_err(|error| Told::BadRequest(error.to_string()))?;
+    let asked: Asked = read_of(request).await?;
     let is_id = |id: &String| !id.is_empty() && id.len() <= LONGEST_ID;
     if !asked.id.as_ref().is_none_or(is_id) {
         let why = format!("an id has 1 to {LONGEST_ID} bytes");
         return Err(Told::BadRequest(why));
     }
     Ok(asked)
+}
+
+/// Reads a request's body as JSON.
+pub(super) async fn read_of<T: DeserializeOwned>(request: Request<Body>) -> Result<T, Told> {
+    let body = body_of(request).await?;
+    serde_json::from_slice(&body).map_err(|error| Told::BadRequest(error.to_string()))
 }
 
 async fn body_of(request: Request<Body>) -> Result<Vec<u8>, Told> {

@@ -1,4 +1,5 @@
 //! What a node is in one generation: a member, or one that follows it.
+use super::shown::{Check, Checked, ShownAt};
 use super::{Asked, NextCell, NodeFault, NodeRefusal, Phase, Reply};
 use crate::generation::Generation;
 use crate::row_member::{self, Begins, MemberFault, RowMember, RowObserver, Waits};
@@ -267,6 +268,27 @@ impl<W> Seat<W> {
             Place::Acts(member) => member.is_shown(),
             Place::Follows(observer) => observer.is_shown(),
         }
+    }
+
+    /// Whether a check is granted by that policy, and up to where that is right.
+    pub(super) fn check(&mut self, check: &Check) -> Option<Checked> {
+        let generation = self.generation.number;
+        let taking = self.taking()?;
+        Some(Checked {
+            answer: taking.check(check),
+            at: ShownAt {
+                generation,
+                stamp: taking.stamp,
+            },
+            records: taking.records,
+        })
+    }
+
+    /// Up to where the history goes.
+    pub(super) fn shown_at(&mut self) -> ShownAt {
+        let stamp = self.taking().and_then(|taking| taking.stamp);
+        let generation = self.generation.number;
+        ShownAt { generation, stamp }
     }
 
     pub(super) fn dump(&mut self) -> Result<Vec<String>, NodeFault> {

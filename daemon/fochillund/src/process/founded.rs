@@ -71,14 +71,20 @@ pub(super) fn stop_of(fault: CellFault) -> Stop {
     }
 }
 
-/// Where a process begins: the last generation before the one that was proposed last whose dump stands in its first member's row to its end. Those
-/// between them, where they are void, are gone through quickly.
+/// Where a process begins: at the last generation that is over and was not void, since calls of that one are answered still. The one that goes on is the
+/// last whose dump stands in its first member's row to its end.
 pub(super) async fn base_of(engine: &dyn Engine, foundings: &Foundings) -> Result<Base, Fault> {
-    for generation in (2..foundings.latest()).rev() {
+    let mut goes_on = None;
+    for generation in (2..=foundings.latest()).rev() {
         let first = &foundings.nodes(generation)[0];
         let row = RowName::of_node(first, generation).expect("nodes have names");
-        if let Some(base) = Base::of(generation, &sure_get(engine, &row, 1).await?) {
-            return Ok(base);
+        match (
+            Base::of(generation, &sure_get(engine, &row, 1).await?),
+            goes_on,
+        ) {
+            (Some(base), Some(())) => return Ok(base),
+            (Some(_), None) => goes_on = Some(()),
+            (None, _) => {}
         }
     }
     Ok(Base::FIRST)

@@ -3,7 +3,8 @@ use super::fault::{fault_of, MemberFault};
 use super::inbox::{Inbox, Wanted};
 use super::opening::{Opening, Part};
 use crate::message::{is_seal, own_clock};
-use fochillun::{Member, MemberError, Waiting};
+use crate::node::{Check, Stamp};
+use fochillun::{CheckError, Member, MemberError, Waiting};
 use rows::cell::{DumpPart, Sent};
 use serde::Deserialize;
 use serde_json::value::RawValue;
@@ -21,6 +22,8 @@ pub(crate) struct Taking {
     pub(super) is_full: bool,
     /// How many records the history has.
     pub(crate) records: u64,
+    /// The stamp of the last one.
+    pub(crate) stamp: Option<Stamp>,
     /// How many messages of the member's own row were taken.
     own: u32,
     /// The clock of the last of these; 0 before the first.
@@ -54,6 +57,7 @@ impl Taking {
             is_sealed: false,
             is_full: false,
             records: 0,
+            stamp: None,
             own: 0,
             sent_clock: 0,
             steps: 0,
@@ -206,8 +210,10 @@ impl Taking {
         let Some(record) = delivered else {
             return Ok(None);
         };
+        let held = held.expect("what is delivered was held");
         self.records = record;
-        Ok(Some(held.expect("what is delivered was held")))
+        self.stamp = Some(Stamp(held.clock, held.member, held.place));
+        Ok(Some(held))
     }
 
     /// Of whom a message is missing, without which the next command can't be delivered.
@@ -260,6 +266,16 @@ impl Taking {
     /// Whether what was delivered has all of the dump, so that the policy is one that the group had.
     pub(crate) fn is_shown(&self) -> bool {
         self.opening.is_open && self.records >= self.opening.total as u64
+    }
+
+    /// Whether a session may perform an operation on an object by the policy of the history.
+    pub(crate) fn check(&mut self, check: &Check) -> Result<bool, CheckError> {
+        let Check {
+            session,
+            operation,
+            object,
+        } = check;
+        self.member.check(session, operation, object).0
     }
 
     /// The commands that make the policy of the history.

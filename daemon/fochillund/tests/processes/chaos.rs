@@ -1,14 +1,19 @@
 //! Groups of processes that are killed, stopped and doubled, and whose clocks jump, while callers ask: over each engine, whose servers are killed,
-//! stopped and full; and over networks that lose, delay and part.
+//! stopped and full; over networks that lose, delay and part; and while generations are proposed.
 mod asking;
+mod changing;
 mod figures;
+mod lived;
 
 use crate::group::{founding, Group};
 use crate::judge::{self, History};
 use crate::store::Store;
 use asking::{ask, check_calls, Answered, Shared};
+use changing::Operator;
 pub use figures::Figures;
 use fochillund::callers::State;
+use fochillund::node::Phase;
+use lived::{check_beginnings, lived};
 use nix::sys::signal::{kill, Signal};
 use nix::unistd::Pid;
 use rand::rngs::StdRng;
@@ -110,9 +115,41 @@ fn keep(group: &mut Group) {
     }
 }
 
-async fn chaos(store: &Store, seed: u64) -> Figures {
+/// Waits until all processes are in the same generation, which goes on and in which nobody waits, and no other was proposed.
+async fn settled_at_last(group: &mut Group, longest: Duration) {
+    let began = Instant::now();
+    loop {
+        keep(group);
+        let states = states(group).await;
+        let generations = states
+            .iter()
+            .map(|it| it.as_ref().map_or(0, |it| it.generation));
+        let is_one = generations
+            .collect::<std::collections::BTreeSet<u64>>()
+            .len()
+            == 1;
+        let rests = |state: &std::io::Result<State>| {
+            state.as_ref().is_ok_and(|it| {
+                let is_quiet = it.queued == 0 && it.sent == 0 && it.waits_for.is_empty();
+                is_quiet && matches!(it.phase, Phase::Serves | Phase::Follows)
+            })
+        };
+        if is_one && states.iter().all(rests) {
+            return;
+        }
+        assert!(
+            began.elapsed() < longest,
+            "not settled: {states:#?}\n{}",
+            group.last_said()
+        );
+        tokio::time::sleep(Duration::from_millis(20)).await;
+    }
+}
+
+/// Things befall a group, among them other generations where it `changes`.
+async fn chaos(store: &Store, seed: u64, changes: bool) -> Figures {
     let mut random = StdRng::seed_from_u64(seed);
-    let members = random.gen_range(1..=4);
+    let members = random.gen_range(if changes { 2..=4 } else { 1..=4 });
     let clocks: Vec<Clock> = (0..members).map(|_| Clock::default()).collect();
     let starts = (1..).zip(&clocks).map(|(member, clock)| {
         let mut start = store.start(seed, member);
@@ -120,6 +157,7 @@ async fn chaos(store: &Store, seed: u64) -> Figures {
         start
     });
     let mut group = Group::over(starts.collect());
+    let mut operator = Operator::of(store.start(seed, 1).rows);
     group.start_all();
     let shared = Arc::new(Shared::default());
     let callers: Vec<_> = (0..CALLERS)
@@ -135,19 +173,36 @@ async fn chaos(store: &Store, seed: u64) -> Figures {
         befall(&mut group, &clocks, &mut random, &mut figures).await;
         tokio::time::sleep(store.pause().mul_f64(random.gen())).await;
         keep(&mut group);
+        if changes {
+            operator.act(&group, &mut random, &mut figures);
+            continue;
+        }
         let member = random.gen_range(1..=members);
         seen.extend(history(&group, member).await);
     }
     shared.ends.store(true, Ordering::SeqCst);
+    operator.end();
     let calls = ended(&mut group, callers, store.patience()).await;
     let commands = calls.iter().map(|call| call.commands).sum();
-    let history = settled(&mut group, commands, store.patience() * 4).await;
-    check_calls(&calls, &history);
-    assert!(seen.iter().all(|before| history.starts_with(before)));
-    judge::check(&[History {
-        founding: founding(1),
-        records: history,
-    }]);
+    let (histories, judged) = match changes {
+        true => {
+            settled_at_last(&mut group, store.patience() * 4).await;
+            check_beginnings(lived(&*operator.engine(&group).await).await)
+        }
+        false => {
+            let records = settled(&mut group, commands, store.patience() * 4).await;
+            assert!(seen.iter().all(|before| records.starts_with(before)));
+            let founding = founding(1);
+            let judged = History {
+                founding,
+                records: records.clone(),
+            };
+            (vec![(1, records)], vec![judged])
+        }
+    };
+    check_calls(&calls, &histories);
+    judge::check(&judged);
+    figures.add("generations", histories.len());
     figures.count("runs without a fault");
     figures.add("calls, each answered once", calls.len());
     figures.add("commands", commands);
@@ -189,15 +244,15 @@ fn seeds(runs: u64) -> Vec<u64> {
     (first..first + number("CHAOS_RUNS").unwrap_or(runs)).collect()
 }
 
-fn run(store: &Store, seed: u64) -> Figures {
+fn run(store: &Store, seed: u64, changes: bool) -> Figures {
     println!("seed {seed}");
     let mut runtime = tokio::runtime::Builder::new_current_thread();
     let runtime = runtime.enable_all().build();
-    runtime.unwrap().block_on(chaos(store, seed))
+    runtime.unwrap().block_on(chaos(store, seed, changes))
 }
 
 /// Runs groups side by side over one store, which things befall too meanwhile.
-fn whatever_befalls(store: &Store, runs: u64) {
+fn whatever_befalls(store: &Store, runs: u64, changes: bool) {
     let (mut figures, ends) = (Figures::default(), AtomicBool::new(false));
     let seeds = seeds(runs);
     std::thread::scope(|scope| {
@@ -205,7 +260,7 @@ fn whatever_befalls(store: &Store, runs: u64) {
         for few in seeds.chunks(SIDE_BY_SIDE) {
             let running = few
                 .iter()
-                .map(|&seed| scope.spawn(move || run(store, seed)));
+                .map(|&seed| scope.spawn(move || run(store, seed, changes)));
             let running: Vec<_> = running.collect();
             for each in running {
                 match each.join() {
@@ -220,15 +275,16 @@ fn whatever_befalls(store: &Store, runs: u64) {
         ends.store(true, Ordering::SeqCst);
         figures.add_all(befalling.join().unwrap());
     });
+    let kind = if changes { ", generations" } else { "" };
     for line in figures.to_string().lines() {
-        println!("chaos over {}: {line}", store.name());
+        println!("chaos over {}{kind}: {line}", store.name());
     }
 }
 
 /// The same over a store that not each machine lets a test make. Where it can't be made it is told.
 fn whatever_befalls_where_it_can(store: Result<Store, String>, runs: u64) {
     match store {
-        Ok(store) => whatever_befalls(&store, runs),
+        Ok(store) => whatever_befalls(&store, runs, false),
         Err(why) => {
             let why = why.lines().next().unwrap_or_default();
             println!("passed over: chaos, since this machine makes no such store: {why}");
@@ -238,30 +294,45 @@ fn whatever_befalls_where_it_can(store: Result<Store, String>, runs: u64) {
 
 #[test]
 fn whatever_befalls_files_each_call_is_answered_once_and_rightly() {
-    whatever_befalls(&Store::files(), 40);
+    whatever_befalls(&Store::files(), 40, false);
 }
 
 #[test]
 fn whatever_befalls_a_small_disk_each_call_is_answered_once_and_rightly() {
-    whatever_befalls_where_it_can(Store::small_disk(), 8);
+    whatever_befalls_where_it_can(Store::small_disk(), 4);
 }
 
 #[test]
 fn whatever_befalls_etcd_each_call_is_answered_once_and_rightly() {
-    whatever_befalls(&Store::etcd(), 8);
+    whatever_befalls(&Store::etcd(), 8, false);
 }
 
 #[test]
 fn whatever_befalls_postgresql_each_call_is_answered_once_and_rightly() {
-    whatever_befalls(&Store::postgres(), 8);
+    whatever_befalls(&Store::postgres(), 8, false);
 }
 
 #[test]
 fn whatever_befalls_a_network_of_etcd_each_call_is_answered_once_and_rightly() {
-    whatever_befalls_where_it_can(Store::etcd_over_a_network(), 4);
+    whatever_befalls_where_it_can(Store::etcd_over_a_network(), 2);
 }
 
 #[test]
 fn whatever_befalls_a_network_of_postgresql_each_call_is_answered_once_and_rightly() {
-    whatever_befalls_where_it_can(Store::postgres_over_a_network(), 4);
+    whatever_befalls_where_it_can(Store::postgres_over_a_network(), 2);
+}
+
+#[test]
+fn whatever_befalls_files_and_generations_each_call_is_answered_once_and_rightly() {
+    whatever_befalls(&Store::files(), 20, true);
+}
+
+#[test]
+fn whatever_befalls_etcd_and_generations_each_call_is_answered_once_and_rightly() {
+    whatever_befalls(&Store::etcd(), 4, true);
+}
+
+#[test]
+fn whatever_befalls_postgresql_and_generations_each_call_is_answered_once_and_rightly() {
+    whatever_befalls(&Store::postgres(), 4, true);
 }

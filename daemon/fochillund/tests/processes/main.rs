@@ -2,6 +2,7 @@
 mod callers;
 mod chaos;
 mod command;
+mod generations;
 mod group;
 #[path = "../judge/mod.rs"]
 mod judge;

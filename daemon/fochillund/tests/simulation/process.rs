@@ -50,7 +50,7 @@ impl Process {
             let row = RowName::of_node(&read.nodes(generation)[0], generation);
             Base::of(generation, rows.get(&row.expect("a name")))
         };
-        let base = (2..read.latest()).rev().find_map(began);
+        let base = (2..=read.latest()).rev().filter_map(began).nth(1);
         let writer = format!("process {name}");
         let held = Node::begin(node, &writer, read, base.unwrap_or(Base::FIRST));
         Process {

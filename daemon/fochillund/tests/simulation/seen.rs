@@ -3,7 +3,7 @@ use fochillun::Member;
 use fochillund::message::is_seal;
 use fochillund::node::{NodeRefusal, Reply};
 use fochillund::row_member::Refusal;
-use rows::cell::{Cell, Identity};
+use rows::cell::{Cell, DumpPart, Identity};
 use rows::RowName;
 use serde::Deserialize;
 use serde_json::value::RawValue;
@@ -87,6 +87,8 @@ pub struct Seen {
     /// The generation, member and clock of each message that stands in a row.
     stamps: HashMap<(u64, u32, u64), usize>,
     sealed: HashSet<RowName>,
+    /// The generations whose dump stands in their first member's row to its end.
+    begun: HashSet<u64>,
     identities: HashMap<(u64, String, Identity), Vec<usize>>,
     by_last_command: HashMap<String, usize>,
     /// Whether members may refuse calls, since they have sent all that they may.
@@ -106,6 +108,7 @@ impl Seen {
             places: HashMap::new(),
             stamps: HashMap::new(),
             sealed: HashSet::new(),
+            begun: HashSet::new(),
             identities: HashMap::new(),
             by_last_command: HashMap::new(),
             may_be_full: false,
@@ -199,6 +202,10 @@ impl Seen {
         let (clock, member) = message.stamp;
         assert_eq!(member, cell.member, "a message of another member");
         let generation = cell.generation;
+        let ends_dump = |dump: DumpPart| dump.first + commands.len() == dump.total;
+        if cell.dump.is_some_and(ends_dump) {
+            self.begun.insert(generation);
+        }
         assert_eq!(self.member_of(generation, node), Some(member));
         self.stamps
             .insert((generation, member, clock), commands.len());
@@ -287,9 +294,12 @@ impl Seen {
                 assert_eq!(call.stamp, None, "told NotTaken, and taken");
                 call.is_not_taken = true;
             }
-            Err(NodeRefusal::OldGeneration { now } | NodeRefusal::NoGeneration { now }) => {
-                assert_ne!(*now, call.generation);
+            Err(NodeRefusal::OldGeneration { now }) => {
+                let mut between = call.generation + 1..*now;
+                let is_old = between.any(|it| self.begun.contains(&it));
+                assert!(is_old, "told OldGeneration of the last one");
             }
+            Err(NodeRefusal::NoGeneration { now }) => assert!(*now < call.generation),
             Err(NodeRefusal::OtherMember { member }) => assert_ne!(*member, Some(0)),
             Err(NodeRefusal::Call(Refusal::Full)) => assert!(self.may_be_full, "told Full"),
             Err(NodeRefusal::Call(Refusal::Commands(_))) => assert!(call.commands.is_none()),

@@ -2,6 +2,7 @@
 use rand::rngs::StdRng;
 use rand::seq::SliceRandom;
 use rand::{Rng, SeedableRng};
+use serde::Deserialize;
 use serde_json::value::RawValue;
 use std::collections::HashMap;
 use std::path::PathBuf;
@@ -17,9 +18,17 @@ pub struct Answered {
     /// When it was asked and when it was answered, in the order of all such moments.
     asked: usize,
     answered: usize,
+    /// The generation that has it.
+    generation: u64,
     /// How many commands it had.
     pub commands: usize,
     records: Vec<String>,
+}
+
+#[derive(Deserialize)]
+struct Told {
+    generation: u64,
+    records: Vec<Box<RawValue>>,
 }
 
 /// What callers share.
@@ -81,31 +90,41 @@ pub async fn ask(folder: PathBuf, members: u32, seed: u64, shared: Arc<Shared>) 
         let text = format!("[{}]", commands.join(","));
         let (status, body) = client.call(member, &id, &text).await.unwrap();
         let answered = shared.now();
+        if status.as_u16() == 404 {
+            // There is no member of this number now.
+            tokio::time::sleep(Duration::from_millis(5)).await;
+            continue;
+        }
         assert_eq!(status.as_u16(), 200, "{}", String::from_utf8_lossy(&body));
-        let told: HashMap<String, Box<RawValue>> = serde_json::from_slice(&body).unwrap();
-        let records: Vec<Box<RawValue>> = serde_json::from_str(told["records"].get()).unwrap();
+        let told: Told = serde_json::from_slice(&body).unwrap();
         calls.push(Answered {
             asked,
             answered,
+            generation: told.generation,
             commands: commands.len(),
-            records: records.iter().map(|it| it.get().to_owned()).collect(),
+            records: told.records.iter().map(|it| it.get().to_owned()).collect(),
         });
     }
     calls
 }
 
-/// Each call's records stand in the history, together and in order, behind those of each call that was answered before it was asked.
-pub fn check_calls(calls: &[Answered], history: &[String]) {
-    let places: HashMap<&str, usize> = (0..)
-        .zip(history)
-        .map(|(at, record)| (record.as_str(), at))
-        .collect();
-    assert_eq!(places.len(), history.len(), "a record stands twice");
+/// Each call's records stand in the history of its generation, together and in order, behind those of each call that was answered before it was asked.
+pub fn check_calls(calls: &[Answered], histories: &[(u64, Vec<String>)]) {
+    let mut places: HashMap<(u64, &str), (u64, usize)> = HashMap::new();
+    for (generation, history) in histories {
+        for (at, record) in history.iter().enumerate() {
+            let key = (*generation, record.as_str());
+            let there = places.insert(key, (*generation, at));
+            assert_eq!(there, None, "a record stands twice");
+        }
+    }
     let mut told = Vec::new();
     for call in calls {
         assert_eq!(call.records.len(), call.commands);
-        let first = places[call.records[0].as_str()];
-        assert_eq!(&history[first..first + call.commands], &call.records);
+        let first = places[&(call.generation, call.records[0].as_str())];
+        let of = histories.iter().find(|(it, _)| *it == call.generation);
+        let history = &of.expect("a generation that lived").1;
+        assert_eq!(&history[first.1..first.1 + call.commands], &call.records);
         told.push((call, first));
     }
     for (before, at) in &told {
@@ -114,5 +133,5 @@ pub fn check_calls(calls: &[Answered], history: &[String]) {
         }
     }
     let commands: usize = calls.iter().map(|call| call.commands).sum();
-    assert_eq!(history.len(), commands, "a call was carried out twice");
+    assert_eq!(places.len(), commands, "a call was carried out twice");
 }
