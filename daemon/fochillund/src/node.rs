@@ -201,6 +201,11 @@ impl<W> Node<W> {
         &self.now.generation
     }
 
+    /// The last generation that is over and was not void; none before the first one is over.
+    pub fn last(&self) -> Option<u64> {
+        self.last.as_ref().map(|last| last.generation.number)
+    }
+
     /// The member that the node is in it.
     pub fn member(&self) -> Option<u32> {
         self.now.member()

@@ -6,6 +6,7 @@ mod lock;
 mod reads;
 mod sealing;
 mod survey;
+mod trimming;
 
 pub(crate) use reads::AskedCheck;
 pub use sealing::{seal_row, OwnRow};
@@ -29,6 +30,7 @@ use std::pin::Pin;
 use std::sync::Arc;
 use std::time::{Duration, Instant};
 use tokio::sync::{mpsc, oneshot};
+use trimming::Trimming;
 
 /// How many questions of callers, and reads of rows, wait for their turn.
 const ROOM: usize = 1024;
@@ -145,6 +147,7 @@ struct Process {
     following: Following,
     setting: Option<Setting>,
     leaving: Leaving,
+    trimming: Trimming,
     reads: Reads,
 }
 
@@ -159,6 +162,7 @@ impl Process {
         let following = Following::of(as_engine, latest, options.takes_over);
         Ok(Process {
             leaving: Leaving::of(options, Arc::clone(&engine), &writer),
+            trimming: Trimming::of(Arc::clone(&engine), options.node.clone()),
             node,
             writer,
             name: options.node.clone(),
@@ -205,6 +209,7 @@ impl Process {
             // There may be something to be set there.
             return self.follow_all().await;
         }
+        self.trimming.look(&self.node);
         self.leaving.look(&mut self.node)?;
         tokio::select! {
             biased;

@@ -17,9 +17,12 @@ pub enum Stop {
     /// A cell is not what it has to be: rows have lost what was told to be set, or somebody else writes there. Nobody starts it again blindly.
     #[error("lost: {0}")]
     Lost(String),
+    /// Rows that it has not read to their end are trimmed: the group is generations further. Started again it begins there.
+    #[error("behind: this process read rows of a generation that nobody asks for any more")]
+    Behind,
     /// The engine is broken, or full.
     #[error(transparent)]
-    Engine(#[from] Fault),
+    Engine(Fault),
     /// Memory ran out.
     #[error("no memory")]
     NoMemory,
@@ -41,7 +44,7 @@ impl Stop {
             Stop::Asked => 0,
             Stop::NoMemory | Stop::Socket(_) | Stop::Lock(_) => 1,
             Stop::Founding(_) => 2,
-            Stop::Fenced => 3,
+            Stop::Fenced | Stop::Behind => 3,
             Stop::Lost(_) => 4,
             Stop::Engine(_) => 5,
         }
@@ -50,6 +53,15 @@ impl Stop {
     /// Whether a process that ended with a status is started again: not where the same would come of it, and not where rows were lost.
     pub fn is_mended_by_a_start(status: Option<i32>) -> bool {
         !matches!(status, Some(0 | 2 | 4))
+    }
+}
+
+impl From<Fault> for Stop {
+    fn from(fault: Fault) -> Stop {
+        match fault {
+            Fault::Trimmed(_) => Stop::Behind,
+            fault => Stop::Engine(fault),
+        }
     }
 }
 
@@ -68,7 +80,7 @@ impl From<FollowFault> for Stop {
     fn from(fault: FollowFault) -> Stop {
         match fault {
             FollowFault::Lost(lost) => Stop::Lost(lost.to_string()),
-            FollowFault::Engine(fault) => Stop::Engine(fault),
+            FollowFault::Engine(fault) => fault.into(),
         }
     }
 }

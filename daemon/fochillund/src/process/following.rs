@@ -219,7 +219,7 @@ async fn watch(
                 }
             }
             Err(Fault::Silent(_)) => continue,
-            Err(fault) => Read::Stop(Stop::Engine(fault)),
+            Err(fault) => Read::Stop(fault.into()),
         };
         let is_last = matches!(read, Read::Stop(_));
         if tell.send(read).await.is_err() || is_last {

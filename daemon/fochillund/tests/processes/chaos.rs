@@ -8,7 +8,7 @@ mod lived;
 use crate::group::{founding, Group};
 use crate::judge::{self, History};
 use crate::store::Store;
-use asking::{ask, check_calls, Answered, Shared};
+use asking::{ask, check_calls, Asked, Shared};
 use changing::Operator;
 pub use figures::Figures;
 use fochillund::callers::State;
@@ -169,7 +169,8 @@ async fn chaos(store: &Store, seed: u64, changes: bool) -> Figures {
         .collect();
     let (began, mut seen) = (Instant::now(), Vec::new());
     let mut figures = Figures::default();
-    while began.elapsed() < store.lasts() {
+    let lasts = store.lasts() * if changes { 3 } else { 1 };
+    while began.elapsed() < lasts {
         befall(&mut group, &clocks, &mut random, &mut figures).await;
         tokio::time::sleep(store.pause().mul_f64(random.gen())).await;
         keep(&mut group);
@@ -183,7 +184,7 @@ async fn chaos(store: &Store, seed: u64, changes: bool) -> Figures {
     shared.ends.store(true, Ordering::SeqCst);
     operator.end();
     let calls = ended(&mut group, callers, store.patience()).await;
-    let commands = calls.iter().map(|call| call.commands).sum();
+    let commands = calls.iter().map(Asked::commands).sum();
     let (histories, judged) = match changes {
         true => {
             settled_at_last(&mut group, store.patience() * 4).await;
@@ -203,6 +204,8 @@ async fn chaos(store: &Store, seed: u64, changes: bool) -> Figures {
     check_calls(&calls, &histories);
     judge::check(&judged);
     figures.add("generations", histories.len());
+    let forgotten = |call: &&Asked| matches!(call, Asked::Forgotten { .. });
+    figures.add("calls forgotten", calls.iter().filter(forgotten).count());
     figures.count("runs without a fault");
     figures.add("calls, each answered once", calls.len());
     figures.add("commands", commands);
@@ -213,9 +216,9 @@ async fn chaos(store: &Store, seed: u64, changes: bool) -> Figures {
 /// caller may know the socket of one that is gone. Each time they have longer: a machine that does much else is slow to start them.
 async fn ended(
     group: &mut Group,
-    callers: Vec<JoinHandle<Vec<Answered>>>,
+    callers: Vec<JoinHandle<Vec<Asked>>>,
     mut patience: Duration,
-) -> Vec<Answered> {
+) -> Vec<Asked> {
     let mut last_kill = tokio::time::Instant::now();
     let mut calls = Vec::new();
     for mut caller in callers {

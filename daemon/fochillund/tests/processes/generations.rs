@@ -5,6 +5,7 @@ use fochillund::ask::Members;
 use fochillund::callers::State;
 use fochillund::node::Phase;
 use hyper::{Body, Method, Request};
+use rows::{Engine, Fault, RowName};
 use serde_json::{json, Value};
 use std::path::Path;
 use std::process::{Child, Command, Output};
@@ -112,7 +113,7 @@ async fn a_dead_node_is_left_out_by_an_operator_and_taken_in_again() {
     let exists = json!({ "denied": "UserExists", "number": 1 });
     propose(&group, &["--leave-out", "n3"]);
     let told = answers(&mut client, 1, "b", &add_user("ann")).await;
-    assert_eq!(told, [exists.clone()]);
+    assert_eq!(told, std::slice::from_ref(&exists));
     group.start(3, &[]);
     let state = state_where(&group, "n3", |state| state.generation == 2).await;
     assert_eq!((state.phase, state.member), (Phase::Follows, None));
@@ -244,6 +245,20 @@ async fn a_group_lives_through_ten_generations_and_each_call_is_answered_once() 
         }
         assert!(call < 2000, "generations that do not end");
     }
+    let engine = rows::Files::of(group.folder());
+    let trimmed = |generation| RowName::of_node("n2", generation).unwrap();
+    let began = Instant::now();
+    while !matches!(engine.get(&trimmed(8), 1).await, Err(Fault::Trimmed(_))) {
+        assert!(
+            began.elapsed() < Duration::from_secs(60),
+            "it is not trimmed"
+        );
+        tokio::time::sleep(Duration::from_millis(10)).await;
+    }
+    assert!(engine.get(&trimmed(10), 1).await.is_ok());
+    group.kill(2);
+    group.start(2, &["--margin", &margin]);
+    state_where(&group, "n2", |state| state.phase == Phase::Serves).await;
     let calls: usize = histories.iter().map(|records| records.len()).sum();
     assert!(histories.len() >= 9 && calls > 100, "{calls}");
     let founding = founding(1);

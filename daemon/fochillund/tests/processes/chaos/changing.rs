@@ -13,7 +13,7 @@ use std::sync::Arc;
 use std::time::{Duration, Instant};
 
 /// How far proposals lie apart at least.
-const APART: Duration = Duration::from_millis(250);
+const APART: Duration = Duration::from_millis(600);
 
 #[derive(Parser)]
 struct Words {
