@@ -68,6 +68,9 @@ enum Verb {
         /// is left out but by an operator
         #[arg(long = "leave-out-after", value_parser = seconds)]
         grace: Option<Duration>,
+        /// Keep the node's rows of all generations, for who wants to read them again: none is trimmed down to its seal
+        #[arg(long = "keep-rows")]
+        keeps_rows: bool,
         /// How many cells of its row are left when the member proposes a new generation
         #[arg(long, hide = true, default_value_t = MARGIN)]
         margin: u64,
@@ -169,6 +172,7 @@ async fn start(verb: Verb) -> Result<u8, String> {
             nodes,
             node,
             grace,
+            keeps_rows,
             margin,
             socket,
             patience,
@@ -184,6 +188,7 @@ async fn start(verb: Verb) -> Result<u8, String> {
                 new_group: new_group.transpose()?,
                 takes_over,
                 grace,
+                keeps_rows,
                 margin,
                 freshness,
                 patience: Duration::from_secs(patience),
@@ -204,6 +209,7 @@ async fn start(verb: Verb) -> Result<u8, String> {
                 new_group: None,
                 takes_over: false,
                 grace: None,
+                keeps_rows: true,
                 margin: MARGIN,
                 freshness,
                 socket,

@@ -56,6 +56,8 @@ pub struct Options {
     pub takes_over: bool,
     /// After how long a silent member is left out by a new generation; never, where this is none.
     pub grace: Option<Duration>,
+    /// Whether the node's rows of all generations are kept, and none is trimmed.
+    pub keeps_rows: bool,
     /// How many cells of its row are left when a member proposes a new generation.
     pub margin: u64,
     /// How long ago the rows were read at most where a check is answered by what was delivered.
@@ -162,7 +164,7 @@ impl Process {
         let following = Following::of(as_engine, latest, options.takes_over);
         Ok(Process {
             leaving: Leaving::of(options, Arc::clone(&engine), &writer),
-            trimming: Trimming::of(Arc::clone(&engine), options.node.clone()),
+            trimming: Trimming::of(options, Arc::clone(&engine)),
             node,
             writer,
             name: options.node.clone(),

@@ -1,4 +1,5 @@
 //! Trimming the node's own rows of generations that nobody asks for any more, down to their seals.
+use super::Options;
 use crate::engine::Heard;
 use crate::message::is_seal;
 use crate::node::Node;
@@ -8,18 +9,19 @@ use std::sync::Arc;
 
 pub(super) struct Trimming {
     engine: Arc<Heard>,
+    /// None of one whose rows are kept.
     node: Option<String>,
     /// Up to which generation rows were trimmed.
     trimmed: u64,
 }
 
 impl Trimming {
-    pub(super) fn of(engine: Arc<Heard>, node: Option<String>) -> Trimming {
-        let trimmed = 0;
+    pub(super) fn of(options: &Options, engine: Arc<Heard>) -> Trimming {
+        let node = options.node.clone();
         Trimming {
             engine,
-            node,
-            trimmed,
+            node: node.filter(|_| !options.keeps_rows),
+            trimmed: 0,
         }
     }
 

@@ -154,6 +154,7 @@ async fn chaos(store: &Store, seed: u64, changes: bool) -> Figures {
     let starts = (1..).zip(&clocks).map(|(member, clock)| {
         let mut start = store.start(seed, member);
         start.by.extend(clock.words());
+        start.rows.push("--keep-rows".to_owned());
         start
     });
     let mut group = Group::over(starts.collect());
