@@ -312,9 +312,14 @@ async fn a_member_that_is_asked_much_is_moved_by_one_command() {
     let rows = group.folder().to_str().unwrap().to_owned();
     let more = ["--rows", &rows, "--take-over"];
     let mut moved = group.spawn_in(there.path(), 1, &more);
-    for each in asking {
-        each.await.unwrap();
-    }
+    // Their socket goes with the old process.
+    let all = async {
+        for each in asking {
+            each.await.unwrap();
+        }
+    };
+    let ended = tokio::time::timeout(Duration::from_secs(60), all).await;
+    assert!(ended.is_ok(), "the old process goes on");
     assert_eq!(ended_of(group.first_process(1)), Some(3));
     let mut client = fochillund::ask::Members::of(there.path(), Duration::from_secs(60));
     let told = client.call(1, "b", ANN).await.unwrap();
