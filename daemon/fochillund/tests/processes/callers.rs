@@ -374,7 +374,9 @@ async fn a_sync_that_fails_ends_the_process_before_anybody_is_told() {
 
 /// A process of the first member that has no file of more than so many bytes.
 fn limited(group: &Group, bytes: u32, more: &[&str]) -> Child {
-    let words = format!("trap '' XFSZ; exec prlimit --fsize={bytes}: \"$0\" \"$@\"");
+    // What it says would be too much for its file too.
+    let run = format!("exec prlimit --fsize={bytes}: \"$0\" \"$@\"");
+    let words = format!("trap '' XFSZ; {run} > /dev/null 2>&1");
     group.spawn_by(&["sh", "-c", &words], 1, more)
 }
 
