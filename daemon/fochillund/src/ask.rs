@@ -214,7 +214,7 @@ impl Members {
     /// # Errors
     /// Where it does not answer.
     pub async fn state_of(&mut self, node: &str) -> io::Result<State> {
-        let request = Request::get("/v1/state").body(Body::empty());
+        let request = Request::get("/v1/status").body(Body::empty());
         let request = request.expect("the request is right");
         let (_, body) = self.send(node, request).await?;
         serde_json::from_slice(&body).map_err(io::Error::other)
@@ -248,7 +248,11 @@ impl Members {
     }
 
     async fn send(&mut self, node: &str, request: Request<Body>) -> io::Result<Told> {
-        let mut connection = match self.connections.remove(node) {
+        let kept = match self.connections.remove(node) {
+            Some(connection) => once_ready(connection).await,
+            None => None,
+        };
+        let mut connection = match kept {
             Some(connection) => connection,
             None => connect(&socket_of(&self.folder, node)).await?,
         };
@@ -294,6 +298,12 @@ fn next_of(told: &io::Result<Told>, is_first: bool) -> Next {
         (StatusCode::GONE, Some(it)) if is_first => Next::In(it.generation),
         _ => Next::Told,
     }
+}
+
+/// A connection that was used before, once it takes another request; none where its process has gone.
+async fn once_ready(mut connection: SendRequest<Body>) -> Option<SendRequest<Body>> {
+    let ready = std::future::poll_fn(|context| connection.poll_ready(context)).await;
+    ready.ok().map(|()| connection)
 }
 
 async fn connect(socket: &Path) -> io::Result<SendRequest<Body>> {

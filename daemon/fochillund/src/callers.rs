@@ -1,221 +1,194 @@
-//! Callers: HTTP/1.1 and JSON over a unix socket.
-//!
-//! `POST /v1/commands` with generation, member, commands and perhaps an id; `GET /v1/state`; `GET /v1/records?generation=G&from=N`; and
-//! by what the process has delivered, `POST /v1/check` and `GET /v1/dump`.
+//! Callers: HTTP/1.1 and JSON over a unix socket, and over a network address where one is asked for. docs/API.md has each route.
+mod asking;
+mod authzen;
+mod commands;
+mod doors;
+mod health;
+mod history;
 mod replies;
 mod requests;
+mod routes;
+mod serving;
+mod state;
 
-use crate::engine::EngineState;
-use crate::node::{Asked as AskedOfNode, Checked, Phase, Reply, ShownAt};
-use crate::process::{AskedCheck, Options};
-use crate::row_member::NewCall;
-use hyper::server::conn::Http;
-use hyper::service::service_fn;
-use hyper::{Body, Method, Request, Response};
+pub use serving::{seconds, Serving};
+pub use state::State;
+
+use crate::access::{Access, Caller, Tls};
+use crate::decision_log::{DecisionLog, Line};
+use crate::engine::Heard;
+use crate::metrics::Metrics;
+use crate::policy_questions::Names;
+use crate::process::{Options, Progress, Question};
+use crate::stop::Stop;
+use doors::Door;
+use hyper::header::{HeaderName, HeaderValue};
+use hyper::{Body, HeaderMap, Request, Response};
 use replies::Told;
-use requests::{asked_of, from_of, read_of};
-use rows::cell::Identity;
-use serde::{Deserialize, Serialize};
-use std::convert::Infallible;
-use std::io;
-use std::path::Path;
+use routes::Route;
 use std::sync::Arc;
-use std::time::Duration;
-use tokio::net::{UnixListener, UnixStream};
-use tokio::sync::{mpsc, oneshot};
+use std::time::{Duration, Instant};
+use tokio::signal::unix::{signal, SignalKind};
+use tokio::sync::{mpsc, oneshot, watch, Semaphore};
 
-/// What callers ask of a member.
-#[derive(Debug)]
-pub(crate) enum Question {
-    Call(AskedOfNode, oneshot::Sender<Reply>),
-    State(oneshot::Sender<Box<State>>),
-    /// By what was delivered; it waits until that is far enough.
-    Check(AskedCheck, oneshot::Sender<Checked>),
-    /// The generation and the commands that make its policy, by what was delivered; none where nothing is shown yet.
-    Dump(oneshot::Sender<Option<(u64, Vec<String>)>>),
-    /// The records of a generation, or else of the one that goes on, from this number on, as many as are told at once; none where its history is not
-    /// kept.
-    Records {
-        generation: Option<u64>,
-        from: u64,
-        waiter: oneshot::Sender<(u64, Option<Vec<String>>)>,
-    },
+/// How many streams of the history are open at once.
+const MOST_STREAMS: usize = 256;
+
+/// By which header a caller names its request.
+const REQUEST_ID: HeaderName = HeaderName::from_static("x-request-id");
+
+/// The most bytes of that name.
+const LONGEST_REQUEST_ID: usize = 128;
+
+/// What callers' questions are answered by.
+pub(crate) struct Asking {
+    pub(crate) questions: mpsc::Sender<Question>,
+    pub(crate) progress: watch::Receiver<Progress>,
+    pub(crate) engine: Arc<Heard>,
+    pub(crate) metrics: Arc<Metrics>,
 }
 
-/// What a member tells of itself.
-#[derive(Clone, Debug, Serialize, Deserialize)]
-pub struct State {
-    /// The generation.
-    pub generation: u64,
-    /// What it does there.
-    pub phase: Phase,
-    /// The nodes of its members 1, 2 and so on.
-    pub nodes: Vec<String>,
-    /// The member that the process is, from 1 on.
-    pub member: Option<u32>,
-    /// Its node.
-    pub node: Option<String>,
-    /// The process that is it now.
-    pub process: u32,
-    /// How many messages of each member it took; of itself, how many it sent.
-    pub taken: Vec<u64>,
-    /// How many cells are left of its row.
-    pub cells_left: Option<u64>,
-    /// Up to where what it shows of its policy is right; none where it shows nothing yet.
-    pub shown: Option<ShownAt>,
-    /// How many records its history has.
-    pub records: u64,
-    /// The nodes of whom a message is missing, without which the next command can't be delivered.
-    pub waits_for: Vec<String>,
-    /// Whether a cell of its row is being set.
-    pub sets: bool,
-    /// How many calls wait to be sent.
-    pub queued: usize,
-    /// How many are sent and not answered.
-    pub sent: usize,
-    /// How the engine of the rows does.
-    pub engine: EngineState,
-}
-
-/// What the connections of a member share.
+/// What the connections of a process share.
 struct Callers {
     patience: Duration,
     freshness: Duration,
-    questions: mpsc::Sender<Question>,
+    /// Whether the process has a node, and so a place in the order of commands.
+    is_member: bool,
+    public_url: Option<String>,
+    asking: Asking,
+    names: Names,
+    log: Option<DecisionLog>,
+    access: Option<Arc<Access>>,
+    streams: Arc<Semaphore>,
 }
 
-/// Takes calls at the member's socket, from now on. A socket that an earlier process left is replaced.
-pub(crate) fn serve(options: &Options, questions: mpsc::Sender<Question>) -> io::Result<()> {
+/// One who asks, and how it calls its request.
+#[derive(Clone, Debug)]
+struct Asker {
+    caller: Arc<Caller>,
+    request_id: Option<HeaderValue>,
+}
+
+impl Asker {
+    fn line(&self, route: &str, generation: u64) -> Line {
+        let request_id = self.request_id.as_ref();
+        let request_id = request_id.and_then(|id| id.to_str().ok());
+        Line {
+            request_id: request_id.map(str::to_owned),
+            ..Line::of(&self.caller.identity, route, generation)
+        }
+    }
+}
+
+/// Takes calls at the process's socket, and at its network address, from now on.
+pub(crate) async fn serve(options: &Options, asking: Asking) -> Result<(), Stop> {
+    let serving = &options.serving;
+    let network = doors::network(serving).await?;
+    let log = DecisionLog::of(&serving.log, Arc::clone(&asking.metrics));
+    let log = log.map_err(|error| Stop::Serving(format!("the decision log: {error}")))?;
+    let (access, tls) = match &network {
+        Some(network) => (network.access.clone(), network.tls.clone()),
+        None => (None, None),
+    };
     let callers = Arc::new(Callers {
-        patience: options.patience,
-        freshness: options.freshness,
-        questions,
+        patience: serving.patience,
+        freshness: serving.freshness,
+        is_member: options.node.is_some(),
+        public_url: serving.public_url.clone(),
+        asking,
+        names: Names::new(),
+        log,
+        access,
+        streams: Arc::new(Semaphore::new(MOST_STREAMS)),
     });
-    let listener = listener(&options.socket)?;
+    doors::open_socket(&options.socket, serving.socket_mode, Arc::clone(&callers))
+        .map_err(Stop::Socket)?;
+    if let Some(network) = network {
+        doors::open_network(network, Arc::clone(&callers));
+    }
+    let mut hangups = signal(SignalKind::hangup()).map_err(Stop::Socket)?;
     tokio::spawn(async move {
-        loop {
-            match listener.accept().await {
-                Ok((stream, _)) => {
-                    tokio::spawn(serve_one(Arc::clone(&callers), stream));
-                }
-                // As where too many files are open: later it may go.
-                Err(_) => tokio::time::sleep(Duration::from_millis(100)).await,
-            }
+        while hangups.recv().await.is_some() {
+            callers.reread(tls.as_deref());
         }
     });
     Ok(())
 }
 
-/// The new socket takes the place of the old one at once: a caller finds the one or the other. Two processes may do so at one time.
-fn listener(socket: &Path) -> io::Result<UnixListener> {
-    let new = socket.with_extension(format!("{}.new", std::process::id()));
-    match std::fs::remove_file(&new) {
-        Err(error) if error.kind() != io::ErrorKind::NotFound => return Err(error),
-        _ => {}
-    }
-    let listener = UnixListener::bind(&new)?;
-    std::fs::rename(&new, socket)?;
-    Ok(listener)
-}
-
-async fn serve_one(callers: Arc<Callers>, stream: UnixStream) {
-    let Ok(peer) = stream.peer_cred() else {
-        return;
-    };
-    let caller = format!("uid {}", peer.uid());
-    let answer = service_fn(|request| {
-        let (callers, caller) = (Arc::clone(&callers), caller.clone());
-        async move { Ok::<_, Infallible>(callers.answer(&caller, request).await) }
-    });
-    let connection = Http::new()
-        .http1_only(true)
-        .serve_connection(stream, answer);
-    if let Err(error) = connection.await {
-        tracing::debug!("a connection ended: {error}");
-    }
-}
-
 impl Callers {
-    async fn answer(&self, caller: &str, request: Request<Body>) -> Response<Body> {
-        let told = match (request.method(), request.uri().path()) {
-            (&Method::POST, "/v1/commands") => self.answer_call(caller, request).await,
-            (&Method::GET, "/v1/state") => self.ask(Question::State).await.map(Told::State),
-            (&Method::GET, "/v1/records") => self.answer_records(&request).await,
-            (&Method::POST, "/v1/check") => self.answer_check(request).await,
-            (&Method::GET, "/v1/dump") => self.answer_dump().await,
-            (_, "/v1/commands" | "/v1/state" | "/v1/records" | "/v1/check" | "/v1/dump") => {
-                Err(Told::NoMethod)
+    /// Reads again who may call, and the certificates, and opens the decision log again.
+    fn reread(&self, tls: Option<&Tls>) {
+        if let Some(access) = &self.access {
+            match access.reread() {
+                Ok(()) => tracing::info!("the callers' file is read again"),
+                Err(fault) => tracing::error!("the callers stay as they were: {fault}"),
             }
-            _ => Err(Told::NoPath),
+        }
+        if let Some(tls) = tls {
+            match tls.reread() {
+                Ok(()) => tracing::info!("the certificate is read again"),
+                Err(fault) => tracing::error!("the certificate stays as it was: {fault}"),
+            }
+        }
+        if let Some(log) = &self.log {
+            log.reopen();
+        }
+    }
+
+    async fn answer(self: &Arc<Callers>, door: &Door, request: Request<Body>) -> Response<Body> {
+        let began = Instant::now();
+        let request_id = request_id(request.headers());
+        let route = Route::of(request.method(), request.uri().path());
+        let label = route.as_ref().map_or("none", |route| route.label());
+        let told = match route {
+            Ok(route) => self.told(route, door, request, request_id.clone()).await,
+            Err(refused) => Err(refused),
         };
-        told.unwrap_or_else(|refused| refused).response()
+        let mut response = told.unwrap_or_else(|refused| refused).response();
+        if let Some(request_id) = request_id {
+            response.headers_mut().insert(REQUEST_ID, request_id);
+        }
+        let status = response.status().as_u16();
+        self.asking.metrics.answered(label, status, began.elapsed());
+        response
     }
 
-    async fn answer_call(&self, caller: &str, request: Request<Body>) -> Result<Told, Told> {
-        let asked = asked_of(request).await?;
-        let call = NewCall {
-            identity: asked.id.map(|id| Identity {
-                caller: caller.to_owned(),
-                id,
-            }),
-            commands: asked.commands,
-        };
-        let asked = AskedOfNode {
-            generation: asked.generation,
-            member: asked.member,
-            call,
-        };
-        let (tell, told) = oneshot::channel();
-        self.put(Question::Call(asked, tell)).await?;
-        match tokio::time::timeout(self.patience, told).await {
-            Ok(Ok(Ok(answered))) => Ok(Told::Answered(answered)),
-            Ok(Ok(Err(refusal))) => Err(Told::Refused(refusal)),
-            Ok(Err(_)) => Err(Told::Ends),
-            Err(_) => Err(Told::Waits(self.ask(Question::State).await?)),
+    async fn told(
+        self: &Arc<Callers>,
+        route: Route,
+        door: &Door,
+        request: Request<Body>,
+        request_id: Option<HeaderValue>,
+    ) -> Result<Told, Told> {
+        match route {
+            Route::Healthz => return Ok(Told::Healthy),
+            Route::Readyz => return self.answer_ready().await,
+            Route::Configuration => return Ok(self.answer_configuration(door, &request)),
+            _ => {}
         }
-    }
-
-    /// Answers a check by what was delivered here, where the rows were read lately.
-    async fn answer_check(&self, request: Request<Body>) -> Result<Told, Told> {
-        let asked: AskedCheck = read_of(request).await?;
-        let (tell, told) = oneshot::channel();
-        self.put(Question::Check(asked, tell)).await?;
-        let told = tokio::time::timeout(self.patience, told).await;
-        let state = self.ask(Question::State).await?;
-        if Duration::from_millis(state.engine.read_ms_ago) > self.freshness {
-            return Err(Told::Stale(state));
+        let caller = door.caller(request.headers())?;
+        caller.admit(Instant::now()).map_err(Told::TooMuch)?;
+        if let Some(scope) = route.scope().filter(|scope| !caller.may(*scope)) {
+            return Err(Told::OutOfScope(scope));
         }
-        match told {
-            Ok(Ok(checked)) => Ok(Told::Checked(checked)),
-            Ok(Err(_)) => Err(Told::Ends),
-            Err(_) => Err(Told::Behind(state)),
-        }
-    }
-
-    async fn answer_dump(&self) -> Result<Told, Told> {
-        match self.ask(Question::Dump).await? {
-            Some((generation, commands)) => Ok(Told::Dump {
-                generation,
-                commands,
-            }),
-            None => Err(Told::Behind(self.ask(Question::State).await?)),
+        let asker = Asker { caller, request_id };
+        match route {
+            Route::Evaluation => self.answer_evaluation(&asker, request).await,
+            Route::Evaluations => self.answer_evaluations(&asker, request).await,
+            Route::SearchAction => self.answer_search_action(&asker, request).await,
+            Route::SearchResource => self.answer_search_resource(&asker, request).await,
+            Route::Commands => self.answer_call(&asker, request).await,
+            Route::Dump => self.answer_dump(&request).await,
+            Route::Records => self.answer_records(&request).await,
+            Route::History => self.answer_history(&asker, &request).await,
+            Route::Status => self.state().await.map(Told::State),
+            Route::Metrics => self.answer_metrics().await,
+            Route::Healthz | Route::Readyz | Route::Configuration => unreachable!("told above"),
         }
     }
 
-    async fn answer_records(&self, request: &Request<Body>) -> Result<Told, Told> {
-        let (generation, from) = from_of(request.uri())?;
-        let told = self.ask(|waiter| Question::Records {
-            generation,
-            from,
-            waiter,
-        });
-        match told.await? {
-            (generation, Some(records)) => Ok(Told::Records {
-                generation,
-                records,
-            }),
-            (generation, None) => Err(Told::NotKept(generation)),
-        }
+    async fn state(&self) -> Result<Box<State>, Told> {
+        self.ask(Question::State).await
     }
 
     async fn ask<T>(
@@ -228,6 +201,22 @@ impl Callers {
     }
 
     async fn put(&self, question: Question) -> Result<(), Told> {
-        self.questions.send(question).await.map_err(|_| Told::Ends)
+        let put = self.asking.questions.send(question).await;
+        put.map_err(|_| Told::Ends)
     }
+
+    /// Writes lines of the decision log, before anybody is told what they say.
+    async fn log(&self, lines: impl FnOnce() -> Vec<Line>) -> Result<(), Told> {
+        match &self.log {
+            Some(log) => log.write(&lines()).await.map_err(|_| Told::NotLogged),
+            None => Ok(()),
+        }
+    }
+}
+
+/// How a caller calls its request: visible ASCII, and not too long; else it is as if it had no name.
+fn request_id(headers: &HeaderMap) -> Option<HeaderValue> {
+    let id = headers.get(REQUEST_ID)?;
+    let is_told = id.len() <= LONGEST_REQUEST_ID && id.as_bytes().iter().all(u8::is_ascii_graphic);
+    is_told.then(|| id.clone())
 }

@@ -7,8 +7,9 @@ use rows::postgres::Postgres;
 use rows::{etcd, postgres, Engine, Fault, Files, RowName, Tidings, Told};
 use serde::{Deserialize, Serialize};
 use std::path::{Path, PathBuf};
+use std::sync::atomic::{AtomicU64, Ordering};
 use std::sync::{Arc, Mutex, PoisonError};
-use std::time::Instant;
+use std::time::{Duration, Instant};
 
 /// By which words a process finds the rows.
 #[derive(Args, Clone, Debug)]
@@ -160,6 +161,7 @@ enum Kind {
 pub struct Heard {
     engine: Arc<dyn Engine>,
     last: Mutex<All>,
+    sets: AtomicU64,
 }
 
 impl Heard {
@@ -174,7 +176,19 @@ impl Heard {
         Heard {
             engine,
             last: Mutex::new(last),
+            sets: AtomicU64::new(0),
         }
+    }
+
+    /// How long ago a read began at last that it answered: what was set before that is known here.
+    pub fn read_ago(&self) -> Duration {
+        let all = self.last.lock().unwrap_or_else(PoisonError::into_inner);
+        all.read.elapsed()
+    }
+
+    /// How many sets it was asked for.
+    pub fn sets(&self) -> u64 {
+        self.sets.load(Ordering::Relaxed)
     }
 
     /// How it does.
@@ -242,6 +256,7 @@ fn condition_of(fault: &Fault) -> Condition {
 #[async_trait]
 impl Engine for Heard {
     async fn set(&self, row: &RowName, first: u64, texts: &[Bytes]) -> Result<Told, Fault> {
+        self.sets.fetch_add(1, Ordering::Relaxed);
         let told = self.engine.set(row, first, texts).await;
         self.hear(Kind::Set, told, |told| *told != Told::Unsure)
     }

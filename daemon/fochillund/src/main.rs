@@ -1,6 +1,9 @@
 //! The program: one member of a group over rows, a group of such processes on this machine, and a client of it.
-use clap::{Parser, Subcommand};
+use clap::{Args, Parser, Subcommand};
+use fochillund::access::{new_token, CallersFault, CallersFile, Entry, Limits, Scope, TokenHash};
 use fochillund::ask::Members;
+use fochillund::callers::Serving;
+use fochillund::decision_log::replay::replay;
 use fochillund::engine::Place;
 use fochillund::founding::new_group;
 use fochillund::group::{node, prepare, socket_of, Group};
@@ -14,8 +17,8 @@ use std::process::ExitCode;
 use std::time::Duration;
 use tokio::io::{stdin, AsyncReadExt, BufReader};
 
-/// A group of members that keep one policy of role-based access control alike, in a process each, over rows of set-once cells. None of them
-/// authorizes its callers: whoever may open a member's socket may ask it anything.
+/// A group of members that keep one policy of role-based access control alike, in a process each, over rows of set-once cells. Whoever may open a
+/// member's socket may ask it anything; over a network it answers whom a file of callers names.
 #[derive(Debug, Parser)]
 #[command(name = "fochillund", version)]
 struct Words {
@@ -77,12 +80,8 @@ enum Verb {
         /// Where callers find it; by default the node's name with the ending .sock, in the folder
         #[arg(long)]
         socket: Option<PathBuf>,
-        /// For how many seconds a caller waits until it is told for whom its call waits
-        #[arg(long, default_value_t = 10)]
-        patience: u64,
-        /// How many seconds ago the rows were read at most where a check is answered by what was delivered
-        #[arg(long, value_parser = seconds, default_value = "1")]
-        freshness: Duration,
+        #[command(flatten)]
+        serving: Box<Serving>,
         /// End at the end of standard input
         #[arg(long, hide = true)]
         ends_with_stdin: bool,
@@ -97,12 +96,8 @@ enum Verb {
         /// The folder of the rows, where they are files
         #[arg(long, default_value = ".")]
         folder: PathBuf,
-        /// For how many seconds a caller waits
-        #[arg(long, default_value_t = 10)]
-        patience: u64,
-        /// How many seconds ago the rows were read at most where a check is answered by what was delivered
-        #[arg(long, value_parser = seconds, default_value = "1")]
-        freshness: Duration,
+        #[command(flatten)]
+        serving: Box<Serving>,
     },
     /// Proposes a new generation of a group: other nodes, another founding file, or both. Waits until it has begun. Status 1: it was not proposed, or
     /// has not begun yet
@@ -128,11 +123,63 @@ enum Verb {
         #[arg(long, default_value_t = 30)]
         patience: u64,
     },
+    /// Adds a caller to a file of callers, and prints its new token, which is told this once; the file has its SHA-256 alone. A process that runs
+    /// reads the file again on SIGHUP
+    Token(Box<Issued>),
+    /// Checks a decision log: applies the history again, and asks each decision of the policy where it was made. Status 1: a line is wrong
+    Replay {
+        /// The founding file of the log's generation
+        #[arg(long)]
+        founding: PathBuf,
+        /// The generation. Lines of others are counted, and not looked at
+        #[arg(long, default_value_t = 1)]
+        generation: u64,
+        /// Client lines that make the policy behind which the history begins; nothing, where the history begins with record 1
+        #[arg(long)]
+        dump: Option<PathBuf>,
+        /// The records, a line each, or as /v1/history streams them
+        #[arg(long)]
+        history: PathBuf,
+        /// The decision log
+        log: PathBuf,
+    },
+}
+
+/// A caller that is added to a file, or taken out.
+#[derive(Args, Debug)]
+struct Issued {
+    /// The file of callers, which is made where there is none
+    file: PathBuf,
+    /// The caller's name: the identity to which its calls' ids belong
+    name: String,
+    /// What it may ask: check, session, review, administer, operate
+    #[arg(long, value_delimiter = ',', required_unless_present = "removes")]
+    scopes: Vec<Scope>,
+    /// Let it administer what this user's session has the permission for: `administer` on an object of the command's name
+    #[arg(long, requires = "session")]
+    user: Option<String>,
+    /// That session
+    #[arg(long, requires = "user")]
+    session: Option<String>,
+    /// Know it by a DNS name of its certificate, and make no token
+    #[arg(long)]
+    certificate: Option<String>,
+    /// How many calls it may ask in a second
+    #[arg(long)]
+    calls: Option<u32>,
+    /// How many commands and evaluations
+    #[arg(long)]
+    lines: Option<u32>,
+    /// How many bytes of bodies
+    #[arg(long)]
+    bytes: Option<u32>,
+    /// Take the caller out
+    #[arg(long = "remove", conflicts_with_all = ["scopes", "user", "certificate", "calls", "lines", "bytes"])]
+    removes: bool,
 }
 
 fn seconds(text: &str) -> Result<Duration, String> {
-    let seconds: f64 = text.parse().map_err(|error| format!("{error}"))?;
-    Duration::try_from_secs_f64(seconds).map_err(|error| error.to_string())
+    fochillund::callers::seconds(text)
 }
 
 fn main() -> ExitCode {
@@ -175,8 +222,7 @@ async fn start(verb: Verb) -> Result<u8, String> {
             keeps_rows,
             margin,
             socket,
-            patience,
-            freshness,
+            serving,
             ends_with_stdin,
         } => {
             let new_group = founding.map(|file| new_group(&read(&file)?, &nodes).map_err(told));
@@ -190,8 +236,7 @@ async fn start(verb: Verb) -> Result<u8, String> {
                 grace,
                 keeps_rows,
                 margin,
-                freshness,
-                patience: Duration::from_secs(patience),
+                serving: *serving,
             };
             Ok(be_process(options, ends_with_stdin).await)
         }
@@ -199,8 +244,7 @@ async fn start(verb: Verb) -> Result<u8, String> {
             socket,
             place,
             folder,
-            patience,
-            freshness,
+            serving,
         } => {
             let options = Options {
                 folder,
@@ -211,9 +255,8 @@ async fn start(verb: Verb) -> Result<u8, String> {
                 grace: None,
                 keeps_rows: true,
                 margin: MARGIN,
-                freshness,
                 socket,
-                patience: Duration::from_secs(patience),
+                serving: *serving,
             };
             Ok(be_process(options, false).await)
         }
@@ -235,11 +278,75 @@ async fn start(verb: Verb) -> Result<u8, String> {
             let engine = place.open(&folder).await.map_err(told)?;
             propose_and_wait(&*engine, &wanted, Duration::from_secs(patience)).await
         }
+        Verb::Token(issued) => issue(*issued),
+        Verb::Replay {
+            founding,
+            generation,
+            dump,
+            history,
+            log,
+        } => {
+            let dump = dump.map(|file| read(&file)).transpose()?;
+            let (founding, dump) = (read(&founding)?, dump.unwrap_or_default());
+            let (history, log) = (read(&history)?, read(&log)?);
+            tell_replayed(founding.as_bytes(), generation, &dump, &history, &log)
+        }
     }
 }
 
 fn told(error: impl std::fmt::Display) -> String {
     error.to_string()
+}
+
+fn issue(issued: Issued) -> Result<u8, String> {
+    let in_file = |fault: CallersFault| format!("{}: {fault}", issued.file.display());
+    let mut file = CallersFile::read_if_there(&issued.file).map_err(in_file)?;
+    if issued.removes {
+        if !file.remove(&issued.name) {
+            let file = issued.file.display();
+            return Err(format!("{file}: there is no caller {}", issued.name));
+        }
+        file.write(&issued.file).map_err(in_file)?;
+        return Ok(0);
+    }
+    let token = match &issued.certificate {
+        Some(_) => None,
+        None => Some(new_token().map_err(told)?),
+    };
+    file.callers.push(Entry {
+        name: issued.name,
+        token: token.as_deref().map(TokenHash::of),
+        certificate: issued.certificate,
+        scopes: issued.scopes,
+        user: issued.user,
+        session: issued.session,
+        limits: Limits {
+            calls: issued.calls,
+            lines: issued.lines,
+            bytes: issued.bytes,
+        },
+    });
+    file.write(&issued.file).map_err(in_file)?;
+    if let Some(token) = token {
+        println!("{token}");
+    }
+    Ok(0)
+}
+
+fn tell_replayed(
+    founding: &[u8],
+    generation: u64,
+    dump: &str,
+    history: &str,
+    log: &str,
+) -> Result<u8, String> {
+    let replayed = replay(founding, generation, dump, history, log).map_err(told)?;
+    for (line, why) in &replayed.wrong {
+        println!("line {line}: {why}");
+    }
+    let (right, elsewhere, wrong) = (replayed.right, replayed.elsewhere, replayed.wrong.len());
+    println!("{right} lines are right, {wrong} wrong; {elsewhere} are of elsewhere");
+    Ok(u8::from(wrong > 0))
 }
 
 async fn propose_and_wait(

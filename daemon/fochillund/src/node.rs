@@ -7,7 +7,7 @@
 mod seat;
 mod shown;
 
-pub use shown::{Check, Checked, ShownAt, Stamp};
+pub use shown::{Check, NoStamp, Query, Shown, ShownAt, Stamp};
 
 use crate::generation::{CellFault, Foundings, Generation};
 use crate::message::commands_of;
@@ -44,6 +44,9 @@ pub enum NodeRefusal {
         /// The generation that goes on.
         now: u64,
     },
+    /// The caller's session has no permission for what it asks.
+    #[error("the caller's session has no permission for this")]
+    NotPermitted,
     /// In that generation the node is another member, or none.
     #[error("this node is another member, or none")]
     OtherMember {
@@ -135,6 +138,8 @@ pub struct NextCell {
     pub number: u64,
     /// Its text.
     pub text: Bytes,
+    /// How many commands of callers it has.
+    pub commands: usize,
 }
 
 /// What a node is doing.
@@ -272,6 +277,25 @@ impl<W> Node<W> {
         match told {
             Ok(seat) => seat.ask(asked, waiter),
             Err(refusal) => self.told.push((waiter, Err(refusal))),
+        }
+    }
+
+    /// A caller asks in the generation that goes on, whichever it is. What it is told comes by [`Node::take_told`].
+    pub fn ask_here(&mut self, call: NewCall, waiter: W) {
+        match self.member() {
+            Some(member) => {
+                let generation = self.now.generation.number;
+                let asked = Asked {
+                    generation,
+                    member,
+                    call,
+                };
+                self.ask(asked, waiter);
+            }
+            None => {
+                let refusal = NodeRefusal::OtherMember { member: None };
+                self.told.push((waiter, Err(refusal)));
+            }
         }
     }
 
@@ -419,9 +443,9 @@ impl<W> Node<W> {
         self.shown().map(Seat::shown_at)
     }
 
-    /// Whether a check is granted by the policy that is shown; none where nothing is shown yet.
-    pub fn check(&mut self, check: &Check) -> Option<Checked> {
-        self.shown()?.check(check)
+    /// What these questions are told by the policy that is shown; none where nothing is shown yet.
+    pub fn query(&mut self, queries: &[Query]) -> Option<Shown> {
+        self.shown()?.query(queries)
     }
 
     fn shown(&mut self) -> Option<&mut Seat<W>> {

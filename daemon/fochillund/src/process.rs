@@ -3,19 +3,22 @@ mod following;
 mod founded;
 mod leaving;
 mod lock;
+mod questions;
 mod reads;
 mod sealing;
 mod survey;
 mod trimming;
 
-pub(crate) use reads::AskedCheck;
+pub(crate) use questions::{AskedCall, Authority, Progress, Question};
+pub(crate) use reads::AskedQueries;
 pub use sealing::{seal_row, OwnRow};
 pub use survey::survey;
 
-use crate::callers::{Question, State};
+use crate::callers::{Serving, State};
 use crate::engine::{Heard, Place};
 use crate::founding::NewGroup;
-use crate::node::{NextCell, Node, NodeFault, Phase, Reply};
+use crate::metrics::Metrics;
+use crate::node::{Asked, NextCell, Node, NodeFault, NodeRefusal, Phase, Reply};
 use crate::stop::Stop;
 use following::{Following, Read};
 use founded::{base_of, founded};
@@ -29,7 +32,7 @@ use std::path::PathBuf;
 use std::pin::Pin;
 use std::sync::Arc;
 use std::time::{Duration, Instant};
-use tokio::sync::{mpsc, oneshot};
+use tokio::sync::{mpsc, oneshot, watch};
 use trimming::Trimming;
 
 /// How many questions of callers, and reads of rows, wait for their turn.
@@ -60,12 +63,10 @@ pub struct Options {
     pub keeps_rows: bool,
     /// How many cells of its row are left when a member proposes a new generation.
     pub margin: u64,
-    /// How long ago the rows were read at most where a check is answered by what was delivered.
-    pub freshness: Duration,
     /// Where its callers find it.
     pub socket: PathBuf,
-    /// How long a caller waits for its answer.
-    pub patience: Duration,
+    /// How it answers them.
+    pub serving: Serving,
 }
 
 /// How many cells of its row are left when a member proposes a new generation: enough for what is on its way until the rows are sealed.
@@ -85,6 +86,8 @@ type Setting = Pin<Box<dyn Future<Output = Result<WasSet, Fault>>>>;
 struct WasSet {
     generation: u64,
     told: Told,
+    commands: usize,
+    took: Duration,
     /// What stands there, where it was taken.
     there: Option<bytes::Bytes>,
 }
@@ -108,11 +111,17 @@ async fn start(options: &Options) -> Result<Stop, Stop> {
     let _lock = lock;
     let began = Instant::now();
     let engine = Arc::new(Heard::of(opened(options).await?));
-    let mut process = Process::of(options, engine).await?;
+    let mut process = Process::of(options, Arc::clone(&engine)).await?;
     process.follow_all().await?;
     let cells = process.own_cells();
     let (questions, asked) = mpsc::channel(ROOM);
-    crate::callers::serve(options, questions).map_err(Stop::Socket)?;
+    let asking = crate::callers::Asking {
+        questions,
+        progress: process.progress.subscribe(),
+        engine,
+        metrics: Arc::clone(&process.metrics),
+    };
+    crate::callers::serve(options, asking).await?;
     tracing::info!(
         "{} is up: {} (process {}, generation {}, {} cells, {} ms)",
         options.name(),
@@ -151,6 +160,8 @@ struct Process {
     leaving: Leaving,
     trimming: Trimming,
     reads: Reads,
+    metrics: Arc<Metrics>,
+    progress: watch::Sender<Progress>,
 }
 
 impl Process {
@@ -172,6 +183,8 @@ impl Process {
             following,
             setting: None,
             reads: Reads::new(),
+            metrics: Arc::new(Metrics::new()),
+            progress: watch::channel(Progress::default()).0,
         })
     }
 
@@ -207,6 +220,7 @@ impl Process {
             let _ = waiter.send(reply);
         }
         self.reads.look(&mut self.node);
+        self.tell_progress();
         if self.following.generation() != self.node.generation().number {
             // There may be something to be set there.
             return self.follow_all().await;
@@ -240,8 +254,25 @@ impl Process {
         }))
     }
 
+    /// Tells who follows the history how far it is.
+    fn tell_progress(&mut self) {
+        let generation = self.node.generation().number;
+        let records = self.node.history_length(generation).unwrap_or(0);
+        let now = Progress {
+            last: self.node.last(),
+            generation,
+            records,
+        };
+        self.progress.send_if_modified(|told| {
+            let is_new = *told != now;
+            *told = now;
+            is_new
+        });
+    }
+
     fn take_set(&mut self, was: WasSet) -> Result<(), Stop> {
         self.setting = None;
+        self.metrics.was_set(was.commands, was.took);
         match (was.told, was.there) {
             (Told::Set, _) => Ok(self.node.was_set(was.generation)?),
             (Told::Taken, Some(there)) => Ok(self.node.was_taken(was.generation, &there)?),
@@ -300,11 +331,11 @@ impl Process {
 
     fn take_question(&mut self, question: Question) {
         match question {
-            Question::Call(asked, waiter) => self.node.ask(asked, waiter),
+            Question::Call(call) => self.take_call(*call),
             Question::State(waiter) => {
                 let _ = waiter.send(Box::new(self.state()));
             }
-            Question::Check(asked, waiter) => self.reads.ask(&mut self.node, asked, waiter),
+            Question::Ask(asked, waiter) => self.reads.ask(&mut self.node, asked, waiter),
             Question::Dump(waiter) => {
                 let dump = self.node.dump();
                 let told = dump.ok().flatten();
@@ -319,6 +350,36 @@ impl Process {
                 let _ = waiter.send((generation, self.records(generation, from)));
             }
         }
+    }
+
+    fn take_call(&mut self, asked: AskedCall) {
+        let AskedCall {
+            at,
+            call,
+            authority,
+            waiter,
+        } = asked;
+        if authority.is_some_and(|authority| !self.may_administer(&authority)) {
+            let _ = waiter.send(Err(NodeRefusal::NotPermitted));
+            return;
+        }
+        match at {
+            Some((generation, member)) => {
+                let asked = Asked {
+                    generation,
+                    member,
+                    call,
+                };
+                self.node.ask(asked, waiter);
+            }
+            None => self.node.ask_here(call, waiter),
+        }
+    }
+
+    /// Whether a caller's session has, by what was delivered here, each permission that its commands need.
+    fn may_administer(&mut self, authority: &Authority) -> bool {
+        let shown = self.node.query(&authority.queries());
+        shown.is_some_and(|shown| authority.is_given(&shown.answers))
     }
 
     fn records(&mut self, generation: u64, from: u64) -> Option<Vec<String>> {
@@ -356,7 +417,7 @@ impl Process {
 
 /// Sets a cell. Where the engine is full nothing is set, and the same text is tried until somebody has made room.
 async fn set(engine: &dyn Engine, next: NextCell) -> Result<WasSet, Fault> {
-    let (row, number) = (&next.row, next.number);
+    let (row, number, began) = (&next.row, next.number, Instant::now());
     let told = loop {
         match sure_set(engine, row, number, std::slice::from_ref(&next.text)).await {
             Err(Fault::Full) => tokio::time::sleep(FULL_PAUSE).await,
@@ -370,6 +431,8 @@ async fn set(engine: &dyn Engine, next: NextCell) -> Result<WasSet, Fault> {
     Ok(WasSet {
         generation: next.generation,
         told,
+        commands: next.commands,
+        took: began.elapsed(),
         there,
     })
 }

@@ -112,7 +112,7 @@ impl<W> RowMember<W> {
             RestoreError::TakeOwn { number: at, error } => fault_of(number, at.into(), error),
         })?;
         let opening = Opening::of(begins);
-        let mut taking = Taking::of(member, number, generation.members(), opening);
+        let mut taking = Taking::of(member, number, generation, opening);
         let mut history = History::new();
         for (place, cell) in (1..).zip(cells) {
             let commands = commands_of(cell.message.get()).len();
@@ -405,6 +405,13 @@ impl<W> RowMember<W> {
     /// Where its row's next cell goes.
     pub fn chain(&self) -> &Chain {
         &self.chain
+    }
+
+    /// How many commands of callers the cell has that is being set.
+    pub fn commands_being_set(&self) -> usize {
+        let setting = self.setting.as_ref();
+        let calls = setting.and_then(|it| it.batch.as_ref()).map(Batch::told);
+        calls.iter().flatten().map(|call| call.commands).sum()
     }
 
     /// How many cells are left of its row, its seal's too.

@@ -29,6 +29,9 @@ pub enum Stop {
     /// The socket of its callers can't be had.
     #[error("the callers' socket: {0}")]
     Socket(io::Error),
+    /// Callers can't be answered as is asked for.
+    #[error("{0}")]
+    Serving(String),
     /// The file that tells other processes that this one runs can't be had.
     #[error("the lock: {0}")]
     Lock(io::Error),
@@ -43,7 +46,7 @@ impl Stop {
         match self {
             Stop::Asked => 0,
             Stop::NoMemory | Stop::Socket(_) | Stop::Lock(_) => 1,
-            Stop::Founding(_) => 2,
+            Stop::Founding(_) | Stop::Serving(_) => 2,
             Stop::Fenced | Stop::Behind => 3,
             Stop::Lost(_) => 4,
             Stop::Engine(_) => 5,

@@ -1,6 +1,7 @@
 //! A group of real processes that is measured.
 use crate::store::Store;
 use fochillund::ask::Members;
+use fochillund::callers::State;
 use fochillund::group::{node, socket};
 use std::path::{Path, PathBuf};
 use std::process::{Child, Command, Stdio};
@@ -17,11 +18,17 @@ pub struct Group {
     rows: Vec<String>,
     members: u32,
     processes: Vec<Child>,
+    observers: Vec<Child>,
 }
 
 impl Group {
     /// Starts the members of a new group of this name.
     pub fn start(store: &Store, name: &str, members: u32) -> Group {
+        Group::start_with(store, name, members, &[])
+    }
+
+    /// The same, each with these words more.
+    pub fn start_with(store: &Store, name: &str, members: u32, more: &[&str]) -> Group {
         let folder = store.folder().join(name);
         let _ = std::fs::remove_dir_all(&folder);
         std::fs::create_dir_all(&folder).expect("a folder");
@@ -36,37 +43,82 @@ impl Group {
             folder,
             members,
             processes: Vec::new(),
+            observers: Vec::new(),
         };
         for member in 1..=members {
-            let process = group.spawn(&group.folder, member, &[]);
+            let process = group.spawn(&group.folder, member, more);
             group.processes.push(process);
         }
         group
     }
 
-    fn spawn(&self, folder: &Path, member: u32, more: &[&str]) -> Child {
+    /// The program with a word, and those by which it finds the group's rows. It says nothing.
+    fn program(&self, word: &str) -> Command {
         let here = std::env::current_exe().expect("a path");
         let programs = here.parent().and_then(Path::parent).expect("a folder");
-        let nodes: Vec<String> = (1..=self.members).map(node).collect();
         let mut command = Command::new(programs.join("fochillund"));
-        command.arg("member").arg("--folder").arg(folder);
-        let founding = self.folder.join("founding.toml");
-        command.arg("--founding").arg(founding).args(&self.rows);
+        command.arg(word).args(&self.rows);
+        command.stdout(Stdio::null()).stderr(Stdio::null());
+        command
+    }
+
+    fn spawn(&self, folder: &Path, member: u32, more: &[&str]) -> Child {
+        let nodes: Vec<String> = (1..=self.members).map(node).collect();
+        let mut command = self.program("member");
+        command.arg("--folder").arg(folder).arg("--founding");
+        command.arg(self.folder.join("founding.toml"));
         command.args(["--nodes", &nodes.join(","), "--node", &node(member)]);
-        let quiet = command.args(more).stdout(Stdio::null());
-        quiet
-            .stderr(Stdio::null())
-            .spawn()
-            .expect("build fochillund first")
+        command.args(more).spawn().expect("build fochillund first")
+    }
+
+    /// Proposes the next generation, of the same nodes.
+    pub fn propose(&self) -> Child {
+        let nodes: Vec<String> = (1..=self.members).map(node).collect();
+        let mut command = self.program("propose");
+        command.arg("--folder").arg(&self.folder);
+        let command = command.args(["--nodes", &nodes.join(",")]);
+        command.spawn().expect("build fochillund first")
+    }
+
+    /// Has so many processes follow the group, and waits until each has read what it has.
+    pub async fn observe(&mut self, observers: usize) {
+        let folder = self.folder.join("observers");
+        std::fs::create_dir_all(&folder).expect("a folder");
+        for observer in 1..=observers {
+            let mut command = self.program("observe");
+            command.arg("--folder").arg(&self.folder);
+            command
+                .arg("--socket")
+                .arg(socket(&folder, observer as u32));
+            let process = command.spawn().expect("build fochillund first");
+            self.observers.push(process);
+        }
+        let sent = self.sent().await;
+        let mut client = Members::of(&folder, Duration::from_secs(60));
+        for observer in 1..=observers {
+            let has_read = |state: std::io::Result<State>| {
+                state.is_ok_and(|state| state.taken.iter().sum::<u64>() >= sent)
+            };
+            while !has_read(client.state(observer as u32).await) {
+                tokio::time::sleep(Duration::from_millis(5)).await;
+            }
+        }
+    }
+
+    /// Kills all that follow it.
+    pub fn unobserve(&mut self) {
+        kill(&mut self.observers);
     }
 
     /// Kills all processes.
     pub fn kill(&mut self) {
-        for mut process in self.processes.drain(..) {
-            // One that has ended is killed too.
-            let _ = process.kill();
-            let _ = process.wait();
-        }
+        kill(&mut self.processes);
+        self.unobserve();
+    }
+
+    /// Kills the last member.
+    pub fn kill_last(&mut self) {
+        kill(&mut self.processes.split_off(self.processes.len() - 1));
     }
 
     /// Starts the first member again.
@@ -107,6 +159,14 @@ impl Group {
     pub async fn sent(&self) -> u64 {
         let state = self.client().state(1).await.expect("it is up");
         state.taken.iter().sum()
+    }
+}
+
+fn kill(processes: &mut Vec<Child>) {
+    for mut process in processes.drain(..) {
+        // One that has ended is killed too.
+        let _ = process.kill();
+        let _ = process.wait();
     }
 }
 

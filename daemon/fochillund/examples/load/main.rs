@@ -1,10 +1,12 @@
 //! How fast a group of three processes is, beside a bare set, on the disk of a folder or over an engine.
 //!
-//!     cargo run --release --example load -- FOLDER|etcd1|etcd3|postgresql [SECONDS]
+//!     cargo run --release --example load -- FOLDER|etcd1|etcd3|postgresql [SECONDS [generations]]
 //!
 //! Prints a line for one caller and one for 64: calls a second; how long half of the calls took at most, and 99 of 100, in milliseconds; the first of
 //! these in bare sets; messages a call; and the processor time of the three members a call, in microseconds. Then what an idle member takes, how long
-//! callers wait while their member is moved, and, over files, how long a member is made anew that has 60,000 cells.
+//! callers wait while their member is moved, and, over files, how long a member is made anew that has 60,000 cells. Of generations it prints what
+//! [`generations::measure`] says.
+mod generations;
 mod group;
 mod store;
 
@@ -149,13 +151,8 @@ async fn made_anew(store: &Store) {
     );
 }
 
-#[tokio::main(flavor = "current_thread")]
-async fn main() {
-    let words: Vec<String> = std::env::args().skip(1).collect();
-    let store = Store::of(words.first().expect("a folder, or an engine"));
-    let lasts = words.get(1).and_then(|it| it.parse().ok()).unwrap_or(5);
-    let lasts = Duration::from_secs(lasts);
-    let mut group = Group::start(&store, "three", MEMBERS);
+async fn measure(store: &Store, lasts: Duration) {
+    let mut group = Group::start(store, "three", MEMBERS);
     group.is_up().await;
     let engine = store.open().await;
     let set = bare_set(&*engine, lasts / 4).await;
@@ -166,7 +163,19 @@ async fn main() {
     moves(&mut group).await;
     drop(group);
     if matches!(store, Store::Files(_)) {
-        made_anew(&store).await;
+        made_anew(store).await;
+    }
+}
+
+#[tokio::main(flavor = "current_thread")]
+async fn main() {
+    let words: Vec<String> = std::env::args().skip(1).collect();
+    let store = Store::of(words.first().expect("a folder, or an engine"));
+    let lasts = words.get(1).and_then(|it| it.parse().ok()).unwrap_or(5);
+    let lasts = Duration::from_secs(lasts);
+    match words.get(2).map(String::as_str) {
+        Some("generations") => generations::measure(&store, lasts).await,
+        _ => measure(&store, lasts).await,
     }
     let _ = std::fs::remove_dir_all(store.folder());
 }

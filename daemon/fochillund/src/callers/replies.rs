@@ -1,11 +1,14 @@
 //! What callers are told.
 use super::State;
-use crate::node::{Answered, Checked, NodeRefusal};
+use crate::access::Scope;
+use crate::node::{Answered, NodeRefusal};
 use crate::row_member::Refusal;
-use fochillun::{CheckError, MemberError};
-use hyper::header::{CONTENT_TYPE, RETRY_AFTER};
+use fochillun::MemberError;
+use hyper::header::{CACHE_CONTROL, CONTENT_TYPE, RETRY_AFTER, WWW_AUTHENTICATE};
+use hyper::http::response::Builder;
 use hyper::{Body, Response, StatusCode};
 use serde_json::{json, Value};
+use std::time::Duration;
 
 /// What a caller is told.
 #[derive(Debug)]
@@ -16,11 +19,19 @@ pub(super) enum Told {
         records: Vec<String>,
     },
     State(Box<State>),
-    Checked(Checked),
     Dump {
         generation: u64,
         commands: Vec<String>,
     },
+    /// Of a question in the terms of AuthZEN: the text of a JSON value.
+    Json(Vec<u8>),
+    /// Server-sent events.
+    Stream(Body),
+    /// For Prometheus.
+    Metrics(Vec<u8>),
+    Healthy,
+    Ready,
+    NotReady(&'static str),
     /// What was delivered here does not go as far as was asked for.
     Behind(Box<State>),
     /// The rows were not read lately.
@@ -28,12 +39,22 @@ pub(super) enum Told {
     Refused(NodeRefusal),
     BadRequest(String),
     TooLong(usize),
+    /// So many evaluations are asked at once at most.
+    TooMany(usize),
     /// The history of this generation is not kept here.
     NotKept(u64),
     /// The call stands, and waits.
     Waits(Box<State>),
     /// The process ends.
     Ends,
+    /// A line of the decision log that is required can't be written.
+    NotLogged,
+    /// Nobody knows who asks.
+    Unknown,
+    /// The caller may not ask this.
+    OutOfScope(Scope),
+    /// The caller has asked as much as it may, for so long.
+    TooMuch(Duration),
     NoMethod,
     NoPath,
 }
@@ -41,12 +62,7 @@ pub(super) enum Told {
 impl Told {
     pub(super) fn response(self) -> Response<Body> {
         let status = self.status();
-        let mut response = Response::builder()
-            .status(status)
-            .header(CONTENT_TYPE, "application/json");
-        if status == StatusCode::TOO_MANY_REQUESTS {
-            response = response.header(RETRY_AFTER, "1");
-        }
+        let response = self.head(Response::builder().status(status));
         let body = match self {
             // The records are the library's own texts.
             Told::Answered(Answered {
@@ -55,26 +71,49 @@ impl Told {
                 records,
             }) => {
                 let records = records.join(",");
-                format!(r#"{{"generation":{generation},"member":{member},"records":[{records}]}}"#)
+                format!(
+                    "{{\"generation\":{generation},\"member\":{member},\"records\":[{records}]}}\n"
+                )
+                .into()
             }
             Told::Records {
                 generation,
                 records,
             } => {
                 let records = records.join(",");
-                format!(r#"{{"generation":{generation},"records":[{records}]}}"#)
+                format!("{{\"generation\":{generation},\"records\":[{records}]}}\n").into()
             }
             Told::Dump {
                 generation,
                 commands,
             } => {
                 let commands = commands.join(",");
-                format!(r#"{{"generation":{generation},"commands":[{commands}]}}"#)
+                format!("{{\"generation\":{generation},\"commands\":[{commands}]}}\n").into()
             }
-            other => other.told().to_string(),
+            Told::Json(text) | Told::Metrics(text) => text.into(),
+            Told::Stream(body) => body,
+            other => (other.told().to_string() + "\n").into(),
         };
-        let response = response.body(Body::from(body + "\n"));
-        response.expect("the headers are right")
+        response.body(body).expect("the headers are right")
+    }
+
+    fn head(&self, response: Builder) -> Builder {
+        let kind = match self {
+            Told::Stream(_) => "text/event-stream",
+            Told::Metrics(_) => "text/plain; version=0.0.4",
+            _ => "application/json",
+        };
+        let response = response.header(CONTENT_TYPE, kind);
+        match self {
+            Told::Stream(_) => response.header(CACHE_CONTROL, "no-store"),
+            Told::Unknown => response.header(WWW_AUTHENTICATE, "Bearer"),
+            Told::TooMuch(wait) => {
+                let seconds = wait.as_secs() + u64::from(wait.subsec_nanos() > 0);
+                response.header(RETRY_AFTER, seconds.max(1))
+            }
+            Told::Refused(NodeRefusal::Call(Refusal::Busy)) => response.header(RETRY_AFTER, "1"),
+            _ => response,
+        }
     }
 
     fn status(&self) -> StatusCode {
@@ -82,15 +121,23 @@ impl Told {
             Told::Answered(_)
             | Told::Records { .. }
             | Told::State(_)
-            | Told::Checked(_)
-            | Told::Dump { .. } => StatusCode::OK,
+            | Told::Dump { .. }
+            | Told::Json(_)
+            | Told::Stream(_)
+            | Told::Metrics(_)
+            | Told::Healthy
+            | Told::Ready => StatusCode::OK,
             Told::Behind(_) => StatusCode::CONFLICT,
-            Told::Stale(_) => StatusCode::SERVICE_UNAVAILABLE,
             Told::Refused(refusal) => status_of(*refusal),
-            Told::Waits(_) | Told::Ends => StatusCode::SERVICE_UNAVAILABLE,
+            Told::Waits(_) | Told::Ends | Told::Stale(_) | Told::NotReady(_) | Told::NotLogged => {
+                StatusCode::SERVICE_UNAVAILABLE
+            }
             Told::BadRequest(_) => StatusCode::BAD_REQUEST,
-            Told::TooLong(_) => StatusCode::PAYLOAD_TOO_LARGE,
+            Told::TooLong(_) | Told::TooMany(_) => StatusCode::PAYLOAD_TOO_LARGE,
             Told::NotKept(_) => StatusCode::GONE,
+            Told::Unknown => StatusCode::UNAUTHORIZED,
+            Told::OutOfScope(_) => StatusCode::FORBIDDEN,
+            Told::TooMuch(_) => StatusCode::TOO_MANY_REQUESTS,
             Told::NoMethod => StatusCode::METHOD_NOT_ALLOWED,
             Told::NoPath => StatusCode::NOT_FOUND,
         }
@@ -101,16 +148,9 @@ impl Told {
         let refused = |error: &str, text: &str| json!({ "error": error, "text": text });
         match self {
             Told::State(state) => serde_json::to_value(state).expect("a state is JSON"),
-            Told::Answered(Answered { records, .. }) | Told::Records { records, .. } => {
-                json!({ "records": records })
-            }
-            Told::Dump { commands, .. } => json!({ "commands": commands }),
-            Told::Checked(checked) => json!({
-                "answer": answer_of(&checked.answer),
-                "generation": checked.at.generation,
-                "stamp": checked.at.stamp,
-                "records": checked.records,
-            }),
+            Told::Healthy => json!({ "healthy": true }),
+            Told::Ready => json!({ "ready": true }),
+            Told::NotReady(why) => json!({ "ready": false, "text": why }),
             Told::Behind(state) => json!({
                 "error": "Behind",
                 "text": "what is delivered here does not go as far",
@@ -124,6 +164,7 @@ impl Told {
             Told::Refused(refusal) => told_of(*refusal),
             Told::BadRequest(why) => refused("BadRequest", why),
             Told::TooLong(most) => refused("TooLong", &format!("a body has at most {most} bytes")),
+            Told::TooMany(most) => refused("TooMany", &format!("at most {most} are asked at once")),
             Told::NotKept(generation) => {
                 let why = format!("the history of generation {generation} is not kept here");
                 refused("NotKept", &why)
@@ -141,22 +182,26 @@ impl Told {
                 "Ends",
                 "the process ends; the call may stand: ask again by its id",
             ),
-            Told::NoMethod => refused("NoMethod", "another method is asked for here"),
-            Told::NoPath => refused(
-                "NoPath",
-                "/v1/commands, /v1/check, /v1/dump, /v1/state, /v1/records?from=N",
+            Told::NotLogged => refused(
+                "NotLogged",
+                "the decision log takes no line; a call stands: ask again by its id",
             ),
+            Told::Unknown => refused("Unknown", "a token or a certificate says who asks"),
+            Told::OutOfScope(scope) => json!({
+                "error": "OutOfScope",
+                "text": "this caller may not ask it",
+                "scope": scope,
+            }),
+            Told::TooMuch(_) => refused("TooMuch", "this caller has asked as much as it may"),
+            Told::NoMethod => refused("NoMethod", "another method is asked for here"),
+            Told::NoPath => refused("NoPath", "docs/API.md has the paths"),
+            Told::Answered(_)
+            | Told::Records { .. }
+            | Told::Dump { .. }
+            | Told::Json(_)
+            | Told::Stream(_)
+            | Told::Metrics(_) => unreachable!("it has a body of its own"),
         }
-    }
-}
-
-/// A check's answer as records have it.
-fn answer_of(answer: &Result<bool, CheckError>) -> Value {
-    match answer {
-        Ok(true) => json!("Granted"),
-        Ok(false) => json!("Refused"),
-        Err(CheckError::BadName) => json!({ "refused": "BadName" }),
-        Err(denial) => json!({ "denied": format!("{denial:?}"), "number": denial.number() }),
     }
 }
 
@@ -172,6 +217,7 @@ fn status_of(refusal: NodeRefusal) -> StatusCode {
         | NodeRefusal::NotTaken { .. }
         | NodeRefusal::NoGeneration { .. } => StatusCode::CONFLICT,
         NodeRefusal::OldGeneration { .. } => StatusCode::GONE,
+        NodeRefusal::NotPermitted => StatusCode::FORBIDDEN,
         NodeRefusal::OtherMember { .. } => StatusCode::MISDIRECTED_REQUEST,
     }
 }
@@ -192,6 +238,7 @@ fn told_of(refusal: NodeRefusal) -> Value {
         NodeRefusal::NoGeneration { now } => {
             json!({ "error": "NoGeneration", "text": text, "generation": now })
         }
+        NodeRefusal::NotPermitted => json!({ "error": "NotPermitted", "text": text }),
         NodeRefusal::OtherMember { member } => {
             json!({ "error": "OtherMember", "text": text, "member": member })
         }

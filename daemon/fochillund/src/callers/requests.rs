@@ -1,46 +1,31 @@
 //! What callers send.
+use super::asking::Wanted;
 use super::replies::Told;
+use super::Asker;
+use crate::decision_log::View;
 use hyper::body::HttpBody;
 use hyper::{Body, Request, Uri};
-use serde::de::DeserializeOwned;
-use serde::Deserialize;
-use serde_json::value::RawValue;
+use std::time::Duration;
 
 /// The most bytes of a request's body.
 const MOST_BYTES: usize = 1 << 20;
 
-/// The most bytes of a call's id.
-const LONGEST_ID: usize = 128;
+/// How long a body may take.
+const LONGEST_BODY: Duration = Duration::from_secs(30);
 
-/// A call.
-#[derive(Debug, Deserialize)]
-#[serde(deny_unknown_fields)]
-pub(super) struct Asked {
-    pub(super) generation: u64,
-    pub(super) member: u32,
-    pub(super) id: Option<String>,
-    pub(super) commands: Box<RawValue>,
+/// Reads a request's body, which is a text, and has its caller pay for it.
+pub(super) async fn body_of(asker: &Asker, request: Request<Body>) -> Result<String, Told> {
+    let read = tokio::time::timeout(LONGEST_BODY, all_of(request.into_body()));
+    let body = match read.await {
+        Ok(body) => body?,
+        Err(_) => return Err(Told::BadRequest("the body does not end".to_owned())),
+    };
+    asker.caller.spend(0, body.len());
+    // Of fields that nobody reads it would not be seen.
+    String::from_utf8(body).map_err(|_| Told::BadRequest("the body is no UTF-8".to_owned()))
 }
 
-/// Reads a call.
-pub(super) async fn asked_of(request: Request<Body>) -> Result<Asked, Told> {
-    let asked: Asked = read_of(request).await?;
-    let is_id = |id: &String| !id.is_empty() && id.len() <= LONGEST_ID;
-    if !asked.id.as_ref().is_none_or(is_id) {
-        let why = format!("an id has 1 to {LONGEST_ID} bytes");
-        return Err(Told::BadRequest(why));
-    }
-    Ok(asked)
-}
-
-/// Reads a request's body as JSON.
-pub(super) async fn read_of<T: DeserializeOwned>(request: Request<Body>) -> Result<T, Told> {
-    let body = body_of(request).await?;
-    serde_json::from_slice(&body).map_err(|error| Told::BadRequest(error.to_string()))
-}
-
-async fn body_of(request: Request<Body>) -> Result<Vec<u8>, Told> {
-    let mut body = request.into_body();
+async fn all_of(mut body: Body) -> Result<Vec<u8>, Told> {
     let mut read = Vec::new();
     while let Some(part) = body.data().await {
         let part = part.map_err(|error| Told::BadRequest(error.to_string()))?;
@@ -52,14 +37,42 @@ async fn body_of(request: Request<Body>) -> Result<Vec<u8>, Told> {
     Ok(read)
 }
 
+/// The words of a query, each `name=value`.
+fn words(uri: &Uri) -> impl Iterator<Item = (&str, &str)> {
+    let words = uri.query().into_iter().flat_map(|query| query.split('&'));
+    words.map(|word| word.split_once('=').unwrap_or((word, "")))
+}
+
+/// How a question is to be answered: `consistency=ordered|local&at_least=G.CLOCK.MEMBER.PLACE`, of which each may be missing.
+pub(super) fn wanted_of(uri: &Uri) -> Result<Wanted, Told> {
+    let mut wanted = Wanted::default();
+    for word in words(uri) {
+        match word {
+            ("consistency", "ordered") => wanted.view = Some(View::Ordered),
+            ("consistency", "local") => wanted.view = Some(View::Local),
+            ("at_least", text) => {
+                let at_least = text.parse().map_err(|_| bad_wanted())?;
+                wanted.at_least = Some(at_least);
+            }
+            _ => return Err(bad_wanted()),
+        }
+    }
+    Ok(wanted)
+}
+
+fn bad_wanted() -> Told {
+    let why = "the query is consistency=ordered|local&at_least=G.CLOCK.MEMBER.PLACE";
+    Told::BadRequest(why.to_owned())
+}
+
 /// The generation and the number of the first record that are asked for: `generation=G&from=N`, of which each may be missing.
 pub(super) fn from_of(uri: &Uri) -> Result<(Option<u64>, u64), Told> {
     let (mut generation, mut from) = (None, 1);
-    for part in uri.query().into_iter().flat_map(|query| query.split('&')) {
-        let number = |text: &str| text.parse().ok().filter(|number| *number > 0);
-        match part.split_once('=') {
-            Some(("generation", text)) => generation = Some(number(text).ok_or_else(bad_query)?),
-            Some(("from", text)) => from = number(text).ok_or_else(bad_query)?,
+    let number = |text: &str| text.parse().ok().filter(|number| *number > 0);
+    for word in words(uri) {
+        match word {
+            ("generation", text) => generation = Some(number(text).ok_or_else(bad_query)?),
+            ("from", text) => from = number(text).ok_or_else(bad_query)?,
             _ => return Err(bad_query()),
         }
     }

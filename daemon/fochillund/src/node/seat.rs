@@ -1,5 +1,5 @@
 //! What a node is in one generation: a member, or one that follows it.
-use super::shown::{Check, Checked, ShownAt};
+use super::shown::{Query, Shown, ShownAt};
 use super::{Asked, NextCell, NodeFault, NodeRefusal, Phase, Reply};
 use crate::generation::Generation;
 use crate::row_member::{self, Begins, MemberFault, RowMember, RowObserver, Waits};
@@ -161,12 +161,14 @@ impl<W> Seat<W> {
         };
         let next = member.next_cell();
         let row = member.chain().row().clone();
+        let commands = member.commands_being_set();
         let next = next.map_err(|fault| self.fault(fault))?;
         Ok(next.map(|(number, text)| NextCell {
             generation: self.generation.number,
             row,
             number,
             text,
+            commands,
         }))
     }
 
@@ -270,12 +272,12 @@ impl<W> Seat<W> {
         }
     }
 
-    /// Whether a check is granted by that policy, and up to where that is right.
-    pub(super) fn check(&mut self, check: &Check) -> Option<Checked> {
+    /// What these questions are told by that policy, and up to where that is right.
+    pub(super) fn query(&mut self, queries: &[Query]) -> Option<Shown> {
         let generation = self.generation.number;
         let taking = self.taking()?;
-        Some(Checked {
-            answer: taking.check(check),
+        Some(Shown {
+            answers: queries.iter().map(|query| taking.query(query)).collect(),
             at: ShownAt {
                 generation,
                 stamp: taking.stamp,

@@ -1,21 +1,18 @@
-//! Checks by what the process has delivered, some of which wait until that is far enough.
-use crate::node::{Check, Checked, Node, ShownAt};
-use serde::Deserialize;
+//! Questions by what the process has delivered, some of which wait until that is far enough.
+use crate::node::{Node, Query, Shown, ShownAt};
 use tokio::sync::oneshot;
 
-/// A check, and from where on it may be answered.
-#[derive(Debug, Deserialize)]
-pub(crate) struct AskedCheck {
-    #[serde(flatten)]
-    pub(crate) check: Check,
-    /// What has to be delivered before it is answered: as an answer to a change told it.
-    #[serde(default)]
+/// Questions that are answered together, and from where on they may be.
+#[derive(Debug)]
+pub(crate) struct AskedQueries {
+    pub(crate) queries: Vec<Query>,
+    /// What has to be delivered before they are answered: as an answer to a change told it.
     pub(crate) at_least: Option<ShownAt>,
 }
 
-/// Who waits for a check, and for what.
+/// Who waits for an answer, and for what.
 pub(super) struct Reads {
-    waiting: Vec<(AskedCheck, oneshot::Sender<Checked>)>,
+    waiting: Vec<(AskedQueries, oneshot::Sender<Shown>)>,
 }
 
 impl Reads {
@@ -28,12 +25,12 @@ impl Reads {
     pub(super) fn ask<W>(
         &mut self,
         node: &mut Node<W>,
-        asked: AskedCheck,
-        waiter: oneshot::Sender<Checked>,
+        asked: AskedQueries,
+        waiter: oneshot::Sender<Shown>,
     ) {
         match answer(node, &asked) {
-            Some(checked) => {
-                let _ = waiter.send(checked);
+            Some(shown) => {
+                let _ = waiter.send(shown);
             }
             None => self.waiting.push((asked, waiter)),
         }
@@ -52,8 +49,8 @@ impl Reads {
     }
 }
 
-fn answer<W>(node: &mut Node<W>, asked: &AskedCheck) -> Option<Checked> {
+fn answer<W>(node: &mut Node<W>, asked: &AskedQueries) -> Option<Shown> {
     let shown = node.shown_at()?;
     let is_there = asked.at_least.is_none_or(|wanted| shown >= wanted);
-    is_there.then(|| node.check(&asked.check))?
+    is_there.then(|| node.query(&asked.queries))?
 }

@@ -24,9 +24,9 @@ impl RowObserver {
         begins: Begins,
     ) -> Result<RowObserver, MemberFault> {
         let member = Member::open(generation.file.as_bytes(), followed)?;
-        let (members, opening) = (generation.members(), Opening::of(begins));
+        let opening = Opening::of(begins);
         Ok(RowObserver {
-            taking: Taking::of(member, followed, members, opening),
+            taking: Taking::of(member, followed, generation, opening),
         })
     }
 

@@ -2,9 +2,12 @@
 use super::fault::{fault_of, MemberFault};
 use super::inbox::{Inbox, Wanted};
 use super::opening::{Opening, Part};
+use crate::answer::Answer;
+use crate::generation::Generation;
 use crate::message::{is_seal, own_clock};
-use crate::node::{Check, Stamp};
-use fochillun::{CheckError, Member, MemberError, Waiting};
+use crate::node::{Check, Query, Stamp};
+use crate::policy::Policy;
+use fochillun::{Member, MemberError, Waiting};
 use rows::cell::{DumpPart, Sent};
 use serde::Deserialize;
 use serde_json::value::RawValue;
@@ -13,6 +16,9 @@ use serde_json::value::RawValue;
 #[derive(Debug)]
 pub(crate) struct Taking {
     pub(super) member: Member,
+    founding: String,
+    /// What answers reviews; none before the first is asked.
+    reviewed: Option<Reviewed>,
     pub(super) number: u32,
     pub(super) inboxes: Vec<Inbox>,
     pub(super) opening: Opening,
@@ -47,10 +53,37 @@ struct DumpLine<'t> {
     command: &'t RawValue,
 }
 
+/// A record of the history.
+#[derive(Deserialize)]
+struct Record<'t> {
+    #[serde(borrow)]
+    command: &'t RawValue,
+    #[serde(borrow)]
+    answer: &'t RawValue,
+}
+
+/// A policy that has carried out so many records of the history.
+#[derive(Debug)]
+struct Reviewed {
+    policy: Policy,
+    records: u64,
+}
+
+/// So many records are carried out one by one. Where there are more, the policy is made of the member's dump, which has some 35,000 commands at most.
+const MOST_BEHIND: u64 = 20_000;
+
 impl Taking {
-    pub(super) fn of(member: Member, number: u32, members: u32, opening: Opening) -> Taking {
+    pub(super) fn of(
+        member: Member,
+        number: u32,
+        generation: &Generation,
+        opening: Opening,
+    ) -> Taking {
+        let members = generation.members();
         Taking {
             member,
+            founding: generation.file.clone(),
+            reviewed: None,
             number,
             inboxes: (0..members).map(|_| Inbox::default()).collect(),
             opening,
@@ -268,14 +301,51 @@ impl Taking {
         self.opening.is_open && self.records >= self.opening.total as u64
     }
 
-    /// Whether a session may perform an operation on an object by the policy of the history.
-    pub(crate) fn check(&mut self, check: &Check) -> Result<bool, CheckError> {
-        let Check {
-            session,
-            operation,
-            object,
-        } = check;
-        self.member.check(session, operation, object).0
+    /// What a question is told by the policy of the history.
+    pub(crate) fn query(&mut self, query: &Query) -> Result<Answer, MemberError> {
+        match query {
+            Query::Check(Check {
+                session,
+                operation,
+                object,
+            }) => Answer::of_check(self.member.check(session, operation, object).0),
+            Query::Review(_) | Query::Owner { .. } => self.reviewed()?.policy.query(query),
+        }
+    }
+
+    /// The policy of the history beside the member, which is made where it is asked for, and is taken along then.
+    fn reviewed(&mut self) -> Result<&mut Reviewed, MemberError> {
+        let (records, is_near) = match &self.reviewed {
+            Some(it) => (it.records, self.records - it.records <= MOST_BEHIND),
+            None => (0, false),
+        };
+        let mut reviewed = match self.reviewed.take().filter(|_| is_near) {
+            Some(reviewed) => reviewed,
+            None => self.reviewed_anew()?,
+        };
+        if is_near {
+            for number in records + 1..=self.records {
+                let record = self.member.record(number as usize)?;
+                let record: Record<'_> = serde_json::from_str(&record).expect("a record");
+                let answer = reviewed.policy.apply(record.command.get());
+                let answer = answer.map_err(|_| MemberError::NoMemory)?;
+                assert_eq!(answer, record.answer.get(), "record {number}");
+            }
+            reviewed.records = self.records;
+        }
+        Ok(self.reviewed.insert(reviewed))
+    }
+
+    fn reviewed_anew(&mut self) -> Result<Reviewed, MemberError> {
+        let dump = self.dump().map_err(|_| MemberError::NoMemory)?;
+        let policy = Policy::of(self.founding.as_bytes());
+        let mut policy = policy.map_err(|_| MemberError::NoMemory)?;
+        let made = policy.apply_dump(dump.iter().map(String::as_str));
+        made.map_err(|_| MemberError::NoMemory)?;
+        Ok(Reviewed {
+            policy,
+            records: self.records,
+        })
     }
 
     /// The commands that make the policy of the history.

@@ -1,11 +1,9 @@
 //! Groups of processes that go on with other members and other founding files.
 use crate::group::{founding, Group};
-use crate::judge::{self, History};
 use fochillund::ask::Members;
 use fochillund::callers::State;
 use fochillund::node::Phase;
 use hyper::{Body, Method, Request};
-use rows::{Engine, Fault, RowName};
 use serde_json::{json, Value};
 use std::path::Path;
 use std::process::{Child, Command, Output};
@@ -41,7 +39,7 @@ async fn answers(client: &mut Members, member: u32, id: &str, commands: &str) ->
 }
 
 /// Waits until the process at a node is so.
-async fn state_where(group: &Group, node: &str, is_so: impl Fn(&State) -> bool) -> State {
+pub async fn state_where(group: &Group, node: &str, is_so: impl Fn(&State) -> bool) -> State {
     let began = Instant::now();
     loop {
         if let Ok(state) = group.client().state_of(node).await {
@@ -87,10 +85,14 @@ impl Observer {
         Observer { process, socket }
     }
 
-    async fn check(&self, at_least: Value) -> (u16, Value) {
-        let body =
-            json!({ "session": "s", "operation": "read", "object": "chart", "at_least": at_least });
-        asked(&self.socket, Method::POST, "/v1/check", &body.to_string()).await
+    async fn check(&self, at_least: &str) -> (u16, Value) {
+        let body = json!({
+            "subject": { "type": "session", "id": "s" },
+            "action": { "name": "read" },
+            "resource": { "type": "record", "id": "chart" },
+        });
+        let path = format!("/access/v1/evaluation?at_least={at_least}");
+        asked(&self.socket, Method::POST, &path, &body.to_string()).await
     }
 }
 
@@ -198,77 +200,6 @@ async fn who_proposes_wrongly_is_told_why() {
     assert_eq!(state.generation, 1);
 }
 
-/// How many cells of a row are used in a test of many generations.
-const CELLS: u64 = 12;
-
-/// The history of a generation, as a member has it.
-async fn history(client: &mut Members, node: &str, generation: u64) -> Vec<String> {
-    let mut records: Vec<String> = Vec::new();
-    loop {
-        let from = records.len() as u64 + 1;
-        let told = client
-            .records_of(node, Some(generation), from)
-            .await
-            .unwrap();
-        if told.records.is_empty() {
-            return records;
-        }
-        records.extend(told.records.iter().map(|it| it.get().to_owned()));
-    }
-}
-
-#[tokio::test]
-async fn a_group_lives_through_ten_generations_and_each_call_is_answered_once() {
-    let mut group = Group::of(3);
-    let margin = (16_384 - CELLS).to_string();
-    for member in 1..=3 {
-        group.start(member, &["--margin", &margin]);
-    }
-    state_where(&group, "n1", |_| true).await;
-    let (mut client, mut histories) = (group.client(), Vec::new());
-    let (mut call, mut kept) = (0, 0);
-    while client.state(1).await.unwrap().generation <= 10 {
-        let user = format!("u{}", call % 50);
-        let told = answers(
-            &mut client,
-            call % 3 + 1,
-            &call.to_string(),
-            &add_user(&user),
-        )
-        .await;
-        assert_eq!(told[0] == json!("Done"), call < 50, "{user}");
-        call += 1;
-        let now = client.state(1).await.unwrap().generation;
-        if now > kept + 1 {
-            kept += 1;
-            histories.push(history(&mut client, "n1", kept).await);
-        }
-        assert!(call < 2000, "generations that do not end");
-    }
-    let engine = rows::Files::of(group.folder());
-    let trimmed = |generation| RowName::of_node("n2", generation).unwrap();
-    let began = Instant::now();
-    while !matches!(engine.get(&trimmed(8), 1).await, Err(Fault::Trimmed(_))) {
-        assert!(
-            began.elapsed() < Duration::from_secs(60),
-            "it is not trimmed"
-        );
-        tokio::time::sleep(Duration::from_millis(10)).await;
-    }
-    assert!(engine.get(&trimmed(10), 1).await.is_ok());
-    group.kill(2);
-    group.start(2, &["--margin", &margin]);
-    state_where(&group, "n2", |state| state.phase == Phase::Serves).await;
-    let calls: usize = histories.iter().map(|records| records.len()).sum();
-    assert!(histories.len() >= 9 && calls > 100, "{calls}");
-    let founding = founding(1);
-    let all = histories.into_iter().map(|records| History {
-        founding: founding.clone(),
-        records,
-    });
-    judge::check(&all.collect::<Vec<_>>());
-}
-
 #[tokio::test]
 async fn who_follows_shows_the_last_command_of_a_group_at_rest_within_a_second() {
     let group = Group::started(3);
@@ -284,18 +215,12 @@ async fn who_follows_shows_the_last_command_of_a_group_at_rest_within_a_second()
     let stamp = &told["records"][0]["stamp"];
     let began = Instant::now();
     let (status, told) = observer
-        .check(json!({ "generation": 1, "stamp": stamp }))
+        .check(&format!("1.{}.{}", stamp[0], stamp[1]))
         .await;
-    assert_eq!(
-        (status, &told["answer"]),
-        (200, &json!("Granted")),
-        "{told}"
-    );
+    assert_eq!((status, &told["decision"]), (200, &json!(true)), "{told}");
     assert!(began.elapsed() < Duration::from_secs(1));
-    assert_eq!((&told["stamp"], &told["records"]), (stamp, &json!(5)));
-    let (status, told) = observer
-        .check(json!({ "generation": 1, "stamp": [1_u64 << 40, 1] }))
-        .await;
+    assert_eq!(&told["context"]["stamp"], stamp);
+    let (status, told) = observer.check(&format!("1.{}.1", 1_u64 << 40)).await;
     assert_eq!((status, &told["error"]), (409, &json!("Behind")));
     assert_eq!(&told["shown"]["stamp"], stamp);
     let (status, told) = asked(&observer.socket, Method::GET, "/v1/dump", "").await;
@@ -314,11 +239,9 @@ async fn who_follows_shows_the_last_command_of_a_group_at_rest_within_a_second()
     .await;
     assert_eq!((status, &told["error"]), (421, &json!("OtherMember")));
     propose(&group, &["--leave-out", "n1"]);
-    let (status, told) = observer
-        .check(json!({ "generation": 2, "stamp": null }))
-        .await;
-    assert_eq!((status, &told["generation"]), (200, &json!(2)), "{told}");
-    assert_eq!(told["answer"], json!("Granted"));
+    let (status, told) = observer.check("2").await;
+    assert_eq!((status, &told["decision"]), (200, &json!(true)), "{told}");
+    assert_eq!(told["context"]["generation"], 2);
     let mut rows = std::fs::read_dir(group.folder())
         .unwrap()
         .map(|it| it.unwrap().file_name());

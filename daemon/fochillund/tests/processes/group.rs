@@ -1,4 +1,5 @@
-//! A group of real processes in a folder of its own.
+//! A group of real processes in a folder of its own. Not every test asks all of it.
+#![allow(dead_code)]
 use fochillund::ask::Members;
 use fochillund::founding::LEAST_SENT_LIMIT;
 use fochillund::group::{node, socket};

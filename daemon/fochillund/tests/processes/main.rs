@@ -6,5 +6,6 @@ mod generations;
 mod group;
 #[path = "../judge/mod.rs"]
 mod judge;
+mod lives;
 mod store;
 mod unit;

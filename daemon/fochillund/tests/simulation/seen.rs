@@ -304,6 +304,7 @@ impl Seen {
             Err(NodeRefusal::Call(Refusal::Full)) => assert!(self.may_be_full, "told Full"),
             Err(NodeRefusal::Call(Refusal::Commands(_))) => assert!(call.commands.is_none()),
             Err(NodeRefusal::Call(Refusal::OtherCommands)) => assert!(call.identity.is_some()),
+            Err(NodeRefusal::NotPermitted) => panic!("told of a session"),
             Err(NodeRefusal::Call(refusal)) => panic!("told {refusal}"),
         }
         let there = self.askings[asking].reply.replace(reply);

@@ -1,5 +1,4 @@
 //! Rows in etcd: one server, and clusters of three, that are killed, filled up, compacted, and that let nobody in.
-mod certificates;
 mod cluster;
 mod failures;
 mod rights;

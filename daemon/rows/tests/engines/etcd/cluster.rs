@@ -6,7 +6,7 @@ use rand::Rng;
 use rows::etcd::{Options, Uri};
 use rows::{Engine, Etcd, Fault};
 use servers::etcd::PATIENCE;
-pub use servers::etcd::{free_port, words_of, Certificate, Cluster, Setup};
+pub use servers::etcd::{free_port, words_of, Cluster, Setup};
 use std::sync::Arc;
 use std::time::{Duration, Instant};
 

@@ -1,10 +1,10 @@
 //! Who is let in, and who is believed to be etcd.
-use super::certificates::Authority;
 use super::cluster::{free_port, open, Cluster, HasRows, Setup};
 use super::one;
 use crate::conformance::{all, set, texts};
 use rows::etcd::{Login, Options, Uri};
 use rows::{Engine, Etcd, Fault, RowName, Told};
+use servers::certificates::Authority;
 use std::fs;
 use std::time::{Duration, Instant};
 use tempfile::TempDir;

@@ -1,0 +1,11 @@
+//! What callers are told over HTTP: each example of docs/API.md, who may call, over TLS too, the decision log, and requests that are mutated.
+mod access;
+mod authzen;
+mod decisions;
+#[path = "../processes/group.rs"]
+mod group;
+mod http;
+mod mutated;
+mod page;
+mod streams;
+mod tls;
