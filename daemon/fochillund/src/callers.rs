@@ -175,6 +175,7 @@ impl Callers {
         match route {
             Route::Evaluation => self.answer_evaluation(&asker, request).await,
             Route::Evaluations => self.answer_evaluations(&asker, request).await,
+            Route::Check => self.answer_check(&asker, &request).await,
             Route::SearchAction => self.answer_search_action(&asker, request).await,
             Route::SearchResource => self.answer_search_resource(&asker, request).await,
             Route::Commands => self.answer_call(&asker, request).await,

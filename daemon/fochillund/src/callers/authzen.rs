@@ -11,7 +11,7 @@ use crate::node::{ShownAt, Stamp};
 use crate::policy_questions::{Asked, Decision, Evaluation, Reason, Sought};
 use hyper::header::HOST;
 use hyper::{Body, Request};
-use requests::{Page, Read, ReadEvaluation, ReadEvaluations, ReadSearch, Semantic};
+use requests::{check_of, Page, Read, ReadEvaluation, ReadEvaluations, ReadSearch, Semantic};
 use serde::Serialize;
 use serde_json::json;
 
@@ -83,7 +83,22 @@ impl Callers {
         let wanted = wanted_of(request.uri())?;
         let body = body_of(asker, request).await?;
         let evaluation = ReadEvaluation::read(&body)?.evaluation()?;
-        self.decide_one(asker, wanted, evaluation).await
+        let decided = self.decide_one(asker, wanted, evaluation).await?;
+        Ok(json_of(&decided.told()))
+    }
+
+    /// The same for who reads nothing but the status.
+    pub(super) async fn answer_check(
+        &self,
+        asker: &Asker,
+        request: &Request<Body>,
+    ) -> Result<Told, Told> {
+        let (evaluation, wanted) = check_of(request.uri())?;
+        let decided = self.decide_one(asker, wanted, evaluation).await?;
+        Ok(match decided.decision.is_granted() {
+            true => Told::Granted,
+            false => Told::NotGranted(text_of(&decided.told())),
+        })
     }
 
     async fn decide_one(
@@ -91,11 +106,11 @@ impl Callers {
         asker: &Asker,
         wanted: Wanted,
         evaluation: Evaluation,
-    ) -> Result<Told, Told> {
+    ) -> Result<Decided, Told> {
         asker.caller.spend(1, 0);
-        let decided = self.decide(wanted, vec![evaluation]).await?;
+        let mut decided = self.decide(wanted, vec![evaluation]).await?;
         self.note(asker, wanted, &decided).await?;
-        Ok(json_of(&decided[0].told()))
+        Ok(decided.swap_remove(0))
     }
 
     pub(super) async fn answer_evaluations(
@@ -107,7 +122,8 @@ impl Callers {
         let body = body_of(asker, request).await?;
         let asked = ReadEvaluations::read(&body)?;
         let Some(count) = asked.count() else {
-            return self.decide_one(asker, wanted, asked.alone()?).await;
+            let decided = self.decide_one(asker, wanted, asked.alone()?).await?;
+            return Ok(json_of(&decided.told()));
         };
         if count > MOST_EVALUATIONS {
             return Err(Told::TooMany(MOST_EVALUATIONS));
@@ -309,7 +325,11 @@ fn told_of(semantic: Semantic, decided: &[Decided]) -> usize {
 }
 
 fn json_of(told: &impl Serialize) -> Told {
+    Told::Json(text_of(told))
+}
+
+fn text_of(told: &impl Serialize) -> Vec<u8> {
     let mut text = serde_json::to_vec(told).expect("it is JSON");
     text.push(b'\n');
-    Told::Json(text)
+    text
 }

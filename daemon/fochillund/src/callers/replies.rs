@@ -25,6 +25,10 @@ pub(super) enum Told {
     },
     /// Of a question in the terms of AuthZEN: the text of a JSON value.
     Json(Vec<u8>),
+    /// To who reads the status alone.
+    Granted,
+    /// The same: the text of the decision.
+    NotGranted(Vec<u8>),
     /// Server-sent events.
     Stream(Body),
     /// For Prometheus.
@@ -90,7 +94,8 @@ impl Told {
                 let commands = commands.join(",");
                 format!("{{\"generation\":{generation},\"commands\":[{commands}]}}\n").into()
             }
-            Told::Json(text) | Told::Metrics(text) => text.into(),
+            Told::Json(text) | Told::NotGranted(text) | Told::Metrics(text) => text.into(),
+            Told::Granted => Body::empty(),
             Told::Stream(body) => body,
             other => (other.told().to_string() + "\n").into(),
         };
@@ -99,13 +104,14 @@ impl Told {
 
     fn head(&self, response: Builder) -> Builder {
         let kind = match self {
+            Told::Granted => return response.header(CACHE_CONTROL, "no-store"),
             Told::Stream(_) => "text/event-stream",
             Told::Metrics(_) => "text/plain; version=0.0.4",
             _ => "application/json",
         };
         let response = response.header(CONTENT_TYPE, kind);
         match self {
-            Told::Stream(_) => response.header(CACHE_CONTROL, "no-store"),
+            Told::Stream(_) | Told::NotGranted(_) => response.header(CACHE_CONTROL, "no-store"),
             Told::Unknown => response.header(WWW_AUTHENTICATE, "Bearer"),
             Told::TooMuch(wait) => {
                 let seconds = wait.as_secs() + u64::from(wait.subsec_nanos() > 0);
@@ -127,6 +133,8 @@ impl Told {
             | Told::Metrics(_)
             | Told::Healthy
             | Told::Ready => StatusCode::OK,
+            Told::Granted => StatusCode::NO_CONTENT,
+            Told::NotGranted(_) => StatusCode::FORBIDDEN,
             Told::Behind(_) => StatusCode::CONFLICT,
             Told::Refused(refusal) => status_of(*refusal),
             Told::Waits(_) | Told::Ends | Told::Stale(_) | Told::NotReady(_) | Told::NotLogged => {
@@ -199,6 +207,8 @@ impl Told {
             | Told::Records { .. }
             | Told::Dump { .. }
             | Told::Json(_)
+            | Told::Granted
+            | Told::NotGranted(_)
             | Told::Stream(_)
             | Told::Metrics(_) => unreachable!("it has a body of its own"),
         }

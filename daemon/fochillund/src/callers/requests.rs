@@ -38,7 +38,7 @@ async fn all_of(mut body: Body) -> Result<Vec<u8>, Told> {
 }
 
 /// The words of a query, each `name=value`.
-fn words(uri: &Uri) -> impl Iterator<Item = (&str, &str)> {
+pub(super) fn words(uri: &Uri) -> impl Iterator<Item = (&str, &str)> {
     let words = uri.query().into_iter().flat_map(|query| query.split('&'));
     words.map(|word| word.split_once('=').unwrap_or((word, "")))
 }
@@ -46,18 +46,24 @@ fn words(uri: &Uri) -> impl Iterator<Item = (&str, &str)> {
 /// How a question is to be answered: `consistency=ordered|local&at_least=G.CLOCK.MEMBER.PLACE`, of which each may be missing.
 pub(super) fn wanted_of(uri: &Uri) -> Result<Wanted, Told> {
     let mut wanted = Wanted::default();
-    for word in words(uri) {
-        match word {
-            ("consistency", "ordered") => wanted.view = Some(View::Ordered),
-            ("consistency", "local") => wanted.view = Some(View::Local),
-            ("at_least", text) => {
-                let at_least = text.parse().map_err(|_| bad_wanted())?;
-                wanted.at_least = Some(at_least);
-            }
-            _ => return Err(bad_wanted()),
-        }
+    for (name, value) in words(uri) {
+        wanted_by(&mut wanted, name, value)?;
     }
     Ok(wanted)
+}
+
+/// What one word of a query says of that.
+pub(super) fn wanted_by(wanted: &mut Wanted, name: &str, value: &str) -> Result<(), Told> {
+    match (name, value) {
+        ("consistency", "ordered") => wanted.view = Some(View::Ordered),
+        ("consistency", "local") => wanted.view = Some(View::Local),
+        ("at_least", text) => {
+            let at_least = text.parse().map_err(|_| bad_wanted())?;
+            wanted.at_least = Some(at_least);
+        }
+        _ => return Err(bad_wanted()),
+    }
+    Ok(())
 }
 
 fn bad_wanted() -> Told {

@@ -11,6 +11,7 @@ pub(super) enum Route {
     SearchAction,
     SearchResource,
     Configuration,
+    Check,
     Commands,
     Dump,
     Records,
@@ -22,7 +23,7 @@ pub(super) enum Route {
 }
 
 /// Each route with its method and path. The first of a route's paths is what it is called.
-const ROUTES: [(Route, Method, &str); 14] = [
+const ROUTES: [(Route, Method, &str); 15] = [
     (Route::Evaluation, Method::POST, "/access/v1/evaluation"),
     (Route::Evaluations, Method::POST, "/access/v1/evaluations"),
     (
@@ -40,6 +41,7 @@ const ROUTES: [(Route, Method, &str); 14] = [
         Method::GET,
         "/.well-known/authzen-configuration",
     ),
+    (Route::Check, Method::GET, "/v1/check"),
     (Route::Commands, Method::POST, "/v1/commands"),
     (Route::Dump, Method::GET, "/v1/dump"),
     (Route::Records, Method::GET, "/v1/records"),
@@ -73,7 +75,7 @@ impl Route {
     /// The scope that a caller needs. None of a route that anybody may ask, and of commands, of which each has its own.
     pub(super) fn scope(self) -> Option<Scope> {
         match self {
-            Route::Evaluation | Route::Evaluations => Some(Scope::Check),
+            Route::Evaluation | Route::Evaluations | Route::Check => Some(Scope::Check),
             Route::SearchAction | Route::SearchResource => Some(Scope::Review),
             Route::Dump | Route::Records | Route::History => Some(Scope::Review),
             Route::Status | Route::Metrics => Some(Scope::Operate),

@@ -120,6 +120,12 @@ fn questions() -> Vec<(&'static str, Method, &'static str, Value)> {
         ),
         ("check", post.clone(), "/access/v1/evaluations", list),
         (
+            "check",
+            get.clone(),
+            "/v1/check?session=s1&operation=read&object=chart",
+            Value::Null,
+        ),
+        (
             "review",
             post.clone(),
             "/access/v1/search/action",
@@ -214,7 +220,11 @@ async fn a_call_outside_its_scopes_changes_nothing() {
                 let told = asked(&mut client, token, method, path, &body).await;
                 // What is no command is carried out by nobody.
                 let is_none = body.to_string().contains("NoSuch");
-                let wanted = if is_none { 400 } else { 200 };
+                let wanted = match path.starts_with("/v1/check") {
+                    true => 204,
+                    false if is_none => 400,
+                    false => 200,
+                };
                 assert_eq!(told.status, wanted, "{scope} {path} {body} {told:?}");
             }
         }

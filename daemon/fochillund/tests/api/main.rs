@@ -1,4 +1,5 @@
-//! What callers are told over HTTP: each example of docs/API.md, who may call, over TLS too, the decision log, and requests that are mutated.
+//! What callers are told over HTTP: each example of docs/API.md, who may call, over TLS too, the decision log, nginx that
+//! asks, and requests that are mutated.
 mod access;
 mod authzen;
 mod decisions;
@@ -6,6 +7,7 @@ mod decisions;
 mod group;
 mod http;
 mod mutated;
+mod nginx;
 mod page;
 mod streams;
 mod tls;

@@ -69,6 +69,10 @@ async fn the_examples_of_the_page_are_told_so() {
             .ask(example.method, path, &headers, &example.body)
             .await;
         assert_eq!(told.status, example.status, "{path} {told:?}");
+        if example.told.is_empty() {
+            assert!(told.body.is_empty(), "{path} {told:?}");
+            continue;
+        }
         let wanted: Value =
             serde_json::from_str(&example.told).unwrap_or_else(|_| panic!("{}", example.told));
         assert_eq!(told.json(), wanted, "{path} {}", example.body);

@@ -1,8 +1,13 @@
 //! What is read of AuthZEN's requests. Fields that are not named here, as properties, are read by nobody.
+use super::super::asking::Wanted;
 use super::super::replies::Told;
+use super::super::requests::{wanted_by, words};
 use crate::policy_questions::{Evaluation, Sought, Subject};
+use hyper::Uri;
+use percent_encoding::percent_decode_str;
 use serde::de::DeserializeOwned;
 use serde::Deserialize;
+use std::collections::BTreeMap;
 
 /// What has a type and an id.
 #[derive(Clone, Debug, Deserialize)]
@@ -199,4 +204,48 @@ impl ReadSearch {
         };
         Ok((sought, self.page.unwrap_or_default()))
     }
+}
+
+/// The evaluation of a query, and how it is to be answered. Each word stands there once and is one of these, so that nobody who brings a part of the
+/// query's text changes another one.
+pub(super) fn check_of(uri: &Uri) -> Result<(Evaluation, Wanted), Told> {
+    let mut wanted = Wanted::default();
+    let mut texts = BTreeMap::new();
+    for (name, value) in words(uri) {
+        let is_known = ["user", "session", "operation", "object"].contains(&name);
+        if !is_known {
+            let known = wanted_by(&mut wanted, name, value);
+            known.map_err(|_| bad_check("a word is not known"))?;
+        }
+        let value = percent_decode_str(value).decode_utf8();
+        let value = value.map_err(|_| bad_check("a text is no UTF-8"))?;
+        if texts.insert(name, value.into_owned()).is_some() {
+            return Err(bad_check("a word stands there twice"));
+        }
+    }
+    let (user, session) = (texts.remove("user"), texts.remove("session"));
+    let subject = match (user, session) {
+        (Some(id), session) => Subject {
+            kind: "user".to_owned(),
+            id,
+            session,
+        },
+        (None, Some(id)) => Subject {
+            kind: "session".to_owned(),
+            id,
+            session: None,
+        },
+        (None, None) => return Err(bad_check("nobody is named")),
+    };
+    let evaluation = Evaluation {
+        subject,
+        action: there(texts.remove("operation"), "operation")?,
+        resource: there(texts.remove("object"), "object")?,
+    };
+    Ok((evaluation, wanted))
+}
+
+fn bad_check(why: &str) -> Told {
+    let wanted = "user=U&session=S&operation=O&object=O, with user or session or both";
+    Told::BadRequest(format!("{why}: the query is {wanted}"))
 }
