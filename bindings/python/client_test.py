@@ -3,6 +3,7 @@ process. Of `fochillund` it takes the one that FOCHILLUND names, or else that wh
 
 import asyncio
 import contextlib
+import json
 import multiprocessing
 import os
 import pathlib
@@ -20,7 +21,8 @@ import fochillun
 from fochillun import client as clients
 from fochillun.client import AsyncClient, Client, Evaluation, Place, session, user
 
-BUILT = pathlib.Path(__file__).resolve().parent / "../../daemon/target/debug/fochillund"
+TOP = pathlib.Path(__file__).resolve().parent.parent.parent
+BUILT = TOP / "daemon/target/debug/fochillund"
 PROGRAM = os.environ.get("FOCHILLUND") or (str(BUILT) if BUILT.exists() else None)
 FOUNDING = """version = 1
 members = {members}
@@ -186,6 +188,17 @@ def reply(status, body, *headers):
     """The text of a reply."""
     lines = [f"HTTP/1.1 {status} OK", f"Content-Length: {len(body)}", *headers, "", body]
     return "\r\n".join(lines).encode()
+
+
+@contextlib.contextmanager
+def within(folder):
+    """With this folder as the one that paths begin at."""
+    before = os.getcwd()
+    os.chdir(folder)
+    try:
+        yield
+    finally:
+        os.chdir(before)
 
 
 @unittest.skipUnless(PROGRAM, "there is no fochillund here: daemon/check builds it")
@@ -537,6 +550,26 @@ class OfSeveralProcesses(Case):
                     with self.assertRaises(clients.Gone) as raised:
                         client.submit(CAT, key=kind, place=Place(0, 1))
                     self.assertEqual((raised.exception.word, raised.exception.place), ("OldGeneration", Place(0, 1)))
+
+
+class OfThePage(Case):
+    def test_what_the_page_shows_is_so(self):
+        page = TOP / "docs/API.md"
+        if not page.exists():
+            self.skipTest("the page is not beside it")
+        group = self.group(0)
+        (group.path / "hospital.group").mkdir()
+        founding = (TOP / "examples/hospital.toml").read_text().replace("members = 3", "members = 1")
+        (group.path / "founding.toml").write_text(founding)
+        words = ["--folder", group.path / "hospital.group", "--founding", group.path / "founding.toml", "--nodes", "n1", "--node", "n1"]
+        group.run("n1", "member", *words)
+        text = page.read_text(encoding="utf-8")
+        policy = json.loads(text.split("POST /v1/commands\n")[1].split("\n\n")[0])
+        with within(group.path):
+            with Client("unix:hospital.group/n1.sock") as owner:
+                is_ready(owner)
+                owner.submit(policy["commands"])
+            exec(compile(text.split("```python\n")[1].split("```")[0], str(page), "exec"), {})
 
 
 class OverTls(Case):

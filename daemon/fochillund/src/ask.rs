@@ -1,19 +1,16 @@
 //! Asking a group on this machine: client lines in, a line of answer for each.
 use crate::callers::State;
 use crate::group::{node, socket_of};
-use hyper::body::to_bytes;
-use hyper::client::conn::{handshake, SendRequest};
+use fochillun_client::{Address, Wire};
 use hyper::{Body, Request, StatusCode};
 use rand::Rng;
 use serde::Deserialize;
 use serde_json::json;
 use serde_json::value::RawValue;
-use std::collections::HashMap;
 use std::io;
 use std::path::{Path, PathBuf};
 use std::time::{Duration, Instant};
 use tokio::io::{AsyncBufRead, AsyncBufReadExt};
-use tokio::net::UnixStream;
 
 const PAUSE: Duration = Duration::from_millis(50);
 
@@ -65,7 +62,7 @@ pub struct Members {
     folder: PathBuf,
     patience: Duration,
     group: Option<Group>,
-    connections: HashMap<String, SendRequest<Body>>,
+    wire: Wire,
 }
 
 impl Members {
@@ -75,7 +72,7 @@ impl Members {
             folder: folder.to_owned(),
             patience,
             group: None,
-            connections: HashMap::new(),
+            wire: Wire::default(),
         }
     }
 
@@ -248,21 +245,9 @@ impl Members {
     }
 
     async fn send(&mut self, node: &str, request: Request<Body>) -> io::Result<Told> {
-        let kept = match self.connections.remove(node) {
-            Some(connection) => once_ready(connection).await,
-            None => None,
-        };
-        let mut connection = match kept {
-            Some(connection) => connection,
-            None => connect(&socket_of(&self.folder, node)).await?,
-        };
-        let response = connection.send_request(request).await;
-        let response = response.map_err(io::Error::other)?;
-        let status = response.status();
-        let body = to_bytes(response.into_body()).await;
-        let body = body.map_err(io::Error::other)?.to_vec();
-        self.connections.insert(node.to_owned(), connection);
-        Ok((status, body))
+        let address = Address::Unix(socket_of(&self.folder, node));
+        let reply = self.wire.ask(&address, request).await?;
+        Ok((reply.status, reply.body.to_vec()))
     }
 }
 
@@ -298,17 +283,4 @@ fn next_of(told: &io::Result<Told>, is_first: bool) -> Next {
         (StatusCode::GONE, Some(it)) if is_first => Next::In(it.generation),
         _ => Next::Told,
     }
-}
-
-/// A connection that was used before, once it takes another request; none where its process has gone.
-async fn once_ready(mut connection: SendRequest<Body>) -> Option<SendRequest<Body>> {
-    let ready = std::future::poll_fn(|context| connection.poll_ready(context)).await;
-    ready.ok().map(|()| connection)
-}
-
-async fn connect(socket: &Path) -> io::Result<SendRequest<Body>> {
-    let stream = UnixStream::connect(socket).await?;
-    let (sender, connection) = handshake(stream).await.map_err(io::Error::other)?;
-    tokio::spawn(connection);
-    Ok(sender)
 }

@@ -1,7 +1,8 @@
-//! What callers are told over HTTP: each example of docs/API.md, who may call, over TLS too, the decision log, nginx that
-//! asks, and requests that are mutated.
+//! What callers are told over HTTP: each example of docs/API.md, who may call, over TLS too, the decision log, the Rust client, nginx
+//! that asks, and requests that are mutated.
 mod access;
 mod authzen;
+mod client;
 mod decisions;
 #[path = "../processes/group.rs"]
 mod group;

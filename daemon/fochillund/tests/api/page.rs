@@ -6,11 +6,11 @@ use serde_json::Value;
 use std::path::Path;
 
 /// A request, and what it is told.
-struct Example {
-    method: Method,
-    path: String,
+pub struct Example {
+    pub method: Method,
+    pub path: String,
     headers: Vec<(String, String)>,
-    body: String,
+    pub body: String,
     status: u16,
     told: String,
 }
@@ -37,9 +37,23 @@ fn read(text: &str) -> Example {
     }
 }
 
-fn examples() -> Vec<Example> {
+/// The page's text.
+pub fn page() -> String {
     let page = Path::new(env!("CARGO_MANIFEST_DIR")).join("../../docs/API.md");
-    let page = std::fs::read_to_string(page).unwrap();
+    std::fs::read_to_string(page).unwrap()
+}
+
+/// Gives a group of one member the hospital's founding.
+pub fn has_hospital(group: &Group) {
+    let hospital = Path::new(env!("CARGO_MANIFEST_DIR")).join("../../examples/hospital.toml");
+    let hospital = std::fs::read_to_string(hospital).unwrap();
+    let hospital = hospital.replace("members = 3", "members = 1");
+    std::fs::write(group.founding(), hospital).unwrap();
+}
+
+/// The requests of the page, in their order.
+pub fn examples() -> Vec<Example> {
+    let page = page();
     let blocks = page.split("```http\n").skip(1);
     blocks
         .map(|block| read(block.split("```").next().unwrap().trim_end()))
@@ -51,13 +65,7 @@ async fn the_examples_of_the_page_are_told_so() {
     let examples = examples();
     assert!(examples.len() >= 10, "{}", examples.len());
     let mut group = Group::of(1);
-    let hospital = Path::new(env!("CARGO_MANIFEST_DIR")).join("../../examples/hospital.toml");
-    let hospital = std::fs::read_to_string(hospital).unwrap();
-    std::fs::write(
-        group.founding(),
-        hospital.replace("members = 3", "members = 1"),
-    )
-    .unwrap();
+    has_hospital(&group);
     group.start(1, &["--public-url", "https://decisions.example"]);
     let mut client = Client::of(&group).await;
     for example in examples {

@@ -2,6 +2,7 @@
 use crate::authzen::{evaluation, has_policy};
 use crate::group::Group;
 use crate::http::{bearer, request, Client};
+use fochillun_client::{Evaluation, Rests, Subject};
 use hyper::{Body, Method, Request};
 use rustls::{ClientConfig, PrivateKey, RootCertStore, ServerName};
 use servers::certificates::Authority;
@@ -158,6 +159,21 @@ async fn callers_are_known_by_their_certificates_and_tokens() {
     );
     let mut plain = Client::to(port).await;
     assert!(plain.try_send(asked(Some(&token))).await.is_none());
+    let url = format!("https://localhost:{port}");
+    for (trusted, shown, wanted) in [
+        (&authority, token.clone(), Ok(true)),
+        (&authority, "0".to_owned(), Err(Some(401))),
+        (&other, token, Err(None)),
+    ] {
+        let client = fochillun_client::Client::of(vec![url.parse().unwrap()])
+            .with_tls(config(trusted, None))
+            .with_token(move || shown.clone());
+        let asked = Subject::session("s1");
+        let asked = Evaluation::of(asked, "read", "chart");
+        let told = client.evaluate(&asked, &Rests::default()).await;
+        let told = told.map(|told| told.is_granted());
+        assert_eq!(told.map_err(|error| error.status()), wanted);
+    }
     process.kill().unwrap();
     process.wait().unwrap();
 }
