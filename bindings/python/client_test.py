@@ -402,6 +402,9 @@ class OfOneProcess(Case):
                     with self.assertRaises(clients.ClientError, msg=text):
                         client.submit(CAT)
                     self.assertLessEqual(len(between.requests), 4)
+
+    def test_fewer_decisions_than_were_asked_are_an_error(self):
+        for _, made in self.both():
             short = reply(200, '{"evaluations":[{"decision":true}]}', "Connection: close")
             between = self.between(lambda _, connection, text=short: connection.sendall(text) or True)
             with made(between.address) as client:

@@ -218,16 +218,15 @@ impl Client {
         asked.request(address, self.token.as_ref().map(|token| token()))
     }
 
-    /// Asks one process once, for so long at most.
+    /// Asks one process once.
     pub(crate) async fn ask_at(
         &self,
         at: usize,
         asked: &Asked,
-        most: Duration,
     ) -> Result<Result<Reply, Fault>, Error> {
         let request = self.request(at, asked)?;
         let told = self.wire.ask(&self.addresses[at], request);
-        let told = tokio::time::timeout(most.min(self.timeout), told).await;
+        let told = tokio::time::timeout(self.timeout, told).await;
         // It may have been sent.
         Ok(told.unwrap_or_else(|_| Err(Fault::Lost("it takes too long".to_owned()))))
     }
@@ -250,7 +249,7 @@ impl Client {
     ) -> Result<Reply, Error> {
         let mut told = Err(Fault::Unsent("the client has no address".to_owned()));
         for at in self.order() {
-            told = self.ask_at(at, asked, self.timeout).await?;
+            told = self.ask_at(at, asked).await?;
             if is_unready(&told) {
                 self.begin_with(at + 1);
             }

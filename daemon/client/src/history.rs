@@ -30,8 +30,8 @@ pub struct History<'c> {
     /// What came of an event that is not whole.
     text: Vec<u8>,
     records: VecDeque<Record>,
-    /// When something came at last, and how long is waited before it is opened again.
-    heard: Instant,
+    /// Until when it is opened again where nothing came since it broke off, and how long is waited before.
+    until: Option<Instant>,
     pause: Duration,
 }
 
@@ -51,7 +51,7 @@ impl<'c> History<'c> {
             stream: None,
             text: Vec::new(),
             records: VecDeque::new(),
-            heard: Instant::now(),
+            until: None,
             pause: Duration::ZERO,
         }
     }
@@ -71,7 +71,7 @@ impl<'c> History<'c> {
             };
             match tokio::time::timeout(SILENCE, stream.body.data()).await {
                 Ok(Some(Ok(piece))) => {
-                    (self.heard, self.pause) = (Instant::now(), FIRST_PAUSE);
+                    (self.until, self.pause) = (None, FIRST_PAUSE);
                     self.text.extend_from_slice(&piece);
                     self.take_events()?;
                 }
@@ -97,41 +97,54 @@ impl<'c> History<'c> {
         Ok(generation)
     }
 
-    /// Has a process tell it from here. What broke off before is told again.
+    /// Has a process tell it from here, or waits where none does now. What broke off before is told again.
     async fn open(&mut self) -> Result<(), Error> {
         let generation = self.generation().await?;
         let path = format!("/v1/history?generation={generation}&from={}", self.next);
         let asked = self.asked(path);
+        if self.is_late() {
+            let why = "it breaks off again and again".to_owned();
+            return Err(asked.fault(Why::ReplyLost(why)));
+        }
         tokio::time::sleep(self.pause).await;
+        self.pause = (self.pause * 2).clamp(FIRST_PAUSE, LONGEST_PAUSE);
+        let until = Instant::now() + self.client.deadline;
+        self.until.get_or_insert(until);
         let mut errors = Vec::new();
         for at in self.client.order() {
             match self.open_at(at, &asked).await? {
                 Ok(stream) => {
                     self.client.begin_with(at);
                     (self.stream, self.text) = (Some(stream), Vec::new());
-                    // One that ends at once is not opened again at once.
-                    self.pause = (self.pause * 2).clamp(FIRST_PAUSE, LONGEST_PAUSE);
                     return Ok(());
                 }
                 Err(error) => errors.push(error),
             }
         }
-        let mut is_over = self.heard.elapsed() > self.client.deadline;
+        let wait = self.wait_after(errors, &asked)?;
+        tokio::time::sleep(wait).await;
+        Ok(())
+    }
+
+    fn is_late(&self) -> bool {
+        self.until.is_some_and(|until| until < Instant::now())
+    }
+
+    /// How long a process wants it to be waited, where each had an error.
+    fn wait_after(&self, mut errors: Vec<Error>, asked: &Asked) -> Result<Duration, Error> {
         // One that has not begun the generation yet may tell of it later, and one that keeps it may be silent now.
-        is_over |= errors.iter().all(|error| error.status() == Some(410));
-        match errors.pop() {
-            Some(error) if is_over => Err(error),
-            Some(error) => {
-                let told = match error.why {
-                    Why::Refused(refused) => refused.retry_after,
-                    _ => None,
-                };
-                self.pause = (self.pause * 2).clamp(FIRST_PAUSE, LONGEST_PAUSE);
-                tokio::time::sleep(told.unwrap_or_default()).await;
-                Ok(())
-            }
-            None => Err(asked.fault(Why::NotAsked("the client has no address".to_owned()))),
+        let is_gone = errors.iter().all(|error| error.status() == Some(410));
+        let Some(error) = errors.pop() else {
+            let why = "the client has no address".to_owned();
+            return Err(asked.fault(Why::NotAsked(why)));
+        };
+        if is_gone || self.is_late() {
+            return Err(error);
         }
+        Ok(match error.why {
+            Why::Refused(refused) => refused.retry_after.unwrap_or_default(),
+            _ => Duration::ZERO,
+        })
     }
 
     /// The stream of one process, or why it does not tell now. The outer error ends it.

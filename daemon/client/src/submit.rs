@@ -88,10 +88,22 @@ impl Call {
         asked
     }
 
-    /// Notes why a process does not answer it now: where nobody was reached at last, what was said before says more.
-    fn note(&mut self, error: Error) {
-        if self.error.is_none() || !matches!(error.why, Why::Unreachable(_)) {
-            self.error = Some(error);
+    /// Notes why a process does not answer it now, and whether it may stand there.
+    fn note_unready(&mut self, answered: Result<Reply, Fault>, place: Place) {
+        let stands_nowhere = match &answered {
+            Ok(reply) => reply.status == StatusCode::TOO_MANY_REQUESTS,
+            Err(fault) => matches!(fault, Fault::Unsent(_)),
+        };
+        if !stands_nowhere {
+            self.place = Some(place);
+        }
+        let why = match answered {
+            Ok(reply) => Why::Refused(Refused::of(&reply)),
+            Err(fault) => fault.into(),
+        };
+        // Where nobody was reached at last, what was said before says more.
+        if self.error.is_none() || !matches!(why, Why::Unreachable(_)) {
+            self.error = Some(self.asked(place).fault(why));
         }
     }
 
@@ -153,7 +165,7 @@ async fn submit_until(client: &Client, call: &mut Call) -> Result<Vec<Record>, E
     let mut pause = FIRST_PAUSE;
     loop {
         for at in client.order() {
-            if let Some(records) = submit_at(client, call, at, until).await? {
+            if let Some(records) = submit_at(client, call, at).await? {
                 client.begin_with(at);
                 return Ok(records);
             }
@@ -175,7 +187,6 @@ async fn submit_at(
     client: &Client,
     call: &mut Call,
     at: usize,
-    until: Instant,
 ) -> Result<Option<Vec<Record>>, Error> {
     for _ in 0..MOST_PLACES {
         // Of a process that was asked nothing yet: it refuses another place than its own, and tells which that is.
@@ -185,22 +196,9 @@ async fn submit_at(
         };
         let place = call.place.or_else(|| client.place(at)).unwrap_or(first);
         let asked = call.asked(place);
-        let left = until.saturating_duration_since(Instant::now());
-        let left = left.max(Duration::from_millis(10));
-        let answered = client.ask_at(at, &asked, left).await?;
+        let answered = client.ask_at(at, &asked).await?;
         if is_unready(&answered) {
-            let is_busy = |it: &Reply| it.status == StatusCode::TOO_MANY_REQUESTS;
-            let stands_nowhere = match &answered {
-                Ok(reply) => is_busy(reply),
-                Err(fault) => matches!(fault, Fault::Unsent(_)),
-            };
-            if !stands_nowhere {
-                call.place = Some(place);
-            }
-            call.note(asked.fault(match answered {
-                Ok(reply) => Why::Refused(Refused::of(&reply)),
-                Err(fault) => fault.into(),
-            }));
+            call.note_unready(answered, place);
             return Ok(None);
         }
         let reply = answered.map_err(|fault| asked.fault(fault.into()))?;

@@ -83,7 +83,7 @@ def is_unready(outcome: Outcome) -> bool:
 
 
 class Patience:
-    """How long something is tried again, and how long is waited between."""
+    """For how many seconds something is tried again, from when it first failed on, and how long is waited between."""
 
     def __init__(self, seconds: float) -> None:
         self._seconds = seconds
@@ -91,17 +91,17 @@ class Patience:
 
     def begin(self) -> None:
         """Something was answered."""
-        self._until, self._pause = time.monotonic() + self._seconds, FIRST_PAUSE
-
-    def left(self) -> float:
-        """How many seconds are left."""
-        return self._until - time.monotonic()
+        self._until: Optional[float] = None
+        self._pause = FIRST_PAUSE
 
     def pause(self, fault: Optional[ClientError]) -> Optional[Wait]:
         """The next wait; none where there is no time for it."""
+        now = time.monotonic()
+        if self._until is None:
+            self._until = now + self._seconds
         pause, self._pause = self._pause, min(self._pause * 2, LONGEST_PAUSE)
         seconds = getattr(fault, "retry_after", None) or pause
-        return Wait(seconds) if seconds < self.left() else None
+        return Wait(seconds) if now + seconds < self._until else None
 
 
 class Call:
@@ -252,7 +252,7 @@ class Asking:
     def _submit_until(self, call: Call, patience: Patience) -> Steps[list[Record]]:
         while True:
             for at in self._order():
-                records = yield from self._submit_at(call, at, patience)
+                records = yield from self._submit_at(call, at)
                 if records is not None:
                     self._first = at
                     return records
@@ -261,13 +261,13 @@ class Asking:
                 raise call.fault or Unreachable("no process is asked", call.request_id)
             yield wait
 
-    def _submit_at(self, call: Call, at: int, patience: Patience) -> Steps[Optional[list[Record]]]:
+    def _submit_at(self, call: Call, at: int) -> Steps[Optional[list[Record]]]:
         """Asks a call at one process: none where that does not answer it now."""
         for _ in range(_MOST_PLACES):
             # Of a process that was asked nothing yet: it refuses another place than its own, and tells which that is.
             place = call.place or self._places.get(at) or Place(1, 1)
             request = call.request(place)
-            outcome = _outcome((yield Ask(at, request, max(min(self._timeout, patience.left()), 0.01))))
+            outcome = _outcome((yield Ask(at, request, self._timeout)))
             if isinstance(outcome, Reply) and outcome.status == 200:
                 call.place = self._places[at] = place
                 return told.records_of(told.answer_of(outcome, request), len(call.commands), request)
@@ -295,7 +295,10 @@ class Asking:
     def _open(self, follower: Follower) -> Steps[Any]:
         """Has a process tell the history from where a reader is."""
         if follower.was_open:
-            yield follower.patience.pause(None) or Wait(FIRST_PAUSE)
+            wait = follower.patience.pause(None)
+            if wait is None:
+                raise ReplyLost("the history breaks off again and again", told.name_of(follower.request()))
+            yield wait
         yield from self._find_generation(follower)
         while True:
             faults = []

@@ -58,6 +58,21 @@ async fn a_client_is_told_what_the_process_tells() {
             assert_eq!((told.is_granted(), reason), (word.is_none(), word));
         }
     }
+    for limit in [1, 2, 1000] {
+        let search = client.search_resources(&Subject::user("ann"), "read", &rests);
+        let found = search.with_limit(limit).all().await.unwrap();
+        assert_eq!(found, ["chart", "rota"]);
+    }
+    let search = client.search_actions(&Subject::session("s1"), "chart", &rests);
+    assert_eq!(search.all().await.unwrap(), ["read"]);
+    let status = client.status().await.unwrap();
+    assert_eq!(status["node"], "n1");
+}
+
+#[tokio::test]
+async fn a_list_is_told_in_order_and_cut() {
+    let (_group, client) = asked().await;
+    let rests = Rests::default();
     let list = [reads("chart"), reads("moon"), reads("chart")];
     for (semantic, wanted) in [
         (Semantic::ExecuteAll, &[true, false, true][..]),
@@ -70,15 +85,6 @@ async fn a_client_is_told_what_the_process_tells() {
     }
     let none = client.evaluations(&[], Semantic::ExecuteAll, &rests).await;
     assert!(matches!(none.unwrap_err().why, Why::NotAsked(_)));
-    for limit in [1, 2, 1000] {
-        let search = client.search_resources(&Subject::user("ann"), "read", &rests);
-        let found = search.with_limit(limit).all().await.unwrap();
-        assert_eq!(found, ["chart", "rota"]);
-    }
-    let search = client.search_actions(&Subject::session("s1"), "chart", &rests);
-    assert_eq!(search.all().await.unwrap(), ["read"]);
-    let status = client.status().await.unwrap();
-    assert_eq!(status["node"], "n1");
 }
 
 #[tokio::test]
