@@ -108,6 +108,10 @@ class Awaited:
 
         return call
 
+    def turn(self):
+        """Lets the loop hear what came meanwhile."""
+        self.loop.run_until_complete(asyncio.sleep(0.01))
+
     def each(self, told):
         try:
             while True:
@@ -386,6 +390,8 @@ class OfOneProcess(Case):
             b"HTTP/1.0 200 OK\r\nContent-Length: 17\r\n\r\n" + granted.encode(),
             b"HTTP/1.1 200 OK\r\nTransfer-Encoding: chunked\r\n\r\n11\r\n" + granted.encode() + b"\r\n",
             b"HTTP/1.1 200 OK\r\nTransfer-Encoding: chunked\r\n\r\n10\r\n" + granted.encode() + b"\r\n0\r\n\r\n",
+            b"HTTP/1.1 200 OK\r\nTransfer-Encoding: chunked\r\nContent-Length: 17\r\n\r\n11\r\n" + granted.encode() + b"\r\n0\r\n\r\n",
+            b"HTTP/1.1 200 OK\r\nTransfer-Encoding: chunked\r\n\r\n11\r\n" + granted.encode() + b"XX0\r\n\r\n",
             b"SSH-2.0\r\n\r\n",
             b"",
         ]
@@ -419,6 +425,36 @@ class OfOneProcess(Case):
             with made(between.address) as client:
                 for _ in range(3):
                     self.assertFalse(client.evaluate(session("s1"), "read", "chart"))
+
+    def test_a_connection_that_was_ended_meanwhile_is_not_asked(self):
+        for _, made in self.both():
+            between = self.between(lambda _, connection: connection.sendall(reply(200, '{"decision":true}')) or True)
+            with made(between.address) as client:
+                for _ in range(3):
+                    self.assertTrue(client.evaluate(session("s1"), "read", "chart"))
+                    time.sleep(0.05)
+                    if isinstance(client, Awaited):
+                        client.turn()
+                self.assertEqual(len(between.requests), 3)
+
+    def test_a_history_that_is_told_otherwise_is_an_error(self):
+        for _, made in self.both():
+            changes = iter([(b"from=3", b"from=2"), (b"from=3", b"from=4")])
+
+            def streams(text, connection):
+                old, new = next(changes)
+                with socket.socket(socket.AF_UNIX, socket.SOCK_STREAM) as upstream:
+                    upstream.connect(self.of.at("n1")[len("unix:") :])
+                    upstream.sendall(text.replace(old, new))
+                    connection.sendall(upstream.recv(65536))
+                    connection.sendall(upstream.recv(65536))
+                return True
+
+            between = self.between(streams)
+            with made(between.address, deadline=0) as client:
+                for _ in range(2):
+                    with self.assertRaises(clients.BadReply):
+                        next(client.history(3, 1))
 
     def test_a_forked_child_has_connections_of_its_own(self):
         with Client(self.of.at("n1")) as client:

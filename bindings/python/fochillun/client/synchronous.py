@@ -157,7 +157,8 @@ class Client(Asking):
     ) -> list[Record]:  # fmt: skip
         """Has 1 to 64 commands carried out, together and once, and gives their records. `key` is the call's id, and a new one where none is given: by
         it the call is asked again at its place, where a reply was lost or a process is not ready, for `deadline` seconds. What is raised then has
-        `key` and `place`; with both given it is that call again, at any later time, and by any client of the same caller."""
+        `key` and `place`; with both given it is that call again, at any later time, and by any client of the same caller. A key alone is asked
+        wherever a process takes it first: at another member than before it is another call."""
         return self._do(self._submit(Call(commands, asked.id_of(key, "key"), place, request_id), deadline))
 
     def dump(self, *, consistency: Optional[str] = None, at_least: Optional[str] = None, request_id: Optional[str] = None) -> Dump:
