@@ -146,8 +146,10 @@ impl Between {
         Between { folder, requests }
     }
 
+    /// One that knows it by two addresses.
     fn client(&self) -> Client {
-        Client::of(vec![at(&self.folder.path().join("between"))])
+        let address = at(&self.folder.path().join("between"));
+        Client::of(vec![address.clone(), address])
     }
 
     fn count(&self) -> usize {
@@ -185,7 +187,7 @@ async fn pass_on(mut stream: UnixStream, process: PathBuf, text: String, most: u
 async fn a_reply_that_is_lost_is_asked_for_again_by_its_id_alone() {
     let (group, client) = asked().await;
     let between = Between::of(group.socket(1), |number, _| match number {
-        1..=3 => 60,
+        1..=4 => 60,
         _ => usize::MAX,
     });
     let through = between.client();
@@ -198,12 +200,12 @@ async fn a_reply_that_is_lost_is_asked_for_again_by_its_id_alone() {
         generation: 1,
         member: 1,
     };
-    assert_eq!((between.count(), lost.place), (2, Some(place)));
+    assert_eq!((between.count(), lost.place), (3, Some(place)));
     let again = Call::of(add("eve")).with_key(&lost.key.unwrap()).at(place);
     let told = through.submit(again.clone()).await.unwrap();
     assert_eq!(
         (told[0].answer.as_str(), between.count()),
-        (Some("Done"), 4)
+        (Some("Done"), 5)
     );
     assert_eq!(client.submit(again).await.unwrap(), told);
 }
