@@ -287,6 +287,8 @@ async fn another_process_is_asked_where_one_is_not_there() {
     let waits = both.submit(call).await.unwrap_err();
     assert_eq!((waits.status(), waits.word()), (Some(503), Some("Waits")));
     group.start(2, &["--patience", "0.2"]);
+    // It is asked first then, and is another member.
+    http::Client::at(&group.socket(2)).await;
     let again = Call::of(add("joe")).with_key(&waits.key.unwrap());
     let told = both.submit(again.at(waits.place.unwrap())).await.unwrap();
     // At the other member it would be another call, and denied.
