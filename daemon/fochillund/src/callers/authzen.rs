@@ -95,7 +95,7 @@ impl Callers {
         asker.caller.spend(1, 0);
         let decided = self.decide(wanted, vec![evaluation]).await?;
         self.note(asker, wanted, &decided).await?;
-        Ok(json_of(&decided[0].told()))
+        Ok(Told::json(&decided[0].told()))
     }
 
     pub(super) async fn answer_evaluations(
@@ -119,7 +119,7 @@ impl Callers {
         decided.truncate(told_of(semantic, &decided));
         self.note(asker, wanted, &decided).await?;
         let evaluations = decided.iter().map(Decided::told).collect();
-        Ok(json_of(&ToldDecisions { evaluations }))
+        Ok(Told::json(&ToldDecisions { evaluations }))
     }
 
     /// Decides evaluations: all that are asked of the policy together.
@@ -266,7 +266,7 @@ impl Callers {
         self.log(|| vec![line()]).await?;
         let next = names.last().filter(|_| !is_last);
         let results: Vec<_> = names.iter().map(|name| told(name)).collect();
-        Ok(json_of(&json!({
+        Ok(Told::json(&json!({
             "results": results,
             "page": {
                 "next_token": next.map_or("", String::as_str),
@@ -287,7 +287,7 @@ impl Callers {
             None => format!("{scheme}://{}", host.unwrap_or("localhost")),
         };
         let at = |path: &str| format!("{base}/access/v1/{path}");
-        json_of(&json!({
+        Told::json(&json!({
             "policy_decision_point": base,
             "access_evaluation_endpoint": at("evaluation"),
             "access_evaluations_endpoint": at("evaluations"),
@@ -306,10 +306,4 @@ fn told_of(semantic: Semantic, decided: &[Decided]) -> usize {
     };
     let first = decided.iter().position(ends);
     first.map_or(decided.len(), |first| first + 1)
-}
-
-fn json_of(told: &impl Serialize) -> Told {
-    let mut text = serde_json::to_vec(told).expect("it is JSON");
-    text.push(b'\n');
-    Told::Json(text)
 }
