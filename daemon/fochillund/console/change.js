@@ -166,6 +166,7 @@ export class ChangeForm {
     const { policy, graph } = this.world();
     const place = make('p', { class: 'hint' }, `${would ? 'Tried on a copy' : 'Carried out'} as of ${at}.`);
     if (answer.denied === undefined) {
+      graph.mark('granted', touched(policy, command, '').nodes, []);
       const verdict = would ? '✓ It would be done' : '✓ Done';
       byId('change-answer').replaceChildren(make('p', { class: 'verdict granted' }, verdict), place);
       return;

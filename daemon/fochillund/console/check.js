@@ -21,6 +21,7 @@ export class CheckForm {
       yield* sessions.keys();
       yield* users.keys();
     });
+    this.who.addEventListener('input', () => this.tellKind());
     suggest(this.operation, () => world().founding.operations);
     suggest(this.object, () => world().founding.objects);
     byId('check-form').addEventListener('submit', (event) => {
@@ -44,14 +45,23 @@ export class CheckForm {
 
   fill(who, operation, object) {
     [this.who.value, this.operation.value, this.object.value] = [who, operation, object];
+    this.tellKind();
     this.check();
+  }
+
+  /** Says of which kind a name is, where there is but one. */
+  tellKind() {
+    const { sessions, users } = this.world().policy;
+    const who = this.who.value.trim();
+    if (sessions.has(who) !== users.has(who)) {
+      byId('check-kind').value = users.has(who) ? 'user' : 'session';
+    }
   }
 
   async check() {
     const who = this.who.value.trim();
     const [operation, object] = [this.operation.value.trim(), this.object.value.trim()];
-    const { policy } = this.world();
-    const isUser = policy.users.has(who) && !policy.sessions.has(who);
+    const isUser = byId('check-kind').value === 'user';
     const evaluation = {
       subject: { type: isUser ? 'user' : 'session', id: who },
       action: { name: operation },

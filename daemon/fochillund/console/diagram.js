@@ -23,15 +23,15 @@ export function drawMessages(nodes, messages, isHeld, silent) {
   const clocks = [...new Set(messages.map((it) => it.stamp[0]))];
   const row = new Map(clocks.map((clock, place) => [clock, HEAD + 14 + place * STEP]));
   const y = (message) => row.get(message.stamp[0]);
-  const size = { width: x(nodes.length) + SIDE, height: HEAD + 14 + clocks.length * STEP + 6 };
+  const atEnd = isAtEnd(byId('timeline'));
+  const size = { width: x(nodes.length) + SIDE, height: 2 * HEAD + 14 + clocks.length * STEP };
   svg.setAttribute('viewBox', `0 0 ${size.width} ${size.height}`);
   svg.setAttribute('width', size.width);
   svg.setAttribute('height', size.height);
-  const atEnd = isAtEnd(byId('timeline'));
   svg.replaceChildren(
     ...nodes.flatMap((node, place) => [
-      draw('text', { x: x(place + 1), y: 16, class: silent.has(node) ? 'name silent' : 'name' }, node),
-      draw('path', { d: `M${x(place + 1)} ${HEAD}V${size.height}`, class: `line${silent.has(node) ? ' silent' : ''}` }),
+      ...[16, size.height - 8].map((y) => draw('text', { x: x(place + 1), y, class: silent.has(node) ? 'name silent' : 'name' }, node)),
+      draw('path', { d: `M${x(place + 1)} ${HEAD}V${size.height - HEAD}`, class: `line${silent.has(node) ? ' silent' : ''}` }),
     ]),
     ...clocks.filter((_, place) => place % 5 === 0).map((clock) => draw('text', { x: 4, y: row.get(clock) + 4, class: 'clock' }, String(clock))),
     ...arrows(messages, x, y),
@@ -49,6 +49,13 @@ function isAtEnd(box) {
   return box.scrollHeight - box.scrollTop - box.clientHeight < 40;
 }
 
+/** Whether a message says that its member had read another. An acknowledgement is made before what it answers is taken. */
+function hasRead(reader, message) {
+  const taken = reader.taken[message.member - 1] ?? 0;
+  const answers = reader.commands === 0 && taken + 1 === message.number && reader.stamp[0] === message.stamp[0] + 1;
+  return taken >= message.number || answers;
+}
+
 /** From each message to the first later one of each other member that had taken it. */
 function arrows(messages, x, y) {
   const readers = new Map();
@@ -57,9 +64,9 @@ function arrows(messages, x, y) {
   });
   return messages.filter((it) => it.commands > 0).flatMap((message) =>
     [...readers].filter(([member]) => member !== message.member).flatMap(([member, theirs]) => {
-      const reader = theirs.find((it) => (it.taken[message.member - 1] ?? 0) >= message.number);
-      const isFirst = reader && reader !== theirs[0];
-      if (!reader || (!isFirst && y(reader) <= y(message))) {
+      const reader = theirs.find((it) => hasRead(it, message));
+      // What was read before the first message that is drawn has no arrow.
+      if (!reader || y(reader) <= y(message)) {
         return [];
       }
       return [draw('path', { d: `M${x(message.member)} ${y(message)}L${x(member)} ${y(reader)}`, class: 'arrow' })];

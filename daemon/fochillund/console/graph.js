@@ -66,7 +66,7 @@ export class Graph {
     this.svg.replaceChildren(
       arrows(),
       ...this.policy.sets.flatMap((set) => this.ties(set, at)),
-      ...edges.map((edge) => line(edge, at, marked.has(`${edge.from}>${edge.to}`) && this.marks.kind)),
+      ...edges.map((edge) => line(edge, marked.has(`${edge.from}>${edge.to}`) && this.marks.kind)),
       ...nodes.map((node) => this.box(node)),
     );
     this.tell(nodes);
@@ -205,21 +205,27 @@ function nearest(nodes, from, key) {
 }
 
 function arrows() {
+  const size = { viewBox: '0 0 8 8', refX: 7, refY: 4, markerWidth: 10, markerHeight: 10, markerUnits: 'userSpaceOnUse', orient: 'auto' };
   const arrow = (kind) =>
-    draw('marker', { id: `arrow-${kind}`, class: `arrow ${kind}`, viewBox: '0 0 8 8', refX: 7, refY: 4, markerWidth: 7, markerHeight: 7, orient: 'auto' },
-      draw('path', { d: 'M0 0L8 4L0 8z' }));
-  return draw('defs', {}, arrow('plain'), arrow('marked'));
+    draw('marker', { id: `arrow-${kind}`, class: `arrow ${kind}`, ...size }, draw('path', { d: 'M0 0L8 4L0 8z' }));
+  return draw('defs', {}, ...['plain', 'granted', 'refused', 'denied'].map(arrow));
 }
 
-function line(edge, at, mark) {
-  const [from, to] = [at.get(edge.from), at.get(edge.to)];
-  const [x, y] = [from.x + from.width, from.y + from.height / 2];
-  const [toX, toY] = [to.x - 2, to.y + to.height / 2];
-  const bend = Math.max(24, (toX - x) / 2);
+function line(edge, mark) {
+  const [from, ...others] = edge.way;
+  let [x, y] = [from.x + from.width, from.y + from.height / 2];
+  let path = `M${x} ${y}`;
+  for (const to of others) {
+    const [toX, toY] = [to.kind === 'place' ? to.x : to.x - 2, to.y + to.height / 2];
+    const bend = (toX - x) / 2;
+    path += `C${x + bend} ${y} ${toX - bend} ${toY} ${toX} ${toY}`;
+    [x, y] = [to.x + to.width, toY];
+    path += to.kind === 'place' ? `H${x}` : '';
+  }
   return draw('path', {
-    d: `M${x} ${y}C${x + bend} ${y} ${toX - bend} ${toY} ${toX} ${toY}`,
+    d: path,
     class: `edge ${edge.kind}${mark ? ` marked ${mark}` : ''}`,
-    'marker-end': `url(#arrow-${mark ? 'marked' : 'plain'})`,
+    'marker-end': `url(#arrow-${mark || 'plain'})`,
   });
 }
 

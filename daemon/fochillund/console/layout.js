@@ -1,6 +1,7 @@
 /**
  * Where the nodes of the graph stand: users with their sessions at the left, roles in layers from senior to junior, permissions at the right.
- * It takes time of the order of n log n for n nodes and edges.
+ * A line that passes a column has a place of its own there, so that it runs behind no node. It takes time of the order of n log n for n nodes and
+ * places of lines.
  * @module layout
  */
 
@@ -20,6 +21,7 @@
  * @property {string} from
  * @property {string} to
  * @property {string} kind
+ * @property {GraphNode[]} [way] through which places it goes, its ends among them
  */
 
 export const HEIGHT = 26;
@@ -27,7 +29,9 @@ const BETWEEN = 10;
 const GAP = 64;
 const MARGIN = 14;
 const SESSION_INDENT = 16;
-const SWEEPS = 3;
+const SWEEPS = 4;
+/** The height of a line's place in a column. */
+const PLACE = 4;
 
 const pen = document.createElement('canvas').getContext('2d');
 
@@ -78,10 +82,32 @@ export function place(nodes, edges) {
     node.width = widthOf(node.label);
     node.column = columnOf(node, layer, last);
   }
-  const columns = Array.from({ length: last + 2 }, (_, column) =>
-    nodes.filter((node) => node.column === column));
-  order(columns, nodes, edges);
+  const { places, steps } = ways(nodes, edges);
+  const all = [...nodes, ...places];
+  const columns = Array.from({ length: last + 2 }, () => []);
+  all.forEach((node) => columns[node.column].push(node));
+  order(columns, all, steps);
   return spread(columns);
+}
+
+/** The places of lines in the columns that they pass, and each line's steps from one to the next. */
+function ways(nodes, edges) {
+  const at = new Map(nodes.map((node) => [node.key, node]));
+  const places = [];
+  const steps = [];
+  for (const edge of edges) {
+    const [from, to] = [at.get(edge.from), at.get(edge.to)];
+    edge.way = [from];
+    for (let column = from.column + 1; column < to.column; column += 1) {
+      const key = `${edge.from}>${edge.to}@${column}`;
+      const passed = { key, kind: 'place', name: '', label: '', column, x: 0, y: 0, width: 0, height: PLACE };
+      places.push(passed);
+      edge.way.push(passed);
+    }
+    edge.way.push(to);
+    edge.way.slice(1).forEach((node, before) => steps.push({ from: edge.way[before].key, to: node.key, kind: edge.kind }));
+  }
+  return { places, steps };
 }
 
 function columnOf(node, layer, last) {
@@ -123,7 +149,7 @@ function meanOf(node, beside) {
 
 /** Sets the places of ordered columns. */
 function spread(columns) {
-  const heights = columns.map((column) => column.length * (HEIGHT + BETWEEN));
+  const heights = columns.map((column) => column.reduce((sum, node) => sum + node.height + BETWEEN, 0));
   const height = Math.max(HEIGHT, ...heights) + 2 * MARGIN;
   let x = MARGIN;
   columns.forEach((column, number) => {
@@ -135,9 +161,10 @@ function spread(columns) {
     for (const node of column) {
       node.x = x + (node.owner ? SESSION_INDENT : 0);
       node.y = y;
-      y += HEIGHT + BETWEEN;
+      y += node.height + BETWEEN;
       widest = Math.max(widest, node.width + node.x - x);
     }
+    column.filter((node) => node.kind === 'place').forEach((node) => { node.width = widest; });
     x += widest + GAP;
   });
   return { width: x - GAP + MARGIN, height };
