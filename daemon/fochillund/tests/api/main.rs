@@ -1,6 +1,7 @@
 //! What callers are told over HTTP: each example of docs/API.md, who may call, over TLS too, the decision log, and requests that are mutated.
 mod access;
 mod authzen;
+mod console;
 mod decisions;
 #[path = "../processes/group.rs"]
 mod group;
