@@ -3,7 +3,7 @@
  * @module change
  */
 import { ask, newId } from './api.js';
-import { button, byId, later, make, suggest } from './dom.js';
+import { button, byId, later, make, offer, suggest } from './dom.js';
 import { reached, touched } from './reasons.js';
 import { COMMANDS, DENIALS, inWords } from './words.js';
 
@@ -101,8 +101,7 @@ export class ChangeForm {
       examples.push({ name: 'AddUser', user: 'ann' });
     }
     const words = (command) => `${command.name} ${FIELDS[command.name].map((field) => command[field]).join(' ')}`;
-    const buttons = examples.map((command) => button(words(command), () => this.fill(command), { class: 'chip' }));
-    byId('change-examples').replaceChildren(...(buttons.length ? ['For example: ', ...buttons] : []));
+    offer(byId('change-examples'), examples.map((command) => [words(command), () => this.fill(command)]));
   }
 
   fill(command) {

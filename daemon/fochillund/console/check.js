@@ -3,7 +3,7 @@
  * @module check
  */
 import { ask } from './api.js';
-import { button, byId, make, suggest } from './dom.js';
+import { byId, make, offer, suggest } from './dom.js';
 import { permissionName } from './policy.js';
 import { chain, rolesWith } from './reasons.js';
 import { DENIALS, inWords } from './words.js';
@@ -38,9 +38,8 @@ export class CheckForm {
     const roles = policy.sessions.get(session)?.roles ?? [];
     const is = (pair) => chain(policy, roles, pair.operation, pair.object) !== null;
     const examples = [pairs.find((pair) => is(pair)), pairs.find((pair) => !is(pair))];
-    const buttons = examples.filter(Boolean).map(({ operation, object }) =>
-      button(`May ${session} ${operation} ${object}?`, () => this.fill(session, operation, object), { class: 'chip' }));
-    byId('check-examples').replaceChildren(...(session && buttons.length ? ['For example: ', ...buttons] : []));
+    offer(byId('check-examples'), examples.filter((pair) => pair && session).map(({ operation, object }) =>
+      [`May ${session} ${operation} ${object}?`, () => this.fill(session, operation, object)]));
   }
 
   fill(who, operation, object) {

@@ -63,6 +63,20 @@ export function button(text, action, attributes = {}) {
 }
 
 /**
+ * Puts things that can be tried at once, each by a button. Those that are there already stay, and with them the focus.
+ * @param {Element} box
+ * @param {[string, () => void][]} examples
+ */
+export function offer(box, examples) {
+  const texts = examples.map(([text]) => text).join('\n');
+  if (box.dataset.texts !== texts) {
+    box.dataset.texts = texts;
+    const buttons = examples.map(([text, action]) => button(text, action, { class: 'chip' }));
+    box.replaceChildren(...(buttons.length ? ['For example: ', ...buttons] : []));
+  }
+}
+
+/**
  * Calls a function once nothing was asked for so long.
  * @param {(...given: any[]) => void} call
  * @param {number} milliseconds

@@ -42,18 +42,20 @@ export class Graph {
   mark(kind, nodes, edges) {
     this.marks = { kind, nodes, edges };
     this.chosen = '';
-    this.draw();
+    this.draw(true);
     this.whenChosen('');
   }
 
   /** @param {string} key */
   choose(key) {
     this.chosen = key;
-    this.draw();
+    this.draw(true);
     this.whenChosen(key);
   }
 
-  draw() {
+  /** @param {boolean} [scrolls] to what is chosen or marked */
+  draw(scrolls = false) {
+    const focused = this.svg.contains(document.activeElement) ? document.activeElement.dataset.key : '';
     const shown = this.isWhole() ? everything(this.policy) : around(this.policy, this.starts());
     const { nodes, edges } = parts(this.policy, shown);
     const size = place(nodes, edges);
@@ -70,7 +72,10 @@ export class Graph {
       ...nodes.map((node) => this.box(node)),
     );
     this.tell(nodes);
-    this.scrollTo(at);
+    this.offerFocus(at, focused);
+    if (scrolls) {
+      this.scrollTo(at);
+    }
   }
 
   isWhole() {
@@ -137,21 +142,22 @@ export class Graph {
     return group;
   }
 
-  /** One node is in the order of tabs: the chosen one, a marked one, or the first. */
-  scrollTo(at) {
-    const key = [this.chosen, ...this.marks.nodes].find((it) => at.has(it));
-    const node = at.get(key) ?? this.nodes[0];
-    const element = node && this.element(node.key);
+  /** One node is in the order of tabs: that which had the focus, the chosen one, a marked one, or the first. */
+  offerFocus(at, focused) {
+    const key = [focused, this.chosen, ...this.marks.nodes, this.nodes[0]?.key].find((it) => at.has(it));
+    const element = key && this.element(key);
     element?.setAttribute('tabindex', 0);
-    if (key && node) {
-      const around = byId('drawing');
-      const first = this.marks.nodes.map((it) => at.get(it)).filter(Boolean);
-      const left = this.chosen ? node.x : Math.min(...first.map((it) => it.x));
-      around.scrollTo({ left: left - 60, top: node.y - around.clientHeight / 2 });
+    if (focused) {
+      element?.focus({ preventScroll: true });
     }
-    if (this.hadFocus) {
-      element?.focus();
-      this.hadFocus = false;
+  }
+
+  scrollTo(at) {
+    const nodes = (this.chosen ? [this.chosen] : this.marks.nodes).map((it) => at.get(it)).filter(Boolean);
+    if (nodes.length) {
+      const around = byId('drawing');
+      const left = Math.min(...nodes.map((it) => it.x));
+      around.scrollTo({ left: left - 60, top: nodes[0].y - around.clientHeight / 2 });
     }
   }
 
@@ -168,7 +174,6 @@ export class Graph {
     }
     if (event.key === 'Enter' || event.key === ' ') {
       event.preventDefault();
-      this.hadFocus = true;
       this.choose(from.key);
       return;
     }

@@ -68,10 +68,26 @@ async function hasChanged() {
     world.next = { generation: world.state.generation, number: world.state.records + 1 };
     return true;
   }
-  const told = await ask(`v1/records?from=${number}`);
-  const isOther = told.generation !== generation;
-  world.next = { generation: told.generation, number: (isOther ? 1 : number) + told.records.length };
-  return isOther || told.records.some((record) => record.answer === 'Done');
+  return readRecords(generation, number);
+}
+
+/** Reads the history to its end, and tells whether a record of it changes the policy, or it is that of another generation. */
+async function readRecords(generation, number) {
+  const MOST_TOLD = 1000;
+  let changes = false;
+  let [from, length] = [number, MOST_TOLD];
+  while (length === MOST_TOLD) {
+    const told = await ask(`v1/records?from=${from}`);
+    length = told.records.length;
+    if (told.generation !== generation) {
+      world.next = { generation: told.generation, number: 1 };
+      return true;
+    }
+    from += length;
+    changes ||= told.records.some((record) => record.answer === 'Done');
+  }
+  world.next = { generation, number: from };
+  return changes;
 }
 
 async function look() {
@@ -98,7 +114,11 @@ async function look() {
     tellMembers(world.state, world.messages ?? []);
   });
   await part('The policy', async () => {
-    if (world.policy.at === '' || await hasChanged()) {
+    if (world.policy.at === '') {
+      // What the dump has besides is read again.
+      world.next = { generation: world.state?.generation ?? 0, number: (world.state?.records ?? 0) + 1 };
+      await readAll();
+    } else if (await hasChanged()) {
       await readAll();
     }
   });

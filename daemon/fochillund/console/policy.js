@@ -131,7 +131,7 @@ export function readPolicy(dump, founding) {
   const policy = noPolicy();
   founding.permissions.forEach(([operation, object]) => permission(policy, operation, object));
   for (const command of dump.commands) {
-    SAYS[command.name](policy, command);
+    SAYS[command.name]?.(policy, command);
   }
   return { ...policy, at: dump.at, generation: dump.generation };
 }

@@ -21,11 +21,8 @@ pub(super) fn check(
     let public = public.as_ref().and_then(Uri::host);
     let is_public = |host: &str| public.is_some_and(|public| public.eq_ignore_ascii_case(host));
     let host: Option<&str> = text(HOST);
-    if is_loopback
-        && !host
-            .map(name_of)
-            .is_none_or(|it| is_local(it) || is_public(it))
-    {
+    let is_ours = |host: &str| is_local(name_of(host)) || is_public(name_of(host));
+    if is_loopback && !host.is_none_or(is_ours) {
         return Err(Told::OtherHost);
     }
     let changes = *method != Method::GET && *method != Method::HEAD;
