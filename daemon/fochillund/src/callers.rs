@@ -2,14 +2,18 @@
 mod asking;
 mod authzen;
 mod commands;
+mod console;
+mod decisions;
 mod doors;
 mod health;
 mod history;
+mod origins;
 mod replies;
 mod requests;
 mod routes;
 mod serving;
 mod state;
+mod trying;
 
 pub use serving::{seconds, Serving};
 pub use state::State;
@@ -60,6 +64,8 @@ struct Callers {
     log: Option<DecisionLog>,
     access: Option<Arc<Access>>,
     streams: Arc<Semaphore>,
+    /// Whose turn it is to try commands.
+    tries: Semaphore,
 }
 
 /// One who asks, and how it calls its request.
@@ -100,6 +106,7 @@ pub(crate) async fn serve(options: &Options, asking: Asking) -> Result<(), Stop>
         log,
         access,
         streams: Arc::new(Semaphore::new(MOST_STREAMS)),
+        tries: Semaphore::new(1),
     });
     doors::open_socket(&options.socket, serving.socket_mode, Arc::clone(&callers))
         .map_err(Stop::Socket)?;
@@ -160,7 +167,11 @@ impl Callers {
         request: Request<Body>,
         request_id: Option<HeaderValue>,
     ) -> Result<Told, Told> {
+        let public_url = self.public_url.as_deref();
+        let (method, headers) = (request.method(), request.headers());
+        origins::check(door.is_loopback(), public_url, method, headers)?;
         match route {
+            Route::Console => return console::answer(request.uri().path()),
             Route::Healthz => return Ok(Told::Healthy),
             Route::Readyz => return self.answer_ready().await,
             Route::Configuration => return Ok(self.answer_configuration(door, &request)),
@@ -179,12 +190,18 @@ impl Callers {
             Route::SearchAction => self.answer_search_action(&asker, request).await,
             Route::SearchResource => self.answer_search_resource(&asker, request).await,
             Route::Commands => self.answer_call(&asker, request).await,
+            Route::Try => self.answer_try(&asker, request).await,
             Route::Dump => self.answer_dump(&request).await,
+            Route::Founding => self.answer_founding().await,
             Route::Records => self.answer_records(&request).await,
             Route::History => self.answer_history(&asker, &request).await,
+            Route::Decisions => self.answer_decisions(&asker),
+            Route::Messages => self.answer_messages().await,
             Route::Status => self.state().await.map(Told::State),
             Route::Metrics => self.answer_metrics().await,
-            Route::Healthz | Route::Readyz | Route::Configuration => unreachable!("told above"),
+            Route::Console | Route::Healthz | Route::Readyz | Route::Configuration => {
+                unreachable!("told above")
+            }
         }
     }
 

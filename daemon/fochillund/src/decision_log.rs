@@ -8,17 +8,27 @@ pub use line::{Line, View};
 use crate::metrics::Metrics;
 use clap::Args;
 use file::LogFile;
+use std::collections::VecDeque;
 use std::io::{self, Write};
 use std::path::{Path, PathBuf};
 use std::sync::atomic::{AtomicBool, Ordering};
-use std::sync::Arc;
-use tokio::sync::{mpsc, oneshot};
+use std::sync::{Arc, Mutex, PoisonError};
+use tokio::sync::{broadcast, mpsc, oneshot};
 
 /// How many requests wait for their lines to be written.
 const ROOM: usize = 1024;
 
 /// The most bytes that are written at once.
 const TOGETHER: usize = 1 << 20;
+
+/// How many lines are told to who begins to follow the log.
+const LAST_LINES: usize = 100;
+
+/// How many lines a follower may be behind.
+const FOLLOWED: usize = 256;
+
+/// The route of a command that is tried: no history has it.
+pub const TRY: &str = "try";
 
 /// Where decisions are written.
 #[derive(Args, Clone, Debug, Default)]
@@ -55,6 +65,8 @@ pub struct DecisionLog {
     is_required: bool,
     reopens: Arc<AtomicBool>,
     metrics: Arc<Metrics>,
+    last: Mutex<VecDeque<Arc<str>>>,
+    followers: broadcast::Sender<Arc<str>>,
 }
 
 /// Where lines go.
@@ -96,7 +108,29 @@ impl DecisionLog {
             is_required: options.decision_log_required,
             reopens,
             metrics,
+            last: Mutex::default(),
+            followers: broadcast::channel(FOLLOWED).0,
         }))
+    }
+
+    /// The last lines, and what is written behind them as it comes.
+    pub fn follow(&self) -> (Vec<Arc<str>>, broadcast::Receiver<Arc<str>>) {
+        let last = self.last.lock().unwrap_or_else(PoisonError::into_inner);
+        (last.iter().cloned().collect(), self.followers.subscribe())
+    }
+
+    /// Tells followers what was written.
+    fn tell(&self, text: &str) {
+        let mut last = self.last.lock().unwrap_or_else(PoisonError::into_inner);
+        for line in text.lines() {
+            let line: Arc<str> = line.into();
+            if last.len() == LAST_LINES {
+                last.pop_front();
+            }
+            last.push_back(Arc::clone(&line));
+            // Nobody has to follow.
+            let _ = self.followers.send(line);
+        }
     }
 
     /// Opens the file again before the next line: somebody has moved it.
@@ -115,26 +149,29 @@ impl DecisionLog {
             text.push(b'\n');
         }
         let count = lines.len();
+        let told = String::from_utf8(text.clone()).expect("JSON is UTF-8");
         if self.is_required {
-            let (tell, told) = oneshot::channel();
+            let (tell, written) = oneshot::channel();
             let lines = Lines {
                 text,
                 lines: count,
                 told: Some(tell),
             };
             self.lines.send(lines).await.map_err(|_| NotLogged)?;
-            return match told.await {
-                Ok(true) => Ok(()),
-                _ => Err(NotLogged),
-            };
+            let is_written = written.await == Ok(true);
+            if is_written {
+                self.tell(&told);
+            }
+            return is_written.then_some(()).ok_or(NotLogged);
         }
         let lines = Lines {
             text,
             lines: count,
             told: None,
         };
-        if self.lines.try_send(lines).is_err() {
-            self.metrics.dropped(count);
+        match self.lines.try_send(lines) {
+            Ok(()) => self.tell(&told),
+            Err(_) => self.metrics.dropped(count),
         }
         Ok(())
     }

@@ -4,9 +4,11 @@
 //! generation, and the same policy as each other one that has. By that the next begins: its first member sends the policy's dump, and the others take
 //! calls once they took the dump's end. Where the first member's row is sealed before that, nobody has sent a call in that generation: it is void, and
 //! the policy is that of the last one that is not.
+mod recent;
 mod seat;
 mod shown;
 
+pub use recent::RecentMessage;
 pub use shown::{Check, NoStamp, Query, Shown, ShownAt, Stamp};
 
 use crate::generation::{CellFault, Foundings, Generation};
@@ -436,6 +438,16 @@ impl<W> Node<W> {
         };
         let dump = seat.dump()?;
         Ok(Some((&seat.generation, dump)))
+    }
+
+    /// The generation whose policy is shown; none where nothing is shown yet.
+    pub fn shown_generation(&mut self) -> Option<&Generation> {
+        self.shown().map(|seat| &seat.generation)
+    }
+
+    /// The last messages of the rows of this generation, in the order of their stamps.
+    pub fn messages(&self) -> Vec<RecentMessage> {
+        self.now.messages()
     }
 
     /// Up to where what is shown is right; none where nothing is shown yet.

@@ -9,7 +9,7 @@ mod sealing;
 mod survey;
 mod trimming;
 
-pub(crate) use questions::{AskedCall, Authority, Progress, Question};
+pub(crate) use questions::{AskedCall, Authority, Dumped, Progress, Question};
 pub(crate) use reads::AskedQueries;
 pub use sealing::{seal_row, OwnRow};
 pub use survey::survey;
@@ -337,9 +337,15 @@ impl Process {
             }
             Question::Ask(asked, waiter) => self.reads.ask(&mut self.node, asked, waiter),
             Question::Dump(waiter) => {
-                let dump = self.node.dump();
-                let told = dump.ok().flatten();
-                let _ = waiter.send(told.map(|(generation, dump)| (generation.number, dump)));
+                let _ = waiter.send(self.dumped());
+            }
+            Question::Founding(waiter) => {
+                let generation = self.node.shown_generation();
+                let _ = waiter.send(generation.map(|it| (it.number, it.file.clone())));
+            }
+            Question::Messages(waiter) => {
+                let generation = self.node.generation().number;
+                let _ = waiter.send((generation, self.node.messages()));
             }
             Question::Records {
                 generation,
@@ -350,6 +356,17 @@ impl Process {
                 let _ = waiter.send((generation, self.records(generation, from)));
             }
         }
+    }
+
+    /// The policy that is shown, as it can be made anew.
+    fn dumped(&mut self) -> Option<Dumped> {
+        let at = self.node.shown_at()?;
+        let (generation, commands) = self.node.dump().ok()??;
+        Some(Dumped {
+            at,
+            founding: generation.file.clone(),
+            commands,
+        })
     }
 
     fn take_call(&mut self, asked: AskedCall) {

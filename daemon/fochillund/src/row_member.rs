@@ -407,6 +407,11 @@ impl<W> RowMember<W> {
         &self.chain
     }
 
+    /// The cell that is being set.
+    pub fn being_set(&self) -> Option<&Bytes> {
+        self.setting.as_ref().map(|setting| &setting.cell)
+    }
+
     /// How many commands of callers the cell has that is being set.
     pub fn commands_being_set(&self) -> usize {
         let setting = self.setting.as_ref();

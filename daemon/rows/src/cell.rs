@@ -77,6 +77,8 @@ pub struct DumpPart {
 pub struct Sent {
     /// The cell's number in the row.
     pub number: u64,
+    /// Up to which message that member had taken the rows of members 1, 2 and so on.
+    pub taken: Vec<u64>,
     /// Where it has commands of the dump: which.
     pub dump: Option<DumpPart>,
     /// The message, by its text.
@@ -95,8 +97,7 @@ struct SentCell<'t> {
     before: &'t str,
     #[serde(rename = "writer")]
     _writer: IgnoredAny,
-    #[serde(rename = "taken")]
-    _taken: IgnoredAny,
+    taken: Vec<u64>,
     #[serde(default, rename = "calls")]
     _calls: IgnoredAny,
     #[serde(default)]
@@ -248,6 +249,7 @@ impl Chain {
         self.follow(text);
         Ok(Sent {
             number: cell.number,
+            taken: cell.taken,
             dump: cell.dump,
             message: cell.message.to_owned(),
         })

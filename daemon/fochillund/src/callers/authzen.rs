@@ -84,7 +84,7 @@ impl Callers {
         let body = body_of(asker, request).await?;
         let evaluation = ReadEvaluation::read(&body)?.evaluation()?;
         let decided = self.decide_one(asker, wanted, evaluation).await?;
-        Ok(json_of(&decided.told()))
+        Ok(Told::json(&decided.told()))
     }
 
     /// The same for who reads nothing but the status.
@@ -97,7 +97,7 @@ impl Callers {
         let decided = self.decide_one(asker, wanted, evaluation).await?;
         Ok(match decided.decision.is_granted() {
             true => Told::Granted,
-            false => Told::NotGranted(text_of(&decided.told())),
+            false => Told::not_granted(&decided.told()),
         })
     }
 
@@ -123,7 +123,7 @@ impl Callers {
         let asked = ReadEvaluations::read(&body)?;
         let Some(count) = asked.count() else {
             let decided = self.decide_one(asker, wanted, asked.alone()?).await?;
-            return Ok(json_of(&decided.told()));
+            return Ok(Told::json(&decided.told()));
         };
         if count > MOST_EVALUATIONS {
             return Err(Told::TooMany(MOST_EVALUATIONS));
@@ -135,7 +135,7 @@ impl Callers {
         decided.truncate(told_of(semantic, &decided));
         self.note(asker, wanted, &decided).await?;
         let evaluations = decided.iter().map(Decided::told).collect();
-        Ok(json_of(&ToldDecisions { evaluations }))
+        Ok(Told::json(&ToldDecisions { evaluations }))
     }
 
     /// Decides evaluations: all that are asked of the policy together.
@@ -282,7 +282,7 @@ impl Callers {
         self.log(|| vec![line()]).await?;
         let next = names.last().filter(|_| !is_last);
         let results: Vec<_> = names.iter().map(|name| told(name)).collect();
-        Ok(json_of(&json!({
+        Ok(Told::json(&json!({
             "results": results,
             "page": {
                 "next_token": next.map_or("", String::as_str),
@@ -303,7 +303,7 @@ impl Callers {
             None => format!("{scheme}://{}", host.unwrap_or("localhost")),
         };
         let at = |path: &str| format!("{base}/access/v1/{path}");
-        json_of(&json!({
+        Told::json(&json!({
             "policy_decision_point": base,
             "access_evaluation_endpoint": at("evaluation"),
             "access_evaluations_endpoint": at("evaluations"),
@@ -322,14 +322,4 @@ fn told_of(semantic: Semantic, decided: &[Decided]) -> usize {
     };
     let first = decided.iter().position(ends);
     first.map_or(decided.len(), |first| first + 1)
-}
-
-fn json_of(told: &impl Serialize) -> Told {
-    Told::Json(text_of(told))
-}
-
-fn text_of(told: &impl Serialize) -> Vec<u8> {
-    let mut text = serde_json::to_vec(told).expect("it is JSON");
-    text.push(b'\n');
-    text
 }

@@ -52,13 +52,7 @@ impl Callers {
         let key = id_of(request.headers())?;
         let body = body_of(asker, request).await?;
         let asked: Asked = serde_json::from_str(&body).map_err(bad)?;
-        let commands = match (asked.commands, asked.command) {
-            (Some(commands), None) => commands,
-            (None, Some(one)) => {
-                RawValue::from_string(format!("[{}]", one.get())).expect("an array of JSON")
-            }
-            _ => return Err(bad("either `commands` or `command` is there")),
-        };
+        let commands = one_list(asked.commands, asked.command)?;
         let id = one_id(asked.id, key)?;
         let at = match (asked.generation, asked.member) {
             (Some(generation), Some(member)) => Some((generation, member)),
@@ -89,7 +83,11 @@ impl Callers {
     }
 
     /// By whose authority commands are asked that need one; none where the caller's scopes are enough.
-    fn authority(&self, asker: &Asker, commands: &RawValue) -> Result<Option<Authority>, Told> {
+    pub(super) fn authority(
+        &self,
+        asker: &Asker,
+        commands: &RawValue,
+    ) -> Result<Option<Authority>, Told> {
         let caller = &asker.caller;
         let names: Option<Vec<Named<'_>>> = serde_json::from_str(commands.get()).ok();
         let Some(names) = names else {
@@ -131,7 +129,21 @@ fn lines(asker: &Asker, answered: &Answered) -> Vec<Line> {
     records(answered).map(line).collect()
 }
 
-fn bad(why: impl ToString) -> Told {
+/// The commands of a request: `commands`, or `command` alone.
+pub(super) fn one_list(
+    commands: Option<Box<RawValue>>,
+    command: Option<Box<RawValue>>,
+) -> Result<Box<RawValue>, Told> {
+    match (commands, command) {
+        (Some(commands), None) => Ok(commands),
+        (None, Some(one)) => {
+            Ok(RawValue::from_string(format!("[{}]", one.get())).expect("an array of JSON"))
+        }
+        _ => Err(bad("either `commands` or `command` is there")),
+    }
+}
+
+pub(super) fn bad(why: impl ToString) -> Told {
     Told::BadRequest(why.to_string())
 }
 

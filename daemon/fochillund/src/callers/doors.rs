@@ -37,10 +37,21 @@ pub(super) enum Door {
     Known {
         access: Arc<Access>,
         certificate: Option<Vec<u8>>,
-        is_tls: bool,
+        address: Address,
     },
     /// A network on which anybody may ask anything, as the operator has said.
-    Open { caller: Arc<Caller>, is_tls: bool },
+    Open {
+        caller: Arc<Caller>,
+        address: Address,
+    },
+}
+
+/// What is known of the address at which a connection came in.
+#[derive(Clone, Copy, Debug)]
+pub(super) struct Address {
+    is_tls: bool,
+    /// Whether the machine's own programs alone reach it.
+    is_loopback: bool,
 }
 
 impl Door {
@@ -66,7 +77,15 @@ impl Door {
     pub(super) fn is_tls(&self) -> bool {
         match self {
             Door::Machine(_) => false,
-            Door::Known { is_tls, .. } | Door::Open { is_tls, .. } => *is_tls,
+            Door::Known { address, .. } | Door::Open { address, .. } => address.is_tls,
+        }
+    }
+
+    /// Whether the machine's own programs alone reach it, and so a browser on this machine that asks what another's page tells it to.
+    pub(super) fn is_loopback(&self) -> bool {
+        match self {
+            Door::Machine(_) => true,
+            Door::Known { address, .. } | Door::Open { address, .. } => address.is_loopback,
         }
     }
 }
@@ -156,8 +175,13 @@ pub(super) fn open_network(network: Network, callers: Arc<Callers>) {
 async fn take_connection(callers: Arc<Callers>, network: &Network, stream: TcpStream) {
     // Answers are short: none waits for more to come.
     let _ = stream.set_nodelay(true);
+    let local = stream.local_addr();
+    let address = Address {
+        is_tls: network.tls.is_some(),
+        is_loopback: local.is_ok_and(|it| it.ip().to_canonical().is_loopback()),
+    };
     let Some(tls) = &network.tls else {
-        let door = door(network.access.as_ref(), None, false);
+        let door = door(network.access.as_ref(), None, address);
         return serve_stream(callers, stream, door).await;
     };
     let accepted = TlsAcceptor::from(tls.config()).accept(stream);
@@ -165,7 +189,8 @@ async fn take_connection(callers: Arc<Callers>, network: &Network, stream: TcpSt
         Ok(Ok(stream)) => {
             let certificates = stream.get_ref().1.peer_certificates();
             let first = certificates.and_then(|them| them.first());
-            let door = door(network.access.as_ref(), first.map(|it| it.0.clone()), true);
+            let certificate = first.map(|it| it.0.clone());
+            let door = door(network.access.as_ref(), certificate, address);
             serve_stream(callers, stream, door).await;
         }
         Ok(Err(error)) => tracing::debug!("no TLS: {error}"),
@@ -173,16 +198,16 @@ async fn take_connection(callers: Arc<Callers>, network: &Network, stream: TcpSt
     }
 }
 
-fn door(access: Option<&Arc<Access>>, certificate: Option<Vec<u8>>, is_tls: bool) -> Door {
+fn door(access: Option<&Arc<Access>>, certificate: Option<Vec<u8>>, address: Address) -> Door {
     match access {
         Some(access) => Door::Known {
             access: Arc::clone(access),
             certificate,
-            is_tls,
+            address,
         },
         None => Door::Open {
             caller: Arc::new(Caller::of_open_network()),
-            is_tls,
+            address,
         },
     }
 }

@@ -1,18 +1,20 @@
 //! What was delivered: the policy as commands, and the history, of which each record may be told as it comes.
+use super::asking::Wanted;
 use super::replies::Told;
 use super::requests::{from_of, wanted_of};
 use super::{Asker, Callers};
 use crate::access::Caller;
 use crate::decision_log::View;
-use crate::process::Question;
+use crate::process::{Dumped, Question};
 use hyper::body::Sender;
 use hyper::{Body, Request};
+use serde_json::json;
 use std::sync::Arc;
 use std::time::Duration;
 use tokio::sync::OwnedSemaphorePermit;
 
 /// After so long a stream of which nothing else is to be told says that it is there.
-const HEARTBEAT: Duration = Duration::from_secs(15);
+pub(super) const HEARTBEAT: Duration = Duration::from_secs(15);
 
 /// By which header a reader that comes back says what it read at last.
 const LAST_EVENT: &str = "last-event-id";
@@ -33,7 +35,15 @@ struct Piece {
 
 impl Callers {
     pub(super) async fn answer_dump(&self, request: &Request<Body>) -> Result<Told, Told> {
-        let wanted = wanted_of(request.uri())?;
+        let dumped = self.dumped(wanted_of(request.uri())?).await?;
+        Ok(Told::Dump {
+            at: dumped.at,
+            commands: dumped.commands,
+        })
+    }
+
+    /// The policy that is shown, once that is far enough.
+    pub(super) async fn dumped(&self, wanted: Wanted) -> Result<Dumped, Told> {
         let mut at_least = wanted.at_least;
         if wanted.view == Some(View::Ordered) {
             at_least = at_least.max(Some(self.barrier().await?));
@@ -42,12 +52,36 @@ impl Callers {
             self.shown(Vec::new(), at_least).await?;
         }
         match self.ask(Question::Dump).await? {
-            Some((generation, commands)) => Ok(Told::Dump {
-                generation,
-                commands,
-            }),
+            Some(dumped) => Ok(dumped),
             None => Err(Told::Behind(self.state().await?)),
         }
+    }
+
+    /// What the founding file of the generation that is shown lists.
+    pub(super) async fn answer_founding(&self) -> Result<Told, Told> {
+        let Some((generation, file)) = self.ask(Question::Founding).await? else {
+            return Err(Told::Behind(self.state().await?));
+        };
+        let table = crate::founding::parse(&file).unwrap_or_default();
+        let list = |key: &str| match table.get(key) {
+            Some(list) => serde_json::to_value(list).expect("it is JSON"),
+            None => json!([]),
+        };
+        let hierarchy = table.get("hierarchy").and_then(|it| it.as_str());
+        Ok(Told::json(&json!({
+            "generation": generation,
+            "hierarchy": hierarchy.unwrap_or("general"),
+            "operations": list("operations"),
+            "objects": list("objects"),
+            "permissions": list("permissions"),
+        })))
+    }
+
+    /// The last messages of the members, as far as they were read here.
+    pub(super) async fn answer_messages(&self) -> Result<Told, Told> {
+        let (generation, messages) = self.ask(Question::Messages).await?;
+        let told = json!({ "generation": generation, "messages": messages });
+        Ok(Told::json(&told))
     }
 
     pub(super) async fn answer_records(&self, request: &Request<Body>) -> Result<Told, Told> {
@@ -92,14 +126,19 @@ impl Callers {
         if let (generation, None) = self.records(Some(generation), next).await? {
             return Err(Told::NotKept(generation));
         }
-        let place = Arc::clone(&self.streams).try_acquire_owned();
-        let place = place.map_err(|_| Told::TooMuch(Duration::from_secs(1)))?;
+        let place = self.stream_place()?;
         let (sender, body) = Body::channel();
         let callers = Arc::clone(self);
         let caller = Arc::clone(&asker.caller);
         let at = At { generation, next };
         tokio::spawn(callers.tell_history(caller, at, sender, place));
         Ok(Told::Stream(body))
+    }
+
+    /// Room for a stream.
+    pub(super) fn stream_place(&self) -> Result<OwnedSemaphorePermit, Told> {
+        let place = Arc::clone(&self.streams).try_acquire_owned();
+        place.map_err(|_| Told::TooMuch(Duration::from_secs(1)))
     }
 
     async fn tell_history(
@@ -190,7 +229,8 @@ fn read_event(text: &str) -> Option<(u64, u64)> {
     Some((generation.parse().ok()?, number.parse().ok()?))
 }
 
-async fn is_removed(callers: &Callers, caller: &Arc<Caller>) {
+/// Returns once a caller may read no more.
+pub(super) async fn is_removed(callers: &Callers, caller: &Arc<Caller>) {
     match &callers.access {
         Some(access) if !caller.is_unlisted() => access.is_removed(caller).await,
         _ => std::future::pending().await,

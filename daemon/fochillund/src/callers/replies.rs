@@ -1,12 +1,14 @@
 //! What callers are told.
+use super::console::{self, File};
 use super::State;
 use crate::access::Scope;
-use crate::node::{Answered, NodeRefusal};
+use crate::node::{Answered, NodeRefusal, ShownAt};
 use crate::row_member::Refusal;
 use fochillun::MemberError;
 use hyper::header::{CACHE_CONTROL, CONTENT_TYPE, RETRY_AFTER, WWW_AUTHENTICATE};
 use hyper::http::response::Builder;
 use hyper::{Body, Response, StatusCode};
+use serde::Serialize;
 use serde_json::{json, Value};
 use std::time::Duration;
 
@@ -20,10 +22,10 @@ pub(super) enum Told {
     },
     State(Box<State>),
     Dump {
-        generation: u64,
+        at: ShownAt,
         commands: Vec<String>,
     },
-    /// Of a question in the terms of AuthZEN: the text of a JSON value.
+    /// The text of a JSON value.
     Json(Vec<u8>),
     /// To who reads the status alone.
     Granted,
@@ -33,6 +35,10 @@ pub(super) enum Told {
     Stream(Body),
     /// For Prometheus.
     Metrics(Vec<u8>),
+    /// A file of the console.
+    File(&'static File),
+    /// The console's files are in a folder.
+    InFolder,
     Healthy,
     Ready,
     NotReady(&'static str),
@@ -53,6 +59,12 @@ pub(super) enum Told {
     Ends,
     /// A line of the decision log that is required can't be written.
     NotLogged,
+    /// The process keeps no decision log.
+    NoLog,
+    /// The request names a host that this machine is not.
+    OtherHost,
+    /// It comes of another host's page.
+    OtherOrigin,
     /// Nobody knows who asks.
     Unknown,
     /// The caller may not ask this.
@@ -64,6 +76,15 @@ pub(super) enum Told {
 }
 
 impl Told {
+    pub(super) fn json(told: &impl Serialize) -> Told {
+        Told::Json(text_of(told))
+    }
+
+    /// To who reads the status alone, where it is not granted.
+    pub(super) fn not_granted(told: &impl Serialize) -> Told {
+        Told::NotGranted(text_of(told))
+    }
+
     pub(super) fn response(self) -> Response<Body> {
         let status = self.status();
         let response = self.head(Response::builder().status(status));
@@ -87,13 +108,15 @@ impl Told {
                 let records = records.join(",");
                 format!("{{\"generation\":{generation},\"records\":[{records}]}}\n").into()
             }
-            Told::Dump {
-                generation,
-                commands,
-            } => {
-                let commands = commands.join(",");
-                format!("{{\"generation\":{generation},\"commands\":[{commands}]}}\n").into()
+            Told::Dump { at, commands } => {
+                let (generation, commands) = (at.generation, commands.join(","));
+                format!(
+                    "{{\"generation\":{generation},\"at\":\"{at}\",\"commands\":[{commands}]}}\n"
+                )
+                .into()
             }
+            Told::File(file) => return file.response(),
+            Told::InFolder => return console::to_folder(),
             Told::Json(text) | Told::NotGranted(text) | Told::Metrics(text) => text.into(),
             Told::Granted => Body::empty(),
             Told::Stream(body) => body,
@@ -131,6 +154,8 @@ impl Told {
             | Told::Json(_)
             | Told::Stream(_)
             | Told::Metrics(_)
+            | Told::File(_)
+            | Told::InFolder
             | Told::Healthy
             | Told::Ready => StatusCode::OK,
             Told::Granted => StatusCode::NO_CONTENT,
@@ -144,10 +169,10 @@ impl Told {
             Told::TooLong(_) | Told::TooMany(_) => StatusCode::PAYLOAD_TOO_LARGE,
             Told::NotKept(_) => StatusCode::GONE,
             Told::Unknown => StatusCode::UNAUTHORIZED,
-            Told::OutOfScope(_) => StatusCode::FORBIDDEN,
+            Told::OutOfScope(_) | Told::OtherHost | Told::OtherOrigin => StatusCode::FORBIDDEN,
             Told::TooMuch(_) => StatusCode::TOO_MANY_REQUESTS,
             Told::NoMethod => StatusCode::METHOD_NOT_ALLOWED,
-            Told::NoPath => StatusCode::NOT_FOUND,
+            Told::NoPath | Told::NoLog => StatusCode::NOT_FOUND,
         }
     }
 
@@ -194,6 +219,12 @@ impl Told {
                 "NotLogged",
                 "the decision log takes no line; a call stands: ask again by its id",
             ),
+            Told::NoLog => refused("NoLog", "this process keeps no decision log"),
+            Told::OtherHost => refused(
+                "OtherHost",
+                "this address answers to names of its machine, and to the public URL's",
+            ),
+            Told::OtherOrigin => refused("OtherOrigin", "another host's page asks this"),
             Told::Unknown => refused("Unknown", "a token or a certificate says who asks"),
             Told::OutOfScope(scope) => json!({
                 "error": "OutOfScope",
@@ -210,6 +241,8 @@ impl Told {
             | Told::Granted
             | Told::NotGranted(_)
             | Told::Stream(_)
+            | Told::File(_)
+            | Told::InFolder
             | Told::Metrics(_) => unreachable!("it has a body of its own"),
         }
     }
@@ -253,4 +286,10 @@ fn told_of(refusal: NodeRefusal) -> Value {
             json!({ "error": "OtherMember", "text": text, "member": member })
         }
     }
+}
+
+fn text_of(told: &impl Serialize) -> Vec<u8> {
+    let mut text = serde_json::to_vec(told).expect("it is JSON");
+    text.push(b'\n');
+    text
 }

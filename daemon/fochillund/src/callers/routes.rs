@@ -1,4 +1,5 @@
 //! What can be asked, and where.
+use super::console;
 use super::replies::Told;
 use crate::access::Scope;
 use hyper::Method;
@@ -13,17 +14,22 @@ pub(super) enum Route {
     Configuration,
     Check,
     Commands,
+    Try,
     Dump,
+    Founding,
     Records,
     History,
+    Decisions,
+    Messages,
     Status,
     Healthz,
     Readyz,
     Metrics,
+    Console,
 }
 
 /// Each route with its method and path. The first of a route's paths is what it is called.
-const ROUTES: [(Route, Method, &str); 15] = [
+const ROUTES: [(Route, Method, &str); 20] = [
     (Route::Evaluation, Method::POST, "/access/v1/evaluation"),
     (Route::Evaluations, Method::POST, "/access/v1/evaluations"),
     (
@@ -43,19 +49,30 @@ const ROUTES: [(Route, Method, &str); 15] = [
     ),
     (Route::Check, Method::GET, "/v1/check"),
     (Route::Commands, Method::POST, "/v1/commands"),
+    (Route::Try, Method::POST, "/v1/commands/try"),
     (Route::Dump, Method::GET, "/v1/dump"),
+    (Route::Founding, Method::GET, "/v1/founding"),
     (Route::Records, Method::GET, "/v1/records"),
     (Route::History, Method::GET, "/v1/history"),
+    (Route::Decisions, Method::GET, "/v1/decisions"),
+    (Route::Messages, Method::GET, "/v1/messages"),
     (Route::Status, Method::GET, "/v1/status"),
     // As it was called before.
     (Route::Status, Method::GET, "/v1/state"),
     (Route::Healthz, Method::GET, "/healthz"),
     (Route::Readyz, Method::GET, "/readyz"),
     (Route::Metrics, Method::GET, "/metrics"),
+    // And what is below it.
+    (Route::Console, Method::GET, "/console/"),
 ];
 
 impl Route {
     pub(super) fn of(method: &Method, path: &str) -> Result<Route, Told> {
+        let path = if console::is_path(path) {
+            "/console/"
+        } else {
+            path
+        };
         let mut of_path = ROUTES.iter().filter(|(.., named)| *named == path);
         let (route, its, _) = of_path.next().ok_or(Told::NoPath)?;
         match its == method {
@@ -77,9 +94,12 @@ impl Route {
         match self {
             Route::Evaluation | Route::Evaluations | Route::Check => Some(Scope::Check),
             Route::SearchAction | Route::SearchResource => Some(Scope::Review),
-            Route::Dump | Route::Records | Route::History => Some(Scope::Review),
+            Route::Dump | Route::Founding => Some(Scope::Review),
+            Route::Records | Route::History => Some(Scope::Review),
+            Route::Decisions | Route::Messages => Some(Scope::Operate),
             Route::Status | Route::Metrics => Some(Scope::Operate),
-            Route::Commands | Route::Configuration | Route::Healthz | Route::Readyz => None,
+            Route::Commands | Route::Try => None,
+            Route::Configuration | Route::Healthz | Route::Readyz | Route::Console => None,
         }
     }
 }

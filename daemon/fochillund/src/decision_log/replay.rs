@@ -1,5 +1,5 @@
 //! Whether a decision log is right: the history is applied again by the library, and each decision is asked again where it was made.
-use super::{Line, View};
+use super::{Line, View, TRY};
 use crate::answer::Answer;
 use crate::node::Stamp;
 use crate::policy::Policy;
@@ -32,7 +32,7 @@ pub enum ReplayFault {
 pub struct Replayed {
     /// How many lines are right.
     pub right: usize,
-    /// How many are of other generations, or of a place that the history does not have.
+    /// How many are of other generations, of a place that the history does not have, or of what was tried.
     pub elsewhere: usize,
     /// What is wrong, with the number of its line.
     pub wrong: Vec<(usize, String)>,
@@ -73,7 +73,10 @@ pub fn replay(
                 true => replayed.right += 1,
                 false => replayed.is_wrong(number, "it asks what can be asked"),
             },
-            Ok(line) if line.generation != generation => replayed.elsewhere += 1,
+            // What is tried stands in no history.
+            Ok(line) if line.generation != generation || line.route == TRY => {
+                replayed.elsewhere += 1;
+            }
             Ok(line) => lines.push((number, line)),
             Err(error) => replayed.is_wrong(number, &error.to_string()),
         }

@@ -1,4 +1,5 @@
 //! What a node is in one generation: a member, or one that follows it.
+use super::recent::{Recent, RecentMessage};
 use super::shown::{Query, Shown, ShownAt};
 use super::{Asked, NextCell, NodeFault, NodeRefusal, Phase, Reply};
 use crate::generation::Generation;
@@ -10,6 +11,7 @@ use std::ops::Range;
 pub(super) struct Seat<W> {
     pub(super) generation: Generation,
     place: Place<W>,
+    recent: Recent,
 }
 
 #[derive(Debug)]
@@ -45,7 +47,12 @@ impl<W> Seat<W> {
                 Place::Follows(Box::new(observer.map_err(|fault| fault_in(number, fault))?))
             }
         };
-        Ok(Seat { generation, place })
+        let recent = Recent::default();
+        Ok(Seat {
+            generation,
+            place,
+            recent,
+        })
     }
 
     fn fault(&self, fault: MemberFault) -> NodeFault {
@@ -84,6 +91,9 @@ impl<W> Seat<W> {
         };
         let (begins, asked) = (begins.clone(), std::mem::take(asked));
         let (number, writer) = (*member, writer.to_owned());
+        for cell in cells {
+            self.recent.put_cell(number, cell);
+        }
         let made = RowMember::restore(&self.generation, number, begins, writer, chain, cells);
         self.place = Place::Acts(Box::new(made.map_err(|fault| self.fault(fault))?));
         Ok(asked)
@@ -96,6 +106,7 @@ impl<W> Seat<W> {
     }
 
     pub(super) fn put_cell(&mut self, member: u32, cell: Sent) -> Result<(), NodeFault> {
+        self.recent.put(member, &cell);
         let put = match &mut self.place {
             Place::Enters { .. } => unreachable!("the own row is read first"),
             Place::Acts(acting) => acting.put_cell(member, cell),
@@ -173,10 +184,18 @@ impl<W> Seat<W> {
     }
 
     pub(super) fn was_set(&mut self) -> Result<(), NodeFault> {
+        if let Place::Acts(member) = &self.place {
+            if let Some(text) = member.being_set() {
+                self.recent.put_own(member.number(), text);
+            }
+        }
         self.told_of_set(RowMember::was_set)
     }
 
     pub(super) fn was_taken(&mut self, text: &[u8]) -> Result<(), NodeFault> {
+        if let Some(member) = self.member() {
+            self.recent.put_own(member, text);
+        }
         self.told_of_set(|member| member.was_taken(text))
     }
 
@@ -252,6 +271,11 @@ impl<W> Seat<W> {
             Place::Acts(member) if member.is_sealed() => member.not_sealed(),
             _ => Vec::new(),
         }
+    }
+
+    /// The last messages of its rows.
+    pub(super) fn messages(&self) -> Vec<RecentMessage> {
+        self.recent.messages()
     }
 
     pub(super) fn history_length(&mut self) -> u64 {

@@ -3,7 +3,7 @@ use super::reads::AskedQueries;
 use super::Waiter;
 use crate::answer::{Answer, Word};
 use crate::callers::State;
-use crate::node::{Check, Query, Shown};
+use crate::node::{Check, Query, RecentMessage, Shown, ShownAt};
 use crate::row_member::NewCall;
 use fochillun::MemberError;
 use tokio::sync::oneshot;
@@ -16,8 +16,12 @@ pub(crate) enum Question {
     State(oneshot::Sender<Box<State>>),
     /// By what was delivered; it waits until that is far enough.
     Ask(AskedQueries, oneshot::Sender<Shown>),
-    /// The generation and the commands that make its policy, by what was delivered; none where nothing is shown yet.
-    Dump(oneshot::Sender<Option<(u64, Vec<String>)>>),
+    /// The policy as commands, by what was delivered; none where nothing is shown yet.
+    Dump(oneshot::Sender<Option<Dumped>>),
+    /// The generation that is shown, and its founding file; none where nothing is shown yet.
+    Founding(oneshot::Sender<Option<(u64, String)>>),
+    /// The last messages of the rows.
+    Messages(oneshot::Sender<(u64, Vec<RecentMessage>)>),
     /// The records of a generation, or else of the one that goes on, from this number on, as many as are told at once; none where its history is not
     /// kept.
     Records {
@@ -25,6 +29,17 @@ pub(crate) enum Question {
         from: u64,
         waiter: oneshot::Sender<(u64, Option<Vec<String>>)>,
     },
+}
+
+/// A policy that can be made anew.
+#[derive(Debug)]
+pub(crate) struct Dumped {
+    /// Up to where it is right.
+    pub(crate) at: ShownAt,
+    /// The founding file.
+    pub(crate) founding: String,
+    /// The commands that make it of what the file founds.
+    pub(crate) commands: Vec<String>,
 }
 
 /// A call, and whose permissions it needs.
@@ -50,7 +65,7 @@ pub(crate) struct Authority {
 }
 
 impl Authority {
-    pub(super) fn queries(&self) -> Vec<Query> {
+    pub(crate) fn queries(&self) -> Vec<Query> {
         let owner = Query::Owner {
             user: self.user.clone(),
             session: self.session.clone(),
@@ -69,7 +84,7 @@ impl Authority {
     }
 
     /// Whether these are the answers of who may.
-    pub(super) fn is_given(&self, answers: &[Result<Answer, MemberError>]) -> bool {
+    pub(crate) fn is_given(&self, answers: &[Result<Answer, MemberError>]) -> bool {
         let Some((owner, checks)) = answers.split_first() else {
             return false;
         };

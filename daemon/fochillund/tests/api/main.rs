@@ -3,6 +3,7 @@
 mod access;
 mod authzen;
 mod client;
+mod console;
 mod decisions;
 #[path = "../processes/group.rs"]
 mod group;
