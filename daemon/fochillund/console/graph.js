@@ -99,7 +99,8 @@ export class Graph {
     const { users, roles, sessions } = this.policy;
     const count = (number, word) => `${number.toLocaleString('en')} ${word}${number === 1 ? '' : 's'}`;
     const all = `${count(users.size, 'user')}, ${count(roles.size, 'role')}, ${count(sessions.size, 'session')}`;
-    const drawn = this.isWhole() ? '' : `; drawn are ${nodes.length} that the chosen one touches`;
+    const by = this.marks.nodes.length ? 'the answer rests on' : 'the first role touches';
+    const drawn = this.isWhole() ? '' : `; drawn are ${nodes.length} that ${this.chosen ? 'the chosen one touches' : by}`;
     byId('graph-about').textContent = roles.size + users.size ? `${all}${drawn}` : 'It is empty yet: add a user and a role above.';
   }
 
@@ -245,12 +246,15 @@ function everything(policy) {
   };
 }
 
-/** What some nodes touch: roles above and below them, and the users, sessions and permissions of these, some of each. */
+/** What a node touches: roles above and below it, and their users, sessions and permissions, some of each. Of an answer what it rests on, alone. */
 function around(policy, starts) {
   const shown = { users: new Set(), sessions: new Set(), roles: new Set(), permissions: new Set() };
   for (const start of starts) {
     const at = start.indexOf(':');
     put(policy, shown, start.slice(0, at), start.slice(at + 1));
+  }
+  if (starts.length > 1) {
+    return shown;
   }
   const first = [...shown.roles];
   const near = [...reached(policy, first, 'juniors'), ...reached(policy, first, 'seniors')];

@@ -167,5 +167,5 @@ function spread(columns) {
     column.filter((node) => node.kind === 'place').forEach((node) => { node.width = widest; });
     x += widest + GAP;
   });
-  return { width: x - GAP + MARGIN, height };
+  return { width: Math.max(x - GAP, 0) + MARGIN, height };
 }

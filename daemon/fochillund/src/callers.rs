@@ -183,19 +183,29 @@ impl Callers {
             return Err(Told::OutOfScope(scope));
         }
         let asker = Asker { caller, request_id };
+        self.told_to(&asker, route, request).await
+    }
+
+    /// What a caller is told who may ask a route.
+    async fn told_to(
+        self: &Arc<Callers>,
+        asker: &Asker,
+        route: Route,
+        request: Request<Body>,
+    ) -> Result<Told, Told> {
         match route {
-            Route::Evaluation => self.answer_evaluation(&asker, request).await,
-            Route::Evaluations => self.answer_evaluations(&asker, request).await,
-            Route::Check => self.answer_check(&asker, &request).await,
-            Route::SearchAction => self.answer_search_action(&asker, request).await,
-            Route::SearchResource => self.answer_search_resource(&asker, request).await,
-            Route::Commands => self.answer_call(&asker, request).await,
-            Route::Try => self.answer_try(&asker, request).await,
+            Route::Evaluation => self.answer_evaluation(asker, request).await,
+            Route::Evaluations => self.answer_evaluations(asker, request).await,
+            Route::Check => self.answer_check(asker, &request).await,
+            Route::SearchAction => self.answer_search_action(asker, request).await,
+            Route::SearchResource => self.answer_search_resource(asker, request).await,
+            Route::Commands => self.answer_call(asker, request).await,
+            Route::Try => self.answer_try(asker, request).await,
             Route::Dump => self.answer_dump(&request).await,
             Route::Founding => self.answer_founding().await,
             Route::Records => self.answer_records(&request).await,
-            Route::History => self.answer_history(&asker, &request).await,
-            Route::Decisions => self.answer_decisions(&asker),
+            Route::History => self.answer_history(asker, &request).await,
+            Route::Decisions => self.answer_decisions(asker),
             Route::Messages => self.answer_messages().await,
             Route::Status => self.state().await.map(Told::State),
             Route::Metrics => self.answer_metrics().await,
