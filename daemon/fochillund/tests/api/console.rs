@@ -6,7 +6,7 @@ use crate::http::{bearer, request, Client};
 use hyper::body::HttpBody;
 use hyper::{Body, Method, Response};
 use serde_json::{json, Value};
-use std::time::Duration;
+use std::time::{Duration, Instant};
 
 const PATIENCE: Duration = Duration::from_secs(60);
 
@@ -115,6 +115,20 @@ async fn the_founding_and_the_messages_are_told() {
         .all(|it| it["taken"].as_array().unwrap().len() == 2));
 }
 
+/// Waits until a line stands in a decision log.
+async fn stands_in(log: &str, line: &Value) {
+    let until = Instant::now() + PATIENCE;
+    loop {
+        let file = std::fs::read_to_string(log).unwrap();
+        let mut lines = file.lines().map(serde_json::from_str::<Value>);
+        if lines.any(|told| told.is_ok_and(|told| told == *line)) {
+            return;
+        }
+        assert!(Instant::now() < until, "{line} is not in {file}");
+        tokio::time::sleep(Duration::from_millis(10)).await;
+    }
+}
+
 #[tokio::test]
 async fn the_decision_log_is_told_as_it_comes() {
     let mut known = Known::unstarted(&founding(1));
@@ -162,8 +176,7 @@ async fn the_decision_log_is_told_as_it_comes() {
             (&json!(route), &json!("owner"))
         );
         assert_eq!(line["answer"]["denied"], "NoUser");
-        let file = std::fs::read_to_string(&log).unwrap();
-        assert!(file.contains(&line.to_string()) || file.lines().count() >= 10);
+        stands_in(&log, &line).await;
     }
     known.issue("audit", &["--remove"]);
     known.hang_up();

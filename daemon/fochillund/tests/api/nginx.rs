@@ -8,6 +8,9 @@ use servers::etcd::free_port;
 use std::fs::File;
 use std::path::{Path, PathBuf};
 use std::process::{Child, Command, Stdio};
+use std::time::{Duration, Instant};
+
+const PATIENCE: Duration = Duration::from_secs(60);
 
 /// Ann's session `s1` may read charts, and nothing else; her `idle` and bob's `s2` may do nothing.
 async fn group(more: &[&str]) -> (Group, Client) {
@@ -214,14 +217,23 @@ fn base64_of(bytes: &[u8]) -> String {
     String::from_utf8(child.wait_with_output().unwrap().stdout).unwrap()
 }
 
-fn granted(log: &Path) -> Vec<Value> {
-    let lines = std::fs::read_to_string(log).unwrap();
-    let lines = lines
-        .lines()
-        .map(|line| serde_json::from_str(line).unwrap());
-    lines
-        .filter(|line: &Value| line["decision"] == true)
-        .collect()
+/// The decisions of a log that were granted, once there are so many.
+async fn granted(log: &Path, count: usize) -> Vec<Value> {
+    let until = Instant::now() + PATIENCE;
+    loop {
+        let text = std::fs::read_to_string(log).unwrap();
+        let lines = text
+            .lines()
+            .filter_map(|line| serde_json::from_str(line).ok());
+        let granted: Vec<Value> = lines
+            .filter(|line: &Value| line["decision"] == true)
+            .collect();
+        if granted.len() >= count {
+            return granted;
+        }
+        assert!(Instant::now() < until, "{count} are not in {text}");
+        tokio::time::sleep(Duration::from_millis(10)).await;
+    }
 }
 
 /// Who would be another user, or ask another question, if its text were a part of the query.
@@ -279,7 +291,7 @@ async fn nginx_lets_through_what_is_granted_alone() {
         (200, &b"chart"[..]),
         "{said:?}"
     );
-    let line = granted(log.path()).pop().unwrap();
+    let line = granted(log.path(), 1).await.pop().unwrap();
     let subject = json!({ "type": "user", "id": "ann", "session": "s1" });
     let evaluation = json!({ "subject": subject, "action": "read", "resource": "chart" });
     assert_eq!(
@@ -293,7 +305,6 @@ async fn nginx_lets_through_what_is_granted_alone() {
     }
     let head = nginx.told(Method::HEAD, "/wards/chart", "ann:a", "s1");
     assert_eq!(head.await.status, 200);
-    let before = granted(log.path()).len();
     for (path, user, session, status) in REFUSED {
         let told = nginx.get(path, user, session).await;
         assert_eq!(told.status, status, "{path} {user} {session}");
@@ -302,7 +313,11 @@ async fn nginx_lets_through_what_is_granted_alone() {
         let told = nginx.told(method, "/wards/chart", "ann:a", "s1").await;
         assert_eq!(told.status, 403);
     }
-    assert_eq!(granted(log.path()).len(), before);
+    // What is granted at last stands behind all others.
+    let last = nginx.get("/wards/chart", "ann:a", "s1").await;
+    assert_eq!(last.body, "chart");
+    let all = 1 + SPELLINGS.len() + 1 + 1;
+    assert_eq!(granted(log.path(), all).await.len(), all);
 }
 
 #[tokio::test]
@@ -321,7 +336,7 @@ async fn nginx_lets_nothing_through_while_the_process_is_down() {
             return;
         }
         assert!([403, 500].contains(&last), "{last}");
-        tokio::time::sleep(std::time::Duration::from_millis(20)).await;
+        tokio::time::sleep(Duration::from_millis(20)).await;
     }
     panic!("it is not let through again: {last}");
 }
