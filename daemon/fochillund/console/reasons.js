@@ -83,12 +83,15 @@ export function touched(policy, command, denied) {
     for (const set of policy.sets) {
       const roles = [...set.roles].filter((role) => had.has(role));
       const isOfKind = set.kind === (isStatic ? 'static' : 'dynamic');
-      if (isOfKind && (roles.length >= set.n || command.set === set.name)) {
+      if (isOfKind && command.set === set.name) {
+        // A change of the set itself: who would have too many of its roles is not told.
+        set.roles.forEach((role) => nodes.push(`role:${role}`));
+        sentences.push(`It is about the ${set.kind} set ${set.name}: ${[...set.roles].join(', ')}.`);
+      } else if (isOfKind && roles.length >= set.n) {
         roles.forEach((role) => nodes.push(`role:${role}`));
         const who = command.user ?? command.session ?? 'somebody';
         const gets = isStatic ? 'would be authorized for' : 'would have active';
-        const what = roles.length ? `${who} ${gets} ${roles.join(' and ')}` : 'its roles meet';
-        sentences.push(`${set.kind} set ${set.name} allows ${set.n - 1} of ${[...set.roles].join(', ')}; ${what}.`);
+        sentences.push(`${set.kind} set ${set.name} allows ${set.n - 1} of ${[...set.roles].join(', ')}; ${who} ${gets} ${roles.join(' and ')}.`);
       }
     }
   }
