@@ -18,7 +18,7 @@ use crate::name::RowName;
 use crate::text::check_texts;
 use async_trait::async_trait;
 use bytes::Bytes;
-use line::Line;
+use line::{Line, Shared};
 use std::path::PathBuf;
 use std::sync::Arc;
 use std::time::Duration;
@@ -62,7 +62,7 @@ impl Options {
 pub struct Postgres {
     target: Arc<Target>,
     sets: Line,
-    gets: Line,
+    gets: Shared,
     listener: Listener,
 }
 
@@ -77,7 +77,7 @@ impl Postgres {
         target.found().await?;
         Ok(Postgres {
             sets: Line::of(Arc::clone(&target)),
-            gets: Line::of(Arc::clone(&target)),
+            gets: Shared::of(Arc::clone(&target)),
             listener: Listener::start(Arc::clone(&target)).await?,
             target,
         })
@@ -93,17 +93,16 @@ impl Engine for Postgres {
         if is_answered {
             held.keep();
         }
-        if told == Ok(Told::Set) {
-            self.listener.tell(row);
-        }
         told
     }
 
     async fn get(&self, row: &RowName, first: u64) -> Result<Vec<Bytes>, Fault> {
-        let held = self.gets.hold().await?;
-        let texts = held.session.get(row, first).await?;
-        held.keep();
-        Ok(texts)
+        let session = self.gets.session().await?;
+        let texts = session.get(row, first).await;
+        if texts.is_err() {
+            self.gets.leave(&session).await;
+        }
+        texts
     }
 
     /// By a connection of its own, which ends with it.

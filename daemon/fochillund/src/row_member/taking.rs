@@ -309,7 +309,12 @@ impl Taking {
                 operation,
                 object,
             }) => Answer::of_check(self.member.check(session, operation, object).0),
-            Query::Review(_) | Query::Owner { .. } => self.reviewed()?.policy.query(query),
+            Query::Subjects { operation, object } => {
+                Answer::of_subjects(self.member.subjects(operation, object))
+            }
+            Query::Review(_) | Query::Why(_) | Query::Owner { .. } => {
+                self.reviewed()?.policy.query(query)
+            }
         }
     }
 

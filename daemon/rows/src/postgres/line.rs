@@ -1,4 +1,4 @@
-//! A connection that is kept, and made anew where it broke.
+//! Connections that are kept, and made anew where they broke.
 use super::session::Session;
 use super::target::Target;
 use crate::engine::Fault;
@@ -42,5 +42,43 @@ impl Held<'_> {
     /// The request was answered: the connection is used again.
     pub(super) fn keep(mut self) {
         *self.place = Some(self.session);
+    }
+}
+
+/// A connection for several requests at a time: each is sent behind the others, and waits for none of them.
+pub(super) struct Shared {
+    target: Arc<Target>,
+    session: Mutex<Option<Arc<Session>>>,
+}
+
+impl Shared {
+    pub(super) fn of(target: Arc<Target>) -> Shared {
+        Shared {
+            target,
+            session: Mutex::new(None),
+        }
+    }
+
+    /// # Errors
+    /// `Silent` and `Refused`, where there is no connection.
+    pub(super) async fn session(&self) -> Result<Arc<Session>, Fault> {
+        let mut place = self.session.lock().await;
+        if let Some(session) = place.as_ref().filter(|session| session.is_open()) {
+            return Ok(Arc::clone(session));
+        }
+        let session = Arc::new(self.target.connect().await?);
+        *place = Some(Arc::clone(&session));
+        Ok(session)
+    }
+
+    /// A request was not answered over this connection: none is sent over it any more.
+    pub(super) async fn leave(&self, session: &Arc<Session>) {
+        let mut place = self.session.lock().await;
+        if place
+            .as_ref()
+            .is_some_and(|kept| Arc::ptr_eq(kept, session))
+        {
+            *place = None;
+        }
     }
 }

@@ -1,11 +1,12 @@
 //! What is asked over one connection.
 use super::faults::{fault_of_read, told_of_set};
 use super::table::Table;
-use super::target::{Driver, Link, Target};
+use super::target::{Link, Target, Task};
 use super::tls::MakeTls;
 use crate::engine::{Fault, Told};
 use crate::name::RowName;
 use bytes::Bytes;
+use futures_util::future::{select, Either};
 use futures_util::{pin_mut, TryStreamExt};
 use std::future::Future;
 use std::sync::atomic::{AtomicU64, Ordering};
@@ -27,13 +28,13 @@ pub(super) struct Session {
     select: Statement,
     confirm: Statement,
     notify: Statement,
-    _driver: Driver,
+    _driver: Task,
 }
 
 /// Writes to the log, in a transaction of its own, so that its commit waits for the standbys.
 const CONFIRM: &str = "SELECT pg_logical_emit_message(true, 'rows'::text, ''::text)";
 
-const NOTIFY: &str = "SELECT pg_notify($1, told) FROM unnest($2::text[]) AS told";
+const NOTIFY: &str = "SELECT pg_notify($1, $2)";
 
 impl Session {
     pub(super) async fn of(target: &Target, link: Link) -> Result<Session, Fault> {
@@ -73,7 +74,8 @@ impl Session {
         self.warnings.load(Ordering::SeqCst)
     }
 
-    /// Sets cells, and tells whether the session is used again.
+    /// Sets cells, and tells whether the session is used again. The tidings of the row are sent along, and are a transaction of their own behind the
+    /// set's: in the set's own they would take a lock over all commits of the server. They wait for no disk, and nobody waits for them.
     pub(super) async fn set(
         &self,
         row: &RowName,
@@ -86,7 +88,7 @@ impl Session {
         let cells: Vec<&[u8]> = texts.iter().map(AsRef::as_ref).collect();
         let words: [&(dyn ToSql + Sync); 3] = [&row.as_str(), &number, &cells];
         let warned = self.warned();
-        let asked = self.client.execute(&self.insert, &words);
+        let asked = self.told_behind(row, self.client.execute(&self.insert, &words));
         match tokio::time::timeout(self.patience, asked).await {
             Err(_) => {
                 tracing::warn!("PostgreSQL: a set of {row} was not answered in time");
@@ -102,6 +104,17 @@ impl Session {
                 let is_usual = told == Ok(Told::Taken);
                 (told, is_usual)
             }
+        }
+    }
+
+    /// Asks this, and tells all who listen that the row may have more cells once the server has answered it. Returns with its answer.
+    async fn told_behind<T>(&self, row: &RowName, asked: impl Future<Output = T>) -> T {
+        let words: [&(dyn ToSql + Sync); 2] = [&self.channel, &row.as_str()];
+        let told = self.client.execute(&self.notify, &words);
+        pin_mut!(asked, told);
+        match select(asked, told).await {
+            Either::Left((answered, _)) => answered,
+            Either::Right((_, asked)) => asked.await,
         }
     }
 
@@ -186,11 +199,9 @@ impl Session {
         self.in_time(self.client.batch_execute(&words)).await
     }
 
-    /// Tells all who listen that these rows have more cells.
-    pub(super) async fn notify(&self, rows: &[String]) -> Result<(), Fault> {
-        let words: [&(dyn ToSql + Sync); 2] = [&self.channel, &rows];
-        let told = self.client.execute(&self.notify, &words);
-        self.in_time(told).await.map(|_| ())
+    /// Whether the server answers.
+    pub(super) async fn is_there(&self) -> bool {
+        self.in_time(self.client.batch_execute("")).await.is_ok()
     }
 
     /// The next row that has more cells; none where the connection has ended.

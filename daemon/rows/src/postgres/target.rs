@@ -106,7 +106,7 @@ impl Target {
         let (client, connection) = made.map_err(|error| fault_of_connect(&error))?;
         let warnings = Arc::new(AtomicU64::new(0));
         let (tell, tidings) = mpsc::unbounded_channel();
-        let driver = Driver(tokio::spawn(drive(connection, Arc::clone(&warnings), tell)));
+        let driver = Task(tokio::spawn(drive(connection, Arc::clone(&warnings), tell)));
         let settings = Settings::ask(&client).await?;
         settings.check()?;
         settings.fix(&client, self.answer_timeout).await?;
@@ -137,13 +137,14 @@ pub(super) struct Link {
     settings: Settings,
     pub(super) warnings: Arc<AtomicU64>,
     pub(super) tidings: mpsc::UnboundedReceiver<String>,
-    pub(super) driver: Driver,
+    /// What reads and writes the socket; without it the connection is closed.
+    pub(super) driver: Task,
 }
 
-/// What reads and writes the socket; without it the connection is closed.
-pub(super) struct Driver(JoinHandle<()>);
+/// What goes on until it is dropped.
+pub(super) struct Task(pub(super) JoinHandle<()>);
 
-impl Drop for Driver {
+impl Drop for Task {
     fn drop(&mut self) {
         self.0.abort();
     }
