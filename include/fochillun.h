@@ -37,7 +37,7 @@ struct policy_place {
 enum policy_status {
     POLICY_DONE = 0,
 
-    /* A check of what is not there: the numbers of these denials. */
+    /* A check, or a listing of subjects, of what is not there: the numbers of these denials. */
     POLICY_NO_SESSION = 10,
     POLICY_NO_OPERATION = 27,
     POLICY_NO_OBJECT = 28,
@@ -49,7 +49,7 @@ enum policy_status {
 
     POLICY_GRANTED = 50,
     POLICY_REFUSED = 51,
-    POLICY_BAD_NAME = 52, /* one of the three texts is no name */
+    POLICY_BAD_NAME = 52, /* one of the texts is no name */
 
     /* A founding file is refused: the first reason, in the order of the checks. */
     POLICY_FOUNDING_TOO_LONG = 101,
@@ -98,6 +98,29 @@ uint32_t policy_answer(struct policy_place *place, uint8_t *out, size_t out_leng
 uint32_t policy_check(struct policy_place *place, const uint8_t *session, size_t session_length,
                       const uint8_t *operation, size_t operation_length, const uint8_t *object,
                       size_t object_length);
+
+/* Writes who may perform the operation on the object to the front of `out`, and the text's length to `written`:
+ * {"sessions":["s1"],"users":["ann"]}, each list sorted by bytes. The users are those of whom a review of their
+ * permissions lists the two, by a role that they are authorized for; the sessions those for which policy_check
+ * grants, by a role that is active in them. Takes time and memory in proportion to the policy. Changes nothing, the
+ * last answer neither.
+ * The first that applies: EMPTY_PLACE; BAD_NAME; NO_OPERATION; NO_OBJECT; SHORT_BUFFER, `out` as it was; DONE. Or
+ * NO_MEMORY. */
+uint32_t policy_subjects(struct policy_place *place, const uint8_t *operation, size_t operation_length,
+                         const uint8_t *object, size_t object_length, uint8_t *out, size_t out_length,
+                         size_t *written);
+
+/* Writes why the command of a JSON object, read as by policy_apply, would be denied, or a check is granted or refused, to the
+ * front of `out`, and the text's length to `written`: a JSON object, its keys in the order of their bytes. Of a command that would
+ * be denied `denied` is the word of its first failing precondition, `number` its number, and `names` are what makes it fail (`user`,
+ * `role`, `session`, `operation`, `object`, `ascendant`, `descendant`, `kind`, `set`, `counted`; of several the first in order).
+ * Besides, a breach of separation has `roles`, those that would be authorized or active, and `cardinality`; a Cycle the `chain` of
+ * roles from the descendant down to the ascendant; a BadCardinality `size` and `cardinality`. Of any other command `denied` is null.
+ * Of a check that is not denied `granted` says whether, and of a granted one `chain` has an active role and the roles from it down to
+ * one that is granted the permission. Takes time and memory in proportion to the policy. Changes nothing, the last answer neither.
+ * EMPTY_PLACE; why the text is refused; SHORT_BUFFER, `out` as it was; DONE. Or NO_MEMORY. */
+uint32_t policy_explain(struct policy_place *place, const uint8_t *command, size_t command_length, uint8_t *out,
+                        size_t out_length, size_t *written);
 
 /* Writes the client lines that make this policy, the text that `rbac_monitor dump` writes, to the front of
  * `out`, and its length to `written`. A policy that was just opened with the same founding, to which each
@@ -230,6 +253,12 @@ uint32_t member_dump(struct member_place *place, uint8_t *out, size_t out_length
 uint32_t member_review(struct member_place *place, const uint8_t *command, size_t command_length, uint8_t *out,
                        size_t out_length, size_t *written);
 
+/* Who may perform the operation on the object by the policy that the member's history left, which may be behind that of
+ * other members. As policy_subjects. */
+uint32_t member_subjects(struct member_place *place, const uint8_t *operation, size_t operation_length,
+                         const uint8_t *object, size_t object_length, uint8_t *out, size_t out_length,
+                         size_t *written);
+
 /* These take no memory, and change nothing. */
 
 /* How many messages of member `from` were received. DONE, EMPTY_PLACE. */
@@ -263,7 +292,7 @@ uint32_t member_close(struct member_place *place);
 /* ---- The version
  *
  * That of this header, and of the library that it came with. */
-static inline const char *policy_version(void) { return "0.10.0"; }
+static inline const char *policy_version(void) { return "0.11.0"; }
 
 /* ---- What a status says
  *

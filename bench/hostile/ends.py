@@ -1,5 +1,5 @@
 """How runs of a whole monitor program end, and what is wrong with an end. What went out has to be a first part of the output of a run
-without a fault (whole texts, where the program ended by itself), and the end has to be one that docs/LINES.md names."""
+without a fault (whole texts, where the program ended by itself), and the end has to be one that docs/USE.md names."""
 import os
 import pathlib
 import subprocess

@@ -316,6 +316,30 @@ static void each_review(void) {
     free(text);
 }
 
+/* Who may by the policy of a member. */
+static void lists(struct member_place *place, const char *operation, const char *object, uint32_t status, const char *wanted) {
+    uint8_t out[512];
+    size_t length = 99;
+    memset(out, '#', sizeof out);
+    expect(member_subjects(place, TEXT(operation), TEXT(object), out, sizeof out, &length), status, operation);
+    expect_text(out, length, wanted, operation);
+}
+
+#define CLERKS "{\"sessions\":[\"s1\"],\"users\":[\"ann\"]}"
+#define NOBODY "{\"sessions\":[],\"users\":[]}"
+
+/* Of member 2, which has delivered all. */
+static void each_listing(void) {
+    lists(&two, "read", "ledger", POLICY_DONE, CLERKS);
+    lists(&two, "pay", "ledger", POLICY_DONE, NOBODY);
+    lists(&two, "fly", "moon", POLICY_NO_OPERATION, "");
+    lists(&two, "read", "moon", POLICY_NO_OBJECT, "");
+    lists(&two, "read", "mo on", POLICY_BAD_NAME, "");
+    uint8_t out[5] = "#";
+    size_t length = 0;
+    is_short(member_subjects(&two, TEXT("read"), TEXT("ledger"), out, sizeof out, &length), &length, strlen(CLERKS), out);
+}
+
 /* A place that only observes member 2, beside it. */
 static void an_observer(void) {
     static struct member_place observer;
@@ -337,6 +361,7 @@ static void an_observer(void) {
     tells(member_message, &observer, 1, POLICY_DONE, ACKNOWLEDGEMENT);
     tells(member_message, &observer, 2, MEMBER_NOT_SENT, "");
     reviews(&observer, USERS("clerk"), POLICY_DONE, "{\"denied\":\"NoRole\",\"number\":4}");
+    lists(&observer, "read", "ledger", POLICY_DONE, NOBODY);
     expect(member_close(&observer), POLICY_DONE, "close an observer");
 }
 
@@ -378,6 +403,7 @@ static void empty_place(void) {
     expect(waiting.clock | waiting.member | waiting.place | waiting.awaited, 0, "none waits");
     checks(&one, "s1", "read", "ledger", POLICY_EMPTY_PLACE, 0);
     reviews(&one, ADD_ANN, POLICY_EMPTY_PLACE, "");
+    lists(&one, "read", "", POLICY_EMPTY_PLACE, "");
     expect(member_close(&one), POLICY_EMPTY_PLACE, "close of none");
 }
 
@@ -395,6 +421,7 @@ int main(void) {
     dumps();
     short_buffers();
     each_review();
+    each_listing();
     an_observer();
     expect(member_close(&one), POLICY_DONE, "close");
     expect(member_close(&two), POLICY_DONE, "close the other");

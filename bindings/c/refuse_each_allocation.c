@@ -1,5 +1,5 @@
-/* Refuses each allocation in turn, by a malloc of its own: of an open, and of each command of a day. What is refused changes nothing, and is
- * answered when it is asked again. Linked with -Wl,--wrap=malloc,--wrap=realloc. */
+/* Refuses each allocation in turn, by a malloc of its own: of an open, of each command of a day, and of each text that the policy tells. What is
+ * refused changes nothing, and is answered when it is asked again. Linked with -Wl,--wrap=malloc,--wrap=realloc. */
 #include "refusing.h"
 
 static const char founding[] = "version = 2\nmembers = 1\nhierarchy = \"general\"\noperations = [\"pay\", \"read\"]\nobjects = [\"ledger\"]\n"
@@ -91,22 +91,36 @@ static void refuse_command(size_t number) {
     }
 }
 
-/* A dump that is refused memory has no text, and is the same when asked again. */
-static void refuse_dump(void) {
+static uint32_t dump(struct policy_place *place, uint8_t *out, size_t room, size_t *length) { return policy_dump(place, out, room, length); }
+
+static uint32_t subjects(struct policy_place *place, uint8_t *out, size_t room, size_t *length) {
+    return policy_subjects(place, TEXT("read"), TEXT("ledger"), out, room, length);
+}
+
+static uint32_t explain(struct policy_place *place, uint8_t *out, size_t room, size_t *length) {
+    return policy_explain(place, TEXT("{\"name\":\"AddUser\",\"user\":\"ann\"}"), out, room, length);
+}
+
+static uint32_t explain_check(struct policy_place *place, uint8_t *out, size_t room, size_t *length) {
+    return policy_explain(place, TEXT("{\"name\":\"CheckAccess\",\"session\":\"s1\",\"operation\":\"read\",\"object\":\"ledger\"}"), out, room, length);
+}
+
+/* A text that is refused memory is none, and is the same when asked again. */
+static void refuse_text(uint32_t (*tell)(struct policy_place *, uint8_t *, size_t, size_t *), const char *what) {
     static uint8_t wanted[2048], out[2048];
     struct policy_place place = {0};
     size_t wanted_length, length;
     brought_to(&place, 9);
-    if (policy_dump(&place, wanted, sizeof wanted, &wanted_length) != POLICY_DONE) stop("a dump with memory");
+    if (tell(&place, wanted, sizeof wanted, &wanted_length) != POLICY_DONE) stop(what);
     for (long granted = 0;; granted++) {
         memset(out, '#', sizeof out);
         countdown = granted;
-        uint32_t told = policy_dump(&place, out, sizeof out, &length);
+        uint32_t told = tell(&place, out, sizeof out, &length);
         countdown = -1;
         if (told == POLICY_DONE) break;
-        if (told != POLICY_NO_MEMORY || length != 0 || out[0] != '#') stop("a dump that is refused memory");
+        if (told != POLICY_NO_MEMORY || length != 0 || out[0] != '#') stop(what);
     }
-    if (length != wanted_length || memcmp(out, wanted, length) != 0) stop("another dump");
+    if (length != wanted_length || memcmp(out, wanted, length) != 0) stop(what);
     policy_close(&place);
 }
 
@@ -128,10 +142,13 @@ static void without_memory(void) {
 int main(void) {
     refuse_open();
     for (size_t i = 0; i < COUNT(day); i++) refuse_command(i);
-    refuse_dump();
+    refuse_text(dump, "a dump");
+    refuse_text(subjects, "a listing of subjects");
+    refuse_text(explain, "an explanation of a denial");
+    refuse_text(explain_check, "an explanation of a check");
     without_memory();
     if (refusals == 0) stop("nothing was refused");
-    printf("c: %lu refused allocations of an open, %zu commands and a dump: nothing changed, and the same answers when asked again\n", refusals,
+    printf("c: %lu refused allocations of an open, %zu commands, a dump, a listing and two explanations: nothing changed, and the same answers when asked again\n", refusals,
            COUNT(day));
     return 0;
 }

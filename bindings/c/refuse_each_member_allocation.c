@@ -66,6 +66,8 @@ static uint32_t check_by_review(struct member_place *place, struct told *told) {
     return member_review(place, TEXT("{\"name\":\"CheckAccess\",\"session\":\"s1\",\"operation\":\"read\",\"object\":\"ledger\"}"), OUT);
 }
 
+static uint32_t subjects(struct member_place *place, struct told *told) { return member_subjects(place, TEXT("read"), TEXT("ledger"), OUT); }
+
 static const struct {
     const char *name;
     uint32_t (*call)(struct member_place *, struct told *);
@@ -86,6 +88,7 @@ static const struct {
     {"review", review},
     {"review, denied", denied_review},
     {"review, a check", check_by_review},
+    {"subjects", subjects},
 };
 
 /* Member 1 with two messages, one delivered command of three, and one more that is due. */

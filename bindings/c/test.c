@@ -18,6 +18,26 @@ static void checks(const char *session, const char *operation, const char *objec
     expect(policy_check(&place, TEXT(session), TEXT(operation), TEXT(object)), wanted, session);
 }
 
+/* Who may, in a buffer of so many bytes. */
+static void lists(const char *operation, const char *object, size_t room, uint32_t status, size_t wanted_length, const char *wanted) {
+    uint8_t out[512];
+    size_t length = 99;
+    memset(out, '#', sizeof out);
+    expect(policy_subjects(&place, TEXT(operation), TEXT(object), out, room, &length), status, operation);
+    expect(length, wanted_length, object);
+    expect_text(out, strlen(wanted), wanted, object);
+}
+
+/* Why, in a buffer of so many bytes. */
+static void explains(const char *command, size_t room, uint32_t status, size_t wanted_length, const char *wanted) {
+    uint8_t out[512];
+    size_t length = 99;
+    memset(out, '#', sizeof out);
+    expect(policy_explain(&place, TEXT(command), out, room, &length), status, command);
+    expect(length, wanted_length, command);
+    expect_text(out, strlen(wanted), wanted, command);
+}
+
 static void each_refused_founding(void) {
     for (size_t i = 0; i < COUNT(refused_foundings); i++)
         expect(policy_open(&place, TEXT(refused_foundings[i].text)), refused_foundings[i].status, refused_foundings[i].text);
@@ -54,6 +74,34 @@ static void each_check(void) {
     checks("s 1", "read", "ledger", POLICY_BAD_NAME);
     checks("s1", "", "ledger", POLICY_BAD_NAME);
     checks("s1", "read", "led/ger", POLICY_BAD_NAME);
+}
+
+/* Those who may, and each reason why they are not told, the first that applies. */
+#define CLERKS "{\"sessions\":[\"s1\"],\"users\":[\"ann\"]}"
+#define NOBODY "{\"sessions\":[],\"users\":[]}"
+
+static void each_listing(void) {
+    lists("read", "ledger", 512, POLICY_DONE, strlen(CLERKS), CLERKS);
+    lists("read", "ledger", strlen(CLERKS), POLICY_DONE, strlen(CLERKS), CLERKS);
+    lists("read", "ledger", strlen(CLERKS) - 1, POLICY_SHORT_BUFFER, strlen(CLERKS), "");
+    lists("pay", "ledger", 512, POLICY_DONE, strlen(NOBODY), NOBODY);
+    lists("fly", "moon", 512, POLICY_NO_OPERATION, 0, "");
+    lists("read", "moon", 512, POLICY_NO_OBJECT, 0, "");
+    lists("", "ledger", 512, POLICY_BAD_NAME, 0, "");
+    lists("fly", "mo on", 512, POLICY_BAD_NAME, 0, "");
+}
+
+/* Why a check is granted, and what stands in the way of a command, which is not applied. */
+#define BY_CLERK "{\"chain\":[\"clerk\"],\"granted\":true}"
+#define THERE "{\"denied\":\"UserExists\",\"names\":{\"user\":\"ann\"},\"number\":1}"
+
+static void each_explanation(void) {
+    explains("{\"name\":\"CheckAccess\",\"session\":\"s1\",\"operation\":\"read\",\"object\":\"ledger\"}", 512, POLICY_DONE, strlen(BY_CLERK), BY_CLERK);
+    explains("{\"name\":\"AddUser\",\"user\":\"ann\"}", 512, POLICY_DONE, strlen(THERE), THERE);
+    explains("{\"name\":\"AddUser\",\"user\":\"ann\"}", strlen(THERE) - 1, POLICY_SHORT_BUFFER, strlen(THERE), "");
+    explains("{\"name\":\"DeleteUser\",\"user\":\"ann\"}", 512, POLICY_DONE, strlen("{\"denied\":null}"), "{\"denied\":null}");
+    explains("{\"name\":\"Fly\"}", 512, POLICY_COMMAND_UNKNOWN_WORD, 0, "");
+    checks("s1", "read", "ledger", POLICY_GRANTED);
 }
 
 /* A buffer that is too short loses no answer, and has the command applied once. */
@@ -108,6 +156,8 @@ static void empty_place(void) {
     expect(policy_dump(&place, out, sizeof out, &length), POLICY_EMPTY_PLACE, "dump of none");
     expect(length == 0, 1, "a dump of none has no length");
     checks("s1", "read", "ledger", POLICY_EMPTY_PLACE);
+    lists("read", "", 512, POLICY_EMPTY_PLACE, 0, "");
+    explains("", 512, POLICY_EMPTY_PLACE, 0, "");
     applies("{\"name\":\"AddUser\",\"user\":\"ann\"}", POLICY_EMPTY_PLACE, "");
     expect(policy_answer(&place, out, sizeof out, &length), POLICY_EMPTY_PLACE, "answer of none");
     expect(length == 0, 1, "no answer has no length");
@@ -186,6 +236,8 @@ int main(void) {
     each_refused_command();
     commands();
     each_check();
+    each_listing();
+    each_explanation();
     short_buffers();
     client_lines();
     dumps();

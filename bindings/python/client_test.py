@@ -282,6 +282,10 @@ class OfOneProcess(Case):
                 self.assertEqual(list(client.search_actions(session("s1"), "chart", consistency="local")), ["read"])
                 self.assertEqual(list(client.search_actions(user("ann"), "chart", "s1")), ["read"])
                 self.assertEqual(list(client.search_resources(session("s9"), "read")), [])
+                for limit in (None, 1):
+                    self.assertEqual(list(client.search_subjects("session", "read", "chart", limit=limit)), ["s1"])
+                self.assertEqual(list(client.search_subjects("user", "read", "chart", consistency="local")), ["ann"])
+                self.assertEqual(list(client.search_subjects("user", "read", "moon")), [])
 
     def test_a_call_that_is_asked_again_is_told_the_same_record(self):
         for kind, made in self.both():

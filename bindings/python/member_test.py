@@ -118,6 +118,7 @@ class Groups(Case):
             self.assertEqual(observer.take_own(1, rows[2][0]), 1)
             bring(1, rows[1], observer, [])
             self.assertEqual((shown(observer), observer.review(CHECK)), (shown(two), "Granted"))
+            self.assertEqual(observer.subjects("read", "ledger"), (["s1"], ["ann"]))
             self.assertTrue(observer.check("s1", "read", "ledger"))
 
     def test_what_reviews_tell(self):
@@ -130,6 +131,18 @@ class Groups(Case):
             self.assertEqual((two.review(users), two.review(json.dumps(CHECK))), ({"names": ["ann"]}, "Granted"))
             self.assertEqual(self.refuses("NotAReview", two.review, ANN).number, 314)
             self.refuses("NotJson", two.review, b"{")
+
+    def test_who_may(self):
+        with fochillun.Member(FOUNDING, 2) as two:
+            self.assertEqual(two.subjects("read", "ledger"), ([], []))
+            two.receive(1, 1, {"caller": 7, "commands": [ANN, *CLERK], "serial": 0, "stamp": [1, 1]})
+            self.assertEqual(two.subjects("read", "ledger"), ([], []))
+            while two.deliver():
+                pass
+            self.assertEqual(two.subjects("read", "ledger"), fochillun.Subjects(["s1"], ["ann"]))
+            with self.assertRaises(fochillun.SubjectsDenied) as raised:
+                two.subjects("fly", "moon")
+            self.assertEqual(raised.exception.word, "NoOperation")
 
     def test_a_text_longer_than_the_buffer(self):
         commands = [{"name": "AddUser", "user": f"user_of_a_rather_long_name_with_number_{i:02}"} for i in range(64)]
@@ -193,7 +206,8 @@ class Errors(Case):
         one.close()
         one.close()
         for call, words in [(one.submit, (7, 0, ANN)), (one.deliver, ()), (one.message, (1,)), (one.waits, ()), (one.check, ("s1", "read", "ledger")),
-                            (one.read, (2,)), (one.dump, ()), (one.review, (CHECK,)), (one.__enter__, ())]:
+                            (one.read, (2,)), (one.dump, ()), (one.review, (CHECK,)),
+                            (one.subjects, ("read", "ledger")), (one.__enter__, ())]:
             self.assertRaisesRegex(fochillun.Closed, "the member was closed", call, *words)
 
     def test_no_copy(self):

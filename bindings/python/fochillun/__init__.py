@@ -99,6 +99,10 @@ class CheckDenied(Refused):
         self.records = records
 
 
+class SubjectsDenied(Refused):
+    """There is no such operation or object, or a text is no name: it is not told who may."""
+
+
 class MemberRefused(Refused):
     """The member did not do what was asked, and is as it was. `next` is the number or the serial that would be next: of Repeat, Gap and
     BadSerial of a step, and else None."""
@@ -196,6 +200,8 @@ def _library():
         "policy_apply": [*text, *out],
         "policy_answer": out,
         "policy_check": [*text, *text, *text],
+        "policy_subjects": [*text, *text, *out],
+        "policy_explain": [*text, *out],
         "policy_dump": out,
         "policy_close": [],
         "member_open": [*text, number],
@@ -212,6 +218,7 @@ def _library():
         "member_next_answer": [number, number, *text, *out],
         "member_dump": out,
         "member_review": [*text, *out],
+        "member_subjects": [*text, *text, *out],
         "member_read": [number, told],
         "member_next_serial": [number, told],
         "member_waits": [ctypes.POINTER(_Waiting)],
@@ -261,6 +268,11 @@ class _Held:
             if status != _DONE:
                 self._fail(status, error)
             return self._buffer[: self._length.value]
+
+    def _subjects(self, call, operation, target):
+        operation, target = operation.encode(), target.encode()
+        told = json.loads(self._text(SubjectsDenied, call, operation, len(operation), target, len(target)))
+        return Subjects(told["sessions"], told["users"])
 
     def _verdict(self, status, *records):
         if status == _GRANTED:
@@ -316,6 +328,13 @@ class Denial(collections.namedtuple("Denial", "name number")):
         return False
 
 
+class Subjects(collections.namedtuple("Subjects", "sessions users")):
+    """Who may perform an operation on an object, two sorted lists of names: the sessions to which a check grants it, and the users that are
+    authorized for a role that has the permission, whether or not it is active in a session of theirs."""
+
+    __slots__ = ()
+
+
 class Monitor(_Held):
     """One policy, founded with what a founding file's bytes say."""
 
@@ -354,6 +373,17 @@ class Monitor(_Held):
         """Applies the command of these bytes, a client line or a command by itself, and gives the bytes of its answer."""
         # Where the buffer is too short, the command was applied. Only its answer is asked for again.
         return self._text(CommandRefused, self._calls.policy_apply, text, len(text), again=self._calls.policy_answer)
+
+    def subjects(self, operation, target):
+        """Who may perform the operation on the target, an object: a `Subjects`. It takes time and memory in proportion to the policy; `check`
+        asks of one session."""
+        return self._subjects(self._calls.policy_subjects, operation, target)
+
+    def explain(self, command):
+        """Why a command, as `apply` takes it, would be denied, or a check is granted or refused: a dict with the keys that `policy_explain` of
+        include/fochillun.h lists. Nothing changes. It takes time and memory in proportion to the policy."""
+        text = _bytes(command)
+        return json.loads(self._text(CommandRefused, self._calls.policy_explain, text, len(text)))
 
     def dump(self):
         """The client lines that make this policy, as `rbac_monitor dump` writes them. A monitor that was just founded with the same file
@@ -471,6 +501,11 @@ class Member(_Held):
         """The answer that a review, or CheckAccess, has by the policy that the member's history left, as `Monitor.apply` gives it: a `Denial`
         too. A review takes time and memory in proportion to the policy; `check` is the quicker question."""
         return _answer(self._text(MemberRefused, self._calls.member_review, *_lent(command)))
+
+    def subjects(self, operation, target):
+        """Who may perform the operation on the target, an object, by the policy that the member's history left, which may be behind that of
+        other members, as `Monitor.subjects` gives it."""
+        return self._subjects(self._calls.member_subjects, operation, target)
 
     def read(self, sender):
         """How many messages of member `sender` were received."""

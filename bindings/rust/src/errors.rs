@@ -162,3 +162,14 @@ errors! {
         BadName = 52, "a text is no name";
     }
 }
+
+errors! {
+    /// Why it is not told who may perform an operation on an object: the first reason, in this order. Nothing has changed.
+    SubjectsError {
+        BadName = 52, "a text is no name";
+        NoOperation = 27, "there is no such operation";
+        NoObject = 28, "there is no such object";
+        /// Memory ran out. The call can be made again.
+        NoMemory = NO_MEMORY, "no memory";
+    }
+}

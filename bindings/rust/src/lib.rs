@@ -15,12 +15,13 @@ mod monitor;
 mod place;
 #[cfg(feature = "policy")]
 mod pool;
+mod subjects;
 mod sys;
 mod text;
 
 #[cfg(feature = "policy")]
 pub use errors::ApplyError;
-pub use errors::{CheckError, DumpError, OpenError};
+pub use errors::{CheckError, DumpError, OpenError, SubjectsError};
 #[cfg(feature = "member")]
 pub use errors::{MemberError, RestoreError};
 #[cfg(feature = "member")]
@@ -29,3 +30,4 @@ pub use member::{Member, Waiting};
 pub use monitor::Monitor;
 #[cfg(feature = "policy")]
 pub use pool::Pool;
+pub use subjects::Subjects;

@@ -1,7 +1,8 @@
 //! One member of a group.
 use crate::check::verdict;
-use crate::errors::{CheckError, DumpError, MemberError, OpenError, RestoreError};
+use crate::errors::{CheckError, DumpError, MemberError, OpenError, RestoreError, SubjectsError};
 use crate::place::{Held, Place};
+use crate::subjects::Subjects;
 use crate::sys;
 use crate::sys::DONE;
 use crate::text::{buffer, written_by};
@@ -245,6 +246,25 @@ impl Member {
         self.told(|place, out, written| unsafe {
             sys::member_review(place, text, length, out.as_mut_ptr(), out.len(), written)
         })
+    }
+
+    /// The sessions and the users that may perform the operation on the object by the policy that the member's history left, which may
+    /// be behind that of other members. It takes time and memory in proportion to the policy; `check` asks of one session.
+    pub fn subjects(&mut self, operation: &str, object: &str) -> Result<Subjects, SubjectsError> {
+        let mut text = vec![0; 4096];
+        let told = written_by(&mut text, |out, written| unsafe {
+            sys::member_subjects(
+                &mut self.place,
+                operation.as_ptr(),
+                operation.len(),
+                object.as_ptr(),
+                object.len(),
+                out.as_mut_ptr(),
+                out.len(),
+                written,
+            )
+        });
+        told.map(Subjects::of).map_err(SubjectsError::of)
     }
 
     /// How many messages of member `from` were received.

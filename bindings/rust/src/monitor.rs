@@ -1,7 +1,8 @@
 //! One policy.
 use crate::check::verdict;
-use crate::errors::{ApplyError, CheckError, DumpError, OpenError};
+use crate::errors::{ApplyError, CheckError, DumpError, OpenError, SubjectsError};
 use crate::place::{Held, Place};
+use crate::subjects::Subjects;
 use crate::sys;
 use crate::text::{buffer, written_by};
 use std::fmt;
@@ -92,6 +93,43 @@ impl Monitor {
                 object.len(),
             )
         })
+    }
+
+    /// The sessions and the users that may perform the operation on the object. It takes time and memory in proportion to the policy;
+    /// `check` asks of one session.
+    pub fn subjects(&mut self, operation: &str, object: &str) -> Result<Subjects, SubjectsError> {
+        let mut text = vec![0; 4096];
+        let told = written_by(&mut text, |out, written| unsafe {
+            sys::policy_subjects(
+                &mut self.place,
+                operation.as_ptr(),
+                operation.len(),
+                object.as_ptr(),
+                object.len(),
+                out.as_mut_ptr(),
+                out.len(),
+                written,
+            )
+        });
+        told.map(Subjects::of).map_err(SubjectsError::of)
+    }
+
+    /// Why the command, read as `apply` reads it, would be denied, or a check is granted or refused: the text of a JSON object, whose keys
+    /// are those that `policy_explain` of include/fochillun.h lists. Nothing changes. It takes time and memory in proportion to the
+    /// policy.
+    pub fn explain(&mut self, command: &str) -> Result<String, ApplyError> {
+        let mut text = buffer();
+        let told = written_by(&mut text, |out, written| unsafe {
+            sys::policy_explain(
+                &mut self.place,
+                command.as_ptr(),
+                command.len(),
+                out.as_mut_ptr(),
+                out.len(),
+                written,
+            )
+        });
+        told.map(str::to_owned).map_err(ApplyError::of)
     }
 
     /// The client lines that make this policy, as `rbac_monitor dump` writes them. A monitor that was just opened with the same founding

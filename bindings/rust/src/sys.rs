@@ -46,6 +46,24 @@ unsafe extern "C" {
         object: *const u8,
         object_length: usize,
     ) -> u32;
+    pub(crate) fn policy_subjects(
+        place: &mut Policy,
+        operation: *const u8,
+        operation_length: usize,
+        object: *const u8,
+        object_length: usize,
+        out: *mut u8,
+        out_length: usize,
+        written: &mut usize,
+    ) -> u32;
+    pub(crate) fn policy_explain(
+        place: &mut Policy,
+        command: *const u8,
+        command_length: usize,
+        out: *mut u8,
+        out_length: usize,
+        written: &mut usize,
+    ) -> u32;
     pub(crate) fn policy_dump(
         place: &mut Policy,
         out: *mut u8,
@@ -155,6 +173,16 @@ unsafe extern "C" {
         place: &mut OfMember,
         command: *const u8,
         command_length: usize,
+        out: *mut u8,
+        out_length: usize,
+        written: &mut usize,
+    ) -> u32;
+    pub(crate) fn member_subjects(
+        place: &mut OfMember,
+        operation: *const u8,
+        operation_length: usize,
+        object: *const u8,
+        object_length: usize,
         out: *mut u8,
         out_length: usize,
         written: &mut usize,

@@ -1,5 +1,7 @@
 //! Members of a group by what their caller sees.
-use fochillun::{CheckError, Member, MemberError, OpenError, RestoreError, Waiting};
+use fochillun::{
+    CheckError, Member, MemberError, OpenError, RestoreError, Subjects, SubjectsError, Waiting,
+};
 
 const FOUNDING: &[u8] = b"version = 1\nmembers = 2\nsent_limit = 6\noperations = [\"pay\", \"read\"]\nobjects = [\"ledger\"]\npermissions = [[\"read\", \"ledger\"]]\n";
 const ANN: &str = r#"{"name":"AddUser","user":"ann"}"#;
@@ -157,6 +159,25 @@ fn a_review_is_answered_by_the_policy_of_the_history() {
     assert_eq!(two.review(ANN), Err(MemberError::NotAReview));
     assert_eq!(two.review("{"), Err(MemberError::NotJson));
     assert_eq!(one.review(users).unwrap(), denied);
+}
+
+#[test]
+fn who_may_is_told_by_the_policy_of_the_history() {
+    let (mut one, mut two) = (member(1), member(2));
+    let nobody = Subjects::default();
+    assert_eq!(two.subjects("read", "ledger"), Ok(nobody.clone()));
+    one.submit(7, 0, ANN).unwrap();
+    one.submit_batch(7, 1, CLERK).unwrap();
+    bring((1, &mut one), &mut two, &mut Vec::new());
+    let ann = Subjects {
+        sessions: vec!["s1".to_owned()],
+        users: vec!["ann".to_owned()],
+    };
+    assert_eq!(two.subjects("read", "ledger"), Ok(ann));
+    assert_eq!(one.subjects("read", "ledger"), Ok(nobody));
+    let no_operation = Err(SubjectsError::NoOperation);
+    assert_eq!(two.subjects("fly", "ledger"), no_operation);
+    assert_eq!(two.subjects("read", ""), Err(SubjectsError::BadName));
 }
 
 #[test]

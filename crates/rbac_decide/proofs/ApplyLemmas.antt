@@ -1,5 +1,5 @@
 -- What a command that is not denied answers and leaves.
-use Rattle.std.proofs.Common.{◌≡◌, false, true≢false, Option, Some, None, Err, refl, sym, ap, ◌∙◌, subst}
+use Rattle.std.proofs.Common.{◌≡◌, false, true≢false, Option, Some, None, refl, sym, ap, ◌∙◌, subst}
 use Rattle.rbac_terms.specs.State.{State}
 use Rattle.rbac_terms.specs.Rows.{first_denial}
 use Rattle.rbac_terms.specs.Sound.{IsSound, BringsASet}
@@ -11,7 +11,6 @@ use Rattle.rbac_terms.specs.declared.answer.Answer.TheVariants.{Done, Denied}
 use Rattle.rbac_terms.specs.declared.answer.Denial.{Denial}
 use Rattle.rbac_rules.proofs.SoundLemmas.{sound_effect}
 use Rattle.rbac_decide.specs.Asking.{is_question}
-use Rattle.rbac_decide.specs.Denying.{unless_denied}
 
 -- a command that asks nothing is answered that it is done
 change-answer : (c : Command) (s : State) → is_question c ≡ false → Done ≡ answer c s
@@ -31,6 +30,5 @@ pub sound_then : (c : Command) (s inside new : State) → BringsASet c → IsSou
 sound_then c s inside new brings sound none seen made = subst IsSound (sym (changed c s inside new none seen made)) (sound_effect c s brings (subst IsSound seen sound))
 
 -- what is denied is answered by its denial
-pub denied-reply : (o : Option Denial) (denial : Denial) (c : Command) (s : State) → Err denial ≡ unless_denied o → Denied denial ≡ reply_unless o c s
-denied-reply None denial c s e = let never : ⊥ = cc in absurd never
-denied-reply (Some first) denial c s e = let same : denial ≡ first = cc in ap Denied same
+pub denied-reply : (denial : Denial) (c : Command) (s : State) → first_denial c s ≡ Some denial → Denied denial ≡ reply c s
+denied-reply denial c s e = sym (ap (λ (o : Option Denial). reply_unless o c s) e)

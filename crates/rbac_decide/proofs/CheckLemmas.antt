@@ -3,17 +3,22 @@ use Rattle.std.proofs.Common.{◌≡◌, ◌≢◌, List, [], ◌∷◌, map, tr
 use Rattle.std.proofs.lemmas.Bool.{and_parts, or_left}
 use Rattle.std.specs.List.{list_any, filter}
 use Rattle.std.specs.Ordering.{eq_by_cmp}
+use Rattle.std.specs.FinMap.Entries.{find}
 use Rattle.sorted_keys.specs.Keys.{has}
 use Rattle.rbac_terms.specs.Name.{Name, Permission, Grant, name_cmp, pair_cmp, grant_cmp}
 use Rattle.rbac_terms.specs.Vocabulary.{is_listed}
 use Rattle.rbac_terms.specs.State.{State}
 use Rattle.rbac_terms.specs.Authorization.{inherits_in, has_permission}
+use Rattle.rbac_terms.specs.Effect.{session_holds}
+use Rattle.rbac_terms.specs.Reviews.{session_permissions}
+use Rattle.rbac_terms.specs.Subjects.{permitted_sessions, session_names}
 use Rattle.rbac_terms.specs.Sound.{IsSound}
 use Rattle.sorted_keys.proofs.Ties.{one_key, ties_itself, all_member}
 use Rattle.rbac_terms.proofs.NameLemmas.{pairs_exact, pairs_total, grants_total, grants_exact}
 use Rattle.sorted_keys.proofs.Kept.{was_kept}
 use Rattle.rbac_rolesets.proofs.GrantLemmas.{any_granted, has_granted}
-use Rattle.sorted_keys.proofs.Lists.{any-same}
+use Rattle.sorted_keys.proofs.Lists.{any-same, filter-same}
+use Rattle.rbac_rules.proofs.ReviewLemmas.{holds_what_is_listed}
 
 -- the grants of a permission, and the roles that it is granted to
 abbrev grants_of : State → Permission → List Grant
@@ -55,3 +60,10 @@ has_by_grants s permission roles =
 -- whether a role is one of those that have the permission by themselves
 pub among_granted : (s : State) (permission : Permission) (role : Name) → has name_cmp role (grants_in s permission) ≡ has grant_cmp (permission, role) s.granted
 among_granted s permission role = has_granted permission role s.granted
+
+-- the sessions that a review lists a permission of are those for which a check grants it
+pub checked_sessions : (s : State) (permission : Permission) → IsSound s
+    → permitted_sessions s permission ≡ filter (λ session. session_holds (find name_cmp session s.sessions) s permission) (session_names s)
+checked_sessions s permission h =
+    filter-same (λ session. has pair_cmp permission (session_permissions s session)) (λ session. session_holds (find name_cmp session s.sessions) s permission)
+    (λ session. sym (holds_what_is_listed s session permission h)) (session_names s)

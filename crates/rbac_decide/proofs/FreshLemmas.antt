@@ -68,7 +68,7 @@ breaks_nothing test none roles (e ∷ es) all = λ i. one i || breaks_nothing te
         )))
 
 -- in a sound policy nobody breaks a static set, be it a user or not
-nobody_breaks : (s : State) → IsSound s → (user : Name) → list_any (λ e. is_broken_by (is_authorized s user) e.1) s.static_sets ≡ false
+pub nobody_breaks : (s : State) → IsSound s → (user : Name) → list_any (λ e. is_broken_by (is_authorized s user) e.1) s.static_sets ≡ false
 nobody_breaks s h user = go (has name_cmp user s.users) refl
   where
     go : (b : Bool) → has name_cmp user s.users ≡ b → list_any (λ e. is_broken_by (is_authorized s user) e.1) s.static_sets ≡ false

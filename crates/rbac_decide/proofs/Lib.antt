@@ -1,10 +1,12 @@
 pub mod AffectedLemmas
 pub mod ApplyLemmas
+pub mod BreachLemmas
 pub mod CheckLemmas
 pub mod CountingLemmas
 pub mod CountingSteps
 pub mod EndingLemmas
 pub mod FreshLemmas
+pub mod HindranceLemmas
 pub mod PlanningLemmas
 pub mod SeparationLemmas
 pub mod TablesLemmas

@@ -53,7 +53,7 @@ if_same (Err b) x y f e h = tt
 
 module _ {K X : Type 0} (R : K → K → Ordering) (p : X → Bool) where
   -- where no value passes, some passes after one is put exactly where that one does
-  any_put : (k : K) (v : X) (es : List (K × X)) → list_any (λ e. p e.1) es ≡ false → list_any (λ e. p e.1) (put R k v es) ≡ p v
+  pub any_put : (k : K) (v : X) (es : List (K × X)) → list_any (λ e. p e.1) es ≡ false → list_any (λ e. p e.1) (put R k v es) ≡ p v
   any_put k v [] none = or_none (p v)
     where
       or_none : (b : Bool) → (b || false) ≡ b
@@ -98,7 +98,7 @@ module _ {K X : Type 0} (R : K → K → Ordering) (p : X → Bool) where
       go Greater rest = (λ i. both.0 i && rest i)
 
 -- where a key is found, a change of its value puts the changed one
-put_found : {K X : Type 0} (R : K → K → Ordering) (k : K) (f : X → X) (es : List (K × X)) (v : X) → find R k es ≡ Some v → updated R k f es ≡ put R k (f v) es
+pub put_found : {K X : Type 0} (R : K → K → Ordering) (k : K) (f : X → X) (es : List (K × X)) (v : X) → find R k es ≡ Some v → updated R k f es ≡ put R k (f v) es
 put_found R k f es v found = ap (λ o. option_map_or (λ w. put R k (f w) es) o es) found
 
 -- ---- The sets of a kind
@@ -183,7 +183,7 @@ pub unbroken : (s : State) → IsSound s → (user : Name) → has name_cmp user
 unbroken s h user is = is_false _ (λ e. false≢true (sym h.separation.static ∙ member_any names_total names_exact (breaks_static s) s.users user is e))
 
 module _ (user role : Name) (s : State) where
-  abbrev assigned_state : State
+  abbrev pub assigned_state : State
   assigned_state = record s { assigned = with_key pair_cmp (user, role) s.assigned }
 
   -- with one more assignment the user is authorized for what the role inherits besides
@@ -214,7 +214,7 @@ module _ (user role : Name) (s : State) where
       ∙ breaks_same (is_authorized assigned_state user) (λ r. inherits_in s role r || is_authorized s user r) user_gains s.static_sets
 
 module _ (a d : Name) (s : State) (is_a : has name_cmp a s.roles ≡ true) (is_d : has name_cmp d s.roles ≡ true) where
-  abbrev declared_state : State
+  abbrev pub declared_state : State
   declared_state = record s { declared = with_key pair_cmp (a, d) s.declared }
 
   -- with one more pair, who is authorized for the ascendant gains what the descendant inherits
@@ -237,7 +237,7 @@ module _ (a d : Name) (s : State) (is_a : has name_cmp a s.roles ≡ true) (is_d
       on : (r q : Name) → Inherits s.roles s.declared r q → Inherits s.roles declared_state.declared r q
       on r q i = inherits_still s.roles s.roles s.declared declared_state.declared (λ x m. m) (still pairs_total (a, d) s.declared) r q i
 
-  below_one : IsSound s → (user : Name) → has name_cmp user s.users ≡ true → breaks_static declared_state user ≡ (is_authorized s user a && breaks_with s d user)
+  pub below_one : IsSound s → (user : Name) → has name_cmp user s.users ≡ true → breaks_static declared_state user ≡ (is_authorized s user a && breaks_with s d user)
   below_one h user is = go (is_authorized s user a) refl
     where
       swap : (x y : Bool) → (x || (true && y)) ≡ (y || x)

@@ -1,6 +1,7 @@
 -- What would break separation of duty, asked of the state before the change.
-use Rattle.std.specs.Prelude.{Bool, ◌||◌, ◌&&◌}
-use Rattle.std.specs.List.{list_any}
+use Rattle.std.specs.Prelude.{Bool, ◌||◌, ◌&&◌, Option}
+use Rattle.std.specs.List.{list_any, find as first_where}
+use Rattle.std.specs.Option.{option_map}
 use Rattle.rbac_terms.specs.Name.{Name}
 use Rattle.rbac_terms.specs.State.{State}
 use Rattle.rbac_terms.specs.Separation.{RoleSet, is_broken_by, is_broken, is_constrained}
@@ -24,3 +25,8 @@ breaks_below s ascendant descendant = list_any (λ user. is_authorized s user as
 abbrev pub breaks_set : Separation → State → RoleSet → Bool
 breaks_set Static s set = list_any (λ user. is_broken_by (is_authorized s user) set) s.users
 breaks_set Dynamic s set = list_any (λ x. is_broken x.1.active set) s.sessions
+
+-- the first user, or the first session, that would break the set
+abbrev pub first_holder : Separation → State → RoleSet → Option Name
+first_holder Static s set = first_where (λ user. is_broken_by (is_authorized s user) set) s.users
+first_holder Dynamic s set = option_map (λ x. x.0) (first_where (λ x. is_broken x.1.active set) s.sessions)

@@ -2,7 +2,8 @@
 ghost use Rattle.std.specs.Prelude.{◌≡◌, ◌&&◌, ◌||◌, not, count_by, IfOk, OnOk};
 ghost use Rattle.sorted_keys.specs.Keys.{has};
 ghost use Rattle.rbac_terms.specs.Name.{Name as NameValue, name_cmp};
-ghost use Rattle.std.specs.List.{list_all, list_any};
+ghost use Rattle.std.specs.List.{list_all, list_any, find as first_where};
+ghost use Rattle.std.specs.Option.{option_copied};
 ghost use Rattle.rbac_terms.specs.Inheritance.{inherits};
 ghost use Rattle.rbac_terms.specs.Authorization.{is_authorized, is_entitled};
 ghost use Rattle.rbac_decide.specs.Tables.{state_of_roles};
@@ -98,6 +99,31 @@ pub(crate) fn names_where<T: KeyTest<Name>>(
     let mut kept = NameSet::new(alloc);
     add_where(&mut kept, names, test)?;
     Ok(kept)
+}
+
+// The first of the roles that the role of no assignment inherits.
+fn first_not_inherited<'r>(
+    hierarchy: &Hierarchy,
+    assignments: &[(Name, Name)],
+    roles: &'r [Name],
+) -> Option<&'r Name>
+    ensures { let h = hierarchy.now.content in option_copied result ≡ first_where (λ role. not (list_any (λ pair. inherits h.roles h.declared pair.1 role) assignments.now)) roles.now }
+{
+    roles
+        .iter()
+        .find(|role| !some_inherits(hierarchy, assignments, role))
+}
+
+/// The first of the roles that the user is not authorized for. The user's assignments are found once.
+pub(crate) fn first_unauthorized<'r>(
+    sets: &RoleSets,
+    hierarchy: &Hierarchy,
+    user: &Name,
+    roles: &'r [Name],
+) -> Option<&'r Name>
+    ensures { option_copied result ≡ first_where (λ role. not (is_authorized (state_of_roles sets.now.content hierarchy.now.content) user.now role)) roles.now }
+{
+    first_not_inherited(hierarchy, sets.assignments_of(user), roles)
 }
 
 // The roles that the role of none of the assignments inherits.

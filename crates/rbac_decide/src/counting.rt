@@ -5,7 +5,9 @@ ghost use Rattle.std.specs.Prelude.{◌≡◌, false, not, count_by, IfOk};
 ghost use Rattle.rbac_terms.specs.Separation.{is_broken_by};
 ghost use Rattle.rbac_separation.specs.Counts.{numbers_of, HasRoomFor};
 ghost use Rattle.rbac_decide.specs.Counting.{authorized_by, count_by_tables, breaks_some, AreCountsBy, IsPrepared, IsPlannedBy, counts_planned, without_static, remaining};
-ghost use Rattle.rbac_decide.specs.Tables.{IsUndenied};
+ghost use Rattle.rbac_terms.specs.Vocabulary.{Vocabulary as VocabularyValue};
+ghost use Rattle.rbac_decide.specs.Ground.{IsGround};
+ghost use Rattle.rbac_decide.specs.Tables.{IsUndenied, state_of};
 ghost use Rattle.rbac_decide.specs.declared.counting.PlannedCounts.TheVariants.{Told, Recounted};
 
 mod affected;
@@ -14,6 +16,7 @@ mod told;
 use crate::authorization::count_authorized;
 use crate::counting::affected::affected_pairs;
 use crate::counting::told::{told_of_assignment, told_of_inheritance};
+use crate::gathered::Ground;
 use crate::tables::Tables;
 use rbac_separation::{CountChange, CountPlan, Counts, Numbering, RecountPlan, RoleSet};
 use rbac_terms::{Command, Name, Separation};
@@ -119,8 +122,10 @@ pub(crate) fn plan_counts(
     alloc: Global,
     tables: &Tables,
     command: &Command,
+    gathered: &Ground,
     counts: &mut Counts,
 ) -> Result<PlannedCounts, AllocError>
+    requires grounded { (v : VocabularyValue) × IsGround command.now (state_of tables.now v) gathered.now }
     requires counted { AreCountsBy tables.now counts.old }
     requires undenied { IsUndenied command.now tables.now }
     ensures numbers { numbers_of counts.new ≡ numbers_of counts.old }
@@ -129,14 +134,21 @@ pub(crate) fn plan_counts(
 {
     match command {
         Command::AssignUser { user, role } => {
-            let told = told_of_assignment(alloc, tables, counts, user, role)?;
+            let told = told_of_assignment(alloc, tables, counts, user, role, &gathered.below)?;
             plan_told(counts, told)
         }
         Command::AddInheritance {
             ascendant,
             descendant,
         } => {
-            let told = told_of_inheritance(alloc, tables, counts, ascendant, descendant)?;
+            let told = told_of_inheritance(
+                alloc,
+                tables,
+                counts,
+                ascendant,
+                descendant,
+                &gathered.below,
+            )?;
             plan_told(counts, told)
         }
         _ => plan_recounted(counts, affected_pairs(alloc, tables, command)?),

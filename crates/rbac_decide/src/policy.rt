@@ -11,19 +11,19 @@ ghost use Rattle.rbac_terms.specs.Sound.{IsSound};
 ghost use Rattle.rbac_decide.specs.Counting.{AreCounts};
 
 mod access;
+mod breach;
 mod broken_sets;
-mod denial;
+mod deciding;
 mod fresh_roles;
-mod hindrance;
 mod lists;
 mod review;
 mod separation;
-mod violation;
+mod subjects;
 
 use crate::authorization::some_inherits_some;
 use crate::both::both;
 use crate::counting::{commit_counts, plan_counts};
-use crate::policy::hindrance::Hindrance;
+use crate::hindrance::Obstacle;
 use crate::tables::Tables;
 use digests::Digest;
 use rbac_separation::Counts;
@@ -77,12 +77,12 @@ impl Policy {
         ensures unchanged { OnErr result (self.new ≡ self.old) }
     {
         command.invariants();
-        match self.may_apply(alloc, command) {
-            Ok(()) => {}
-            Err(Hindrance::Denied(denial)) => return Ok(Answer::Denied(denial)),
-            Err(Hindrance::NoMemory) => return Err(AllocError),
-        }
-        let counts = plan_counts(alloc, &self.tables, command, &mut self.counts)?;
+        let gathered = match self.decide(alloc, command) {
+            Ok(gathered) => gathered,
+            Err(Obstacle::Denied(hindrance)) => return Ok(Answer::Denied(hindrance.denial)),
+            Err(Obstacle::NoMemory) => return Err(AllocError),
+        };
+        let counts = plan_counts(alloc, &self.tables, command, &gathered, &mut self.counts)?;
         let tables = self.tables.plan(alloc, command)?;
         self.tables.commit(command, tables);
         commit_counts(&self.tables, command, counts, &mut self.counts);

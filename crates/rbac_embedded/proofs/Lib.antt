@@ -1,1 +1,2 @@
 mod NoEffect
+mod ExplainingLemmas

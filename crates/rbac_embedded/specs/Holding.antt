@@ -5,6 +5,7 @@ use Rattle.rbac_embedded.specs.Calls.{applied, founded, verdict}
 use Rattle.rbac_dump.specs.DumpText.{dump_text, IsReadBack}
 use Rattle.rbac_founding.specs.FoundingFile.{Reading as ReadingFile}
 use Rattle.rbac_text.specs.Fields.{Reading}
+use Rattle.rbac_embedded.specs.Subjects.{Told}
 use Rattle.rbac_embedded.specs.declared.status.Status.{Status}
 use Rattle.rbac_embedded.specs.declared.status.Status.TheVariants.{Done, EmptyPlace, FullPlace, ShortBuffer, Checked, BadFounding, BadCommand}
 
@@ -111,6 +112,24 @@ dump_length (Some kept) = length (dump_text kept.state)
 abbrev pub IsDumpRead : Option Kept → Type 0
 IsDumpRead None = ⊤
 IsDumpRead (Some kept) = IsReadBack kept.state
+
+-- ---- Subjects: a text that the policy tells, in a caller's buffer
+
+abbrev pub asked : (Kept → Told) → Option Kept → Told
+asked told None = Err EmptyPlace
+asked told (Some kept) = told kept
+
+abbrev pub told_status : Told → List ℕ → Status
+told_status (Ok text) buffer = room_status text buffer
+told_status (Err status) buffer = status
+
+abbrev pub told_buffer : Told → List ℕ → List ℕ
+told_buffer (Ok text) buffer = with_text text buffer
+told_buffer (Err status) buffer = buffer
+
+abbrev pub told_length : Told → ℕ
+told_length (Ok text) = length text
+told_length (Err status) = 0
 
 -- ---- Close
 

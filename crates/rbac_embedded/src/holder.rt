@@ -1,7 +1,9 @@
 //! A place for one monitor: the calls that another language makes, over values.
 ghost use Rattle.std.specs.Prelude.{◌≡◌, ◌≢◌, None, option_map};
-ghost use Rattle.rbac_embedded.specs.Holding.{answer_buffer, answer_length, answer_status, apply_buffer, apply_kept, apply_length, apply_status, check_status, close_status, dump_buffer, dump_length, dump_status, open_status, opened, IsDumpRead};
+ghost use Rattle.rbac_embedded.specs.Holding.{answer_buffer, answer_length, answer_status, apply_buffer, apply_kept, apply_length, apply_status, asked, check_status, close_status, dump_buffer, dump_length, dump_status, open_status, opened, told_buffer, told_length, told_status, IsDumpRead};
 ghost use Rattle.rbac_embedded.specs.Status.{no_memory, status_number};
+ghost use Rattle.rbac_embedded.specs.Subjects.{subjects, Told};
+ghost use Rattle.rbac_embedded.specs.Explaining.{IsExplanation};
 
 use crate::buffer::tell;
 use crate::monitor::Monitor;
@@ -136,6 +138,56 @@ impl Holder {
             Some(monitor) => match monitor.dump(alloc) {
                 Ok(text) => tell(&text, out, written),
                 Err(_) => Status::NoMemory,
+            },
+            None => Status::EmptyPlace,
+        }
+    }
+
+    /// The text of why the command that a text asks for would be denied, or why a check is granted or refused, as `apply` puts a text.
+    /// Changes nothing.
+    pub fn explain(
+        &self,
+        alloc: Global,
+        command: &[u8],
+        out: &mut [u8],
+        written: &mut usize,
+    ) -> Status
+        ensures told { status_number result ≢ no_memory → (told : Told) × IsExplanation command.now self.now told × (result ≡ told_status told out.old) × (out.new ≡ told_buffer told out.old) × (written.new ≡ told_length told) }
+        ensures buffer_unchanged { status_number result ≡ no_memory → out.new ≡ out.old }
+        ensures no_length { status_number result ≡ no_memory → written.new ≡ 0 }
+    {
+        *written = 0;
+        match &self.monitor {
+            Some(monitor) => match monitor.explain(alloc, command) {
+                Ok(text) => tell(&text, out, written),
+                Err(status) => status,
+            },
+            None => Status::EmptyPlace,
+        }
+    }
+
+    /// The text of who may perform the operation on the object, as `apply` puts a text: `{"sessions":[..],"users":[..]}`, each list
+    /// sorted by bytes. Changes nothing. What is told is the first that applies: that there is no policy; that one of the texts is no
+    /// name; that there is no such operation, no such object.
+    pub fn subjects(
+        &self,
+        alloc: Global,
+        operation: &[u8],
+        object: &[u8],
+        out: &mut [u8],
+        written: &mut usize,
+    ) -> Status
+        ensures told { status_number result ≢ no_memory → result ≡ told_status (asked (λ kept. subjects operation.now object.now kept.state) self.now) out.old }
+        ensures buffer { status_number result ≢ no_memory → out.new ≡ told_buffer (asked (λ kept. subjects operation.now object.now kept.state) self.now) out.old }
+        ensures length { status_number result ≢ no_memory → written.new ≡ told_length (asked (λ kept. subjects operation.now object.now kept.state) self.now) }
+        ensures buffer_unchanged { status_number result ≡ no_memory → out.new ≡ out.old }
+        ensures no_length { status_number result ≡ no_memory → written.new ≡ 0 }
+    {
+        *written = 0;
+        match &self.monitor {
+            Some(monitor) => match monitor.subjects(alloc, operation, object) {
+                Ok(text) => tell(&text, out, written),
+                Err(status) => status,
             },
             None => Status::EmptyPlace,
         }

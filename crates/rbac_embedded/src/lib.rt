@@ -2,9 +2,11 @@
 #![tactic(auto)]
 
 pub mod buffer;
+pub mod explaining;
 mod holder;
 mod monitor;
 pub mod status;
+pub mod subjects;
 pub mod verdict;
 
 pub use holder::Holder;

@@ -6,7 +6,14 @@ ghost use Rattle.rbac_terms.specs.Reviews.{session_permissions};
 ghost use Rattle.rbac_text.specs.AnswerText.{answer_text};
 ghost use Rattle.rbac_dump.specs.DumpText.{dump_text, IsReadBack};
 ghost use Rattle.rbac_embedded.specs.Calls.{after, applied, founded, verdict};
+ghost use Rattle.rbac_embedded.specs.Status.{no_memory, status_number};
+ghost use Rattle.rbac_embedded.specs.Subjects.{subjects};
+ghost use Rattle.rbac_embedded.specs.Explaining.{TellsAsked};
+ghost use Rattle.rbac_text.specs.Asked.{asked};
 
+use crate::explaining::explanation_text;
+use crate::status::Status;
+use crate::subjects::subjects_text;
 use crate::verdict::{Verdict, check};
 use rbac_decide::Policy;
 use rbac_dump::dump_lines;
@@ -97,6 +104,45 @@ impl Monitor {
         ensures listed { result ≡ Verdict.Granted → IsTrue (has pair_cmp (operation.now, object.now) (session_permissions self.now.state session.now)) }
     {
         check(&self.policy, session, operation, object)
+    }
+
+    /// The text of who may perform the operation on the object.
+    ///
+    /// # Errors
+    /// The first that applies: that one of the texts is no name; that there is no such operation, no such object. `NoMemory` where
+    /// memory ends.
+    pub fn subjects(
+        &self,
+        alloc: Global,
+        operation: &[u8],
+        object: &[u8],
+    ) -> Result<Vec<u8>, Status>
+        ensures text { IfOk result (λ text. subjects operation.now object.now self.now.state ≡ Ok text.items) }
+        ensures none { IfErr result (λ status. status_number status ≢ no_memory → subjects operation.now object.now self.now.state ≡ Err status) }
+    {
+        subjects_text(alloc, &self.policy, operation, object)
+    }
+
+    /// The text of why the command that a text asks for would be denied, or why a check is granted or refused (`explanation_text`). It
+    /// changes nothing.
+    ///
+    /// # Errors
+    /// Why the text is refused; `NoMemory` where memory ends.
+    pub fn explain(&self, alloc: Global, text: &[u8]) -> Result<Vec<u8>, Status>
+        ensures told { IfOk result (λ told. TellsAsked (asked text.now) self.now.state (Ok told.items)) }
+        ensures refused { IfErr result (λ status. status_number status ≢ no_memory → TellsAsked (asked text.now) self.now.state (Err status)) }
+    {
+        match read_asked(alloc, text) {
+            Err(refusal) => Err(Status::BadCommand(refusal)),
+            Ok(command) => {
+                let told = explanation_text(alloc, &self.policy, &command);
+                drop(command);
+                match told {
+                    Ok(told) => Ok(told),
+                    Err(_) => Err(Status::NoMemory),
+                }
+            }
+        }
     }
 
     /// The lines of the policy's dump, which `apply` reads as just the dump's commands. A policy that was just founded with its vocabulary

@@ -19,7 +19,7 @@ pub enum Status {
     ShortBuffer,
     /// Memory ran out. Nothing has changed.
     NoMemory,
-    /// What a check tells.
+    /// What a check tells, or why those who may are not told.
     Checked(Verdict),
     /// The founding file is refused, or memory ran out.
     BadFounding(FoundingRefusal),

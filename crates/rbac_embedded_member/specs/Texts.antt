@@ -15,6 +15,7 @@ use Rattle.rbac_text.specs.AnswerText.{answer_text as reply_text}
 use Rattle.rbac_text.specs.Fields.{Reading}
 use Rattle.rbac_decide.specs.Asking.{is_question}
 use Rattle.rbac_dump.specs.DumpText.{dump_text}
+use Rattle.rbac_embedded.specs.Subjects.{Told as PolicyTold, subjects as policy_subjects}
 use Rattle.rbac_embedded.specs.declared.status.Status.TheVariants.{BadCommand}
 use Rattle.rbac_message_text.specs.MessageText.{longest_message, message_text}
 use Rattle.rbac_message_text.specs.Message.{message_read, commands_read}
@@ -48,6 +49,14 @@ policy_dump v = Ok (dump_text v.policy)
 -- the answer that a command would have by its policy, where that is a review or a check, which change nothing
 abbrev pub question_told : Command → Member → Told
 question_told asked v = if is_question asked then Ok (reply_text (reply asked v.policy)) else Err NotAReview
+
+-- who may perform an operation on an object by its policy
+abbrev pub plain_told : PolicyTold → Told
+plain_told (Ok text) = Ok text
+plain_told (Err status) = Err (Plain status)
+
+abbrev pub subjects : List ℕ → List ℕ → Member → Told
+subjects operation object v = plain_told (policy_subjects operation object v.policy)
 
 -- that message's text, where it is not too long, reads as it
 abbrev pub ReadsBackAs : Option Message → Type 0

@@ -7,7 +7,7 @@ ghost use Rattle.rbac_embedded_member.specs.Holding.{asked, check_status, number
 ghost use Rattle.rbac_embedded_member.specs.Observing.{acting_step, acting_told, answering, receiving};
 ghost use Rattle.rbac_embedded_member.specs.Status.{status_number};
 ghost use Rattle.rbac_embedded_member.specs.Step.{deliver_step, submit_batch_step, submit_step, take_own_step};
-ghost use Rattle.rbac_embedded_member.specs.Texts.{message_at, next_submit, next_submit_batch, policy_dump, record_at, review};
+ghost use Rattle.rbac_embedded_member.specs.Texts.{message_at, next_submit, next_submit_batch, policy_dump, record_at, review, subjects};
 
 use crate::kept::{KeptMember, not_read};
 use crate::status::MemberStatus;
@@ -501,6 +501,31 @@ impl MemberHolder {
             }
             Err(refusal) => Err(not_read(refusal)),
         };
+        tell_text(told, out, written)
+    }
+
+    /// The text of who may perform the operation on the object by the policy that the member's history left, which is the member's own
+    /// and may be behind that of others; nothing changes. What is told is the first that applies: that there is no member; that one of the
+    /// texts is no name; that there is no such operation, no such object.
+    pub fn subjects(
+        &self,
+        alloc: Global,
+        operation: &[u8],
+        object: &[u8],
+        out: &mut [u8],
+        written: &mut usize,
+    ) -> MemberStatus
+        ensures told { status_number result ≢ no_memory → result ≡ text_status (asked (λ k. subjects operation.now object.now k.member) self.now) out.old }
+        ensures buffer { status_number result ≢ no_memory → out.new ≡ text_buffer (asked (λ k. subjects operation.now object.now k.member) self.now) out.old }
+        ensures length { status_number result ≢ no_memory → written.new ≡ text_length (asked (λ k. subjects operation.now object.now k.member) self.now) }
+        ensures buffer_unchanged { status_number result ≡ no_memory → out.new ≡ out.old }
+        ensures no_length { status_number result ≡ no_memory → written.new ≡ 0 }
+    {
+        *written = 0;
+        let Some(kept) = &self.kept else {
+            return EMPTY;
+        };
+        let told = reviews::subjects_told(alloc, &kept.member, operation, object);
         tell_text(told, out, written)
     }
 

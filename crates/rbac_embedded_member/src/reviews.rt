@@ -5,12 +5,13 @@ ghost use Rattle.rbac_text.specs.AnswerText.{answer_text};
 ghost use Rattle.rbac_decide.specs.Asking.{is_question};
 ghost use Rattle.rbac_embedded.specs.Status.{no_memory};
 ghost use Rattle.rbac_embedded_member.specs.Status.{status_number};
-ghost use Rattle.rbac_embedded_member.specs.Texts.{question_told};
+ghost use Rattle.rbac_embedded_member.specs.Texts.{question_told, subjects};
 
 use crate::status::MemberStatus;
 use crate::texts::Told;
 use rbac_decide::Policy;
 use rbac_embedded::Status;
+use rbac_embedded::subjects::subjects_text;
 use rbac_member::Member;
 use rbac_terms::{Answer, Command, Name};
 use rbac_text::put_answer;
@@ -79,5 +80,16 @@ pub fn question_told(alloc: Global, member: &Member, command: &Command) -> Told
     match answer_text(alloc, member.policy(), command) {
         Ok(text) => Ok(text),
         Err(AllocError) => Err(MemberStatus::Plain(Status::NoMemory)),
+    }
+}
+
+/// The text of who may perform the operation on the object by a member's policy.
+pub fn subjects_told(alloc: Global, member: &Member, operation: &[u8], object: &[u8]) -> Told
+    ensures text { IfOk result (λ text. subjects operation.now object.now member.now ≡ Ok text.items) }
+    ensures none { IfErr result (λ status. status_number status ≢ no_memory → subjects operation.now object.now member.now ≡ Err status) }
+{
+    match subjects_text(alloc, member.policy(), operation, object) {
+        Ok(text) => Ok(text),
+        Err(status) => Err(MemberStatus::Plain(status)),
     }
 }

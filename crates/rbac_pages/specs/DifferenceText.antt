@@ -1,5 +1,5 @@
 -- What one policy has that another has not, by the lines of their dumps.
-use Rattle.std.specs.Prelude.{List, [], ℕ, ◌++◌, Bool, not, codes}
+use Rattle.std.specs.Prelude.{List, ℕ, ◌++◌, Bool, not, codes}
 use Rattle.std.specs.List.{flat_map, filter, list_any}
 use Rattle.std.specs.Ordering.{eq_by_cmp, nat_cmp}
 use Rattle.std.specs.Cmp.Lexicographic.{slice_cmp}

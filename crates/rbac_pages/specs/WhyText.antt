@@ -12,9 +12,10 @@ use Rattle.rbac_terms.specs.declared.answer.Answer.TheVariants.{Refused, Denied 
 use Rattle.rbac_terms.specs.declared.answer.Denial.{Denial}
 use Rattle.rbac_terms.specs.declared.command.Command.{Command}
 use Rattle.rbac_terms.specs.declared.command.Command.TheVariants.{AddActiveRole, CheckAccess}
-use Rattle.rbac_reasons.specs.Hindrance.{denial_of, Hinders}
+use Rattle.rbac_decide.specs.Hindrance.{Hindrance, first_hindrance}
+use Rattle.rbac_reasons.specs.Explanation.{Explains}
 use Rattle.rbac_reasons.specs.Reason.{IsReason}
-use Rattle.rbac_reasons.specs.declared.told.Hindrance.{Hindrance}
+use Rattle.rbac_reasons.specs.declared.told.Explanation.{Explanation}
 use Rattle.rbac_reasons.specs.declared.told.Reason.{Reason}
 use Rattle.rbac_pages.specs.GranteeText.{grantees}
 use Rattle.rbac_pages.specs.HindranceText.{denied_text}
@@ -61,7 +62,8 @@ TellsCheck false s session permission text = text ≡ refused_text s session per
 
 -- what is told of a command: what stands in its way, or why a check is granted or refused, or that nothing does
 abbrev pub TellsUnless : Option Denial → Command → State → List ℕ → Type 0
-TellsUnless (Some denial) c s text = (hindrance : Hindrance) × (denial_of hindrance ≡ denial) × Hinders c s hindrance × (text ≡ denied_text hindrance)
+TellsUnless (Some denial) c s text =
+    (hindrance : Hindrance) × (explanation : Explanation) × (first_hindrance c s ≡ Some hindrance) × Explains c s hindrance explanation × (text ≡ denied_text hindrance explanation)
 TellsUnless None (CheckAccess session operation object) s text =
     TellsCheck (session_holds (find name_cmp session s.sessions) s (operation, object)) s session (operation, object) text
 TellsUnless None c s text = text ≡ codes "Not denied: no precondition fails\n"

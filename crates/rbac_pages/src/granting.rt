@@ -6,16 +6,15 @@ ghost use Rattle.rbac_terms.specs.Name.{name_cmp};
 ghost use Rattle.rbac_terms.specs.Effect.{reply};
 ghost use Rattle.rbac_terms.specs.Rows.{first_denial};
 ghost use Rattle.rbac_terms.specs.declared.command.Command.TheVariants.{AddActiveRole, CheckAccess};
-ghost use Rattle.rbac_reasons.specs.Hindrance.{denial_of};
 ghost use Rattle.rbac_pages.specs.WhyText.{inherits_text, granted_text, reason_text, activation_text, grantees_text, refused_text, verdict_of, TellsWhy};
 
 use crate::explanation::{Explanation, Verdict};
 use crate::grantees::grantees;
 use crate::hindering::denied_text;
 use crate::text::{Teller, put_all};
-use rbac_decide::Policy;
-use rbac_reasons::{Hindrance, Reason, hindrance, reason};
-use rbac_terms::{Command, Name};
+use rbac_decide::{Obstacle, Policy};
+use rbac_reasons::{Reason, hindrance, reason};
+use rbac_terms::{Command, Denial, Name};
 use std::alloc::{AllocError, Global};
 
 // The session and its active role.
@@ -85,18 +84,19 @@ fn put_activation(
 ) -> Result<(), AllocError>
     ensures { OnOk result (text.new.items ≡ text.old.items ++ activation_text (first_denial command.now policy.now)) }
 {
-    match hindrance(alloc, policy, command)? {
-        None => text.extend_from_slice(b" would grant it, and can be activated\n"),
-        Some(found) => put_denied(text, &found),
+    match policy.decide(alloc, command) {
+        Ok(_) => text.extend_from_slice(b" would grant it, and can be activated\n"),
+        Err(Obstacle::Denied(hindrance)) => put_denied(text, hindrance.denial),
+        Err(Obstacle::NoMemory) => Err(AllocError),
     }
 }
 
 // That a role can't be activated.
-fn put_denied(text: &mut Vec<u8>, found: &Hindrance) -> Result<(), AllocError>
-    ensures { OnOk result (text.new.items ≡ text.old.items ++ activation_text (Some (denial_of found.now))) }
+fn put_denied(text: &mut Vec<u8>, denial: Denial) -> Result<(), AllocError>
+    ensures { OnOk result (text.new.items ≡ text.old.items ++ activation_text (Some denial)) }
 {
     text.extend_from_slice(b" would grant it, but activating it is denied: ")?;
-    text.extend_from_slice(found.denial().word().as_bytes())?;
+    text.extend_from_slice(denial.word().as_bytes())?;
     text.extend_from_slice(b"\n")
 }
 

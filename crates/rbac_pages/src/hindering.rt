@@ -2,11 +2,13 @@
 ghost use Rattle.std.specs.Prelude.{◌≡◌, ◌++◌, length, codes, IfOk, OnOk};
 ghost use Rattle.std.specs.List.{flat_map};
 ghost use Rattle.rbac_pages.specs.PageText.{name_text};
-ghost use Rattle.rbac_pages.specs.HindranceText.{named, numbered, kind_word, counted_word, set_named, excess_text, hindrance_sentence, denied_text};
+ghost use Rattle.rbac_decide.specs.Hindrance.{names_of, told_by};
+ghost use Rattle.rbac_pages.specs.HindranceText.{named, numbered, inherited_text, kind_word, holder_word, counted_word, set_named, excess_text, words_of, pair_text, names_text, besides_text, denied_text};
 
 use crate::text::{NameTeller, Teller, put, put_all};
-use rbac_reasons::{Counted, Hindrance};
-use rbac_terms::{Name, NameSet, Separation};
+use rbac_decide::{Counted, Named};
+use rbac_reasons::{Chain, Explained, Explanation};
+use rbac_terms::{Denial, Name, NameSet, Separation};
 use std::alloc::{AllocError, Global};
 
 // Words, and a name behind them.
@@ -33,6 +35,15 @@ fn kind_word(kind: Separation) -> &'static str
     match kind {
         Separation::Static => "static",
         Separation::Dynamic => "dynamic",
+    }
+}
+
+fn holder_word(kind: Separation) -> &'static str
+    ensures { result.now ≡ holder_word kind }
+{
+    match kind {
+        Separation::Static => "user ",
+        Separation::Dynamic => "session ",
     }
 }
 
@@ -82,24 +93,6 @@ fn put_excess(text: &mut Vec<u8>, count: usize, number: u32) -> Result<(), Alloc
     put_numbered(text, " of at most ", u64::from(number).saturating_sub(1))
 }
 
-// Who would break a set, the roles by which, and how many they are.
-fn put_breach(
-    text: &mut Vec<u8>,
-    words: &str,
-    holder: &Name,
-    others: &str,
-    set: &Name,
-    roles: &NameSet,
-    number: u32,
-) -> Result<(), AllocError>
-    ensures { OnOk result (text.new.items ≡ text.old.items ++ (named words.now holder.now ++ named others.now set.now ++ codes ":" ++ flat_map name_text roles.now ++ excess_text (length roles.now) number)) }
-{
-    put_both(text, words, holder, others, set)?;
-    text.extend_from_slice(b":")?;
-    put_all(text, &NameTeller, roles.names())?;
-    put_excess(text, roles.len(), number)
-}
-
 /// The next role that is inherited.
 #[derive(Drop)]
 struct InheritedTeller;
@@ -114,163 +107,155 @@ impl Teller<Name, u8> for InheritedTeller {
     }
 }
 
-/// Puts the sentence of a hindrance behind what the buffer has.
-pub(crate) fn put_hindrance(text: &mut Vec<u8>, hindrance: &Hindrance) -> Result<(), AllocError>
-    ensures { OnOk result (text.new.items ≡ text.old.items ++ hindrance_sentence hindrance.now) }
+// What each denial says of its names.
+fn words_of(denial: Denial) -> &'static str
+    ensures { result.now ≡ words_of denial }
 {
-    match hindrance {
-        Hindrance::UserExists { user } => put_named(text, "there is already a user ", user),
-        Hindrance::NoUser { user } => put_named(text, "there is no user ", user),
-        Hindrance::RoleExists { role } => put_named(text, "there is already a role ", role),
-        Hindrance::NoRole { role } => put_named(text, "there is no role ", role),
-        Hindrance::Assigned { user, role } => {
-            put_both(text, "user ", user, " is already assigned role ", role)
+    match denial {
+        Denial::UserExists => "there is already a user ",
+        Denial::NoUser => "there is no user ",
+        Denial::RoleExists => "there is already a role ",
+        Denial::NoRole => "there is no role ",
+        Denial::Assigned => " is already assigned role ",
+        Denial::NotAssigned => " is not assigned role ",
+        Denial::NoPermission => "the founding has no permission ",
+        Denial::NotGranted => " itself is not granted ",
+        Denial::SessionExists => "there is already a session ",
+        Denial::NoSession => "there is no session ",
+        Denial::NotOwner => "the session belongs to user ",
+        Denial::NotAuthorized => "the user is not authorized for role ",
+        Denial::RoleActive => " is already active in session ",
+        Denial::RoleNotActive => " is not active in session ",
+        Denial::Inherits => " is already declared to inherit role ",
+        Denial::NoInheritance => " is not declared to inherit role ",
+        Denial::Cycle => "the roles would inherit each other: ",
+        Denial::SsdViolated => " would be authorized for too many roles of static set ",
+        Denial::DsdViolated => " would have too many active roles of dynamic set ",
+        Denial::SetExists => "there is already a ",
+        Denial::NoSet => "there is no ",
+        Denial::BadCardinality => "the ",
+        Denial::InSet => " is already in the ",
+        Denial::NotInSet => " is not in the ",
+        Denial::RoleConstrained => "the role is in the ",
+        Denial::Limit => "there can be no more ",
+        Denial::NoOperation => "the founding has no operation ",
+        Denial::NoObject => "the founding has no object ",
+        Denial::Limited => "the hierarchy is limited, and the ascendant already inherits role ",
+    }
+}
+
+// A pair: of one that would close a cycle the chain is told, and of a limited ascendant its descendant.
+fn put_pair(
+    text: &mut Vec<u8>,
+    denial: Denial,
+    ascendant: &Name,
+    descendant: &Name,
+) -> Result<(), AllocError>
+    ensures { OnOk result (text.new.items ≡ text.old.items ++ pair_text denial ascendant.now descendant.now) }
+{
+    let words = words_of(denial);
+    match denial {
+        Denial::Cycle => text.extend_from_slice(words.as_bytes()),
+        Denial::Limited => put_named(text, words, descendant),
+        _ => put_both(text, "role ", ascendant, words, descendant),
+    }
+}
+
+// The names of a denial, with its words.
+fn put_names(text: &mut Vec<u8>, denial: Denial, named: Named<'_>) -> Result<(), AllocError>
+    ensures { OnOk result (text.new.items ≡ text.old.items ++ names_text denial (names_of named.entry)) }
+{
+    let words = words_of(denial);
+    match named {
+        Named::User { user } => put_named(text, words, user),
+        Named::Role { role } => put_named(text, words, role),
+        Named::Session { session } => put_named(text, words, session),
+        Named::Operation { operation } => put_named(text, words, operation),
+        Named::Object { object } => put_named(text, words, object),
+        Named::Permission { operation, object } => {
+            put_both(text, words, operation, " on ", object)
         }
-        Hindrance::NotAssigned { user, role } => {
-            put_both(text, "user ", user, " is not assigned role ", role)
-        }
-        Hindrance::NoPermission { operation, object } => {
-            put_both(
-                text,
-                "the founding has no permission ",
-                operation,
-                " on ",
-                object,
-            )
-        }
-        Hindrance::NotGranted {
+        Named::Grant {
             operation,
             object,
             role,
         } => {
-            put_both(text, "role ", role, " itself is not granted ", operation)?;
-            put_named(text, " on ", object)
-        }
-        Hindrance::SessionExists { session } => {
-            put_named(text, "there is already a session ", session)
-        }
-        Hindrance::NoSession { session } => put_named(text, "there is no session ", session),
-        Hindrance::NotOwner { owner } => put_named(text, "the session belongs to user ", owner),
-        Hindrance::NotAuthorized { role } => {
-            put_named(text, "the user is not authorized for role ", role)
-        }
-        Hindrance::RoleActive { session, role } => {
-            put_both(
-                text,
-                "role ",
-                role,
-                " is already active in session ",
-                session,
-            )
-        }
-        Hindrance::RoleNotActive { session, role } => {
-            put_both(text, "role ", role, " is not active in session ", session)
-        }
-        Hindrance::Inherits {
-            ascendant,
-            descendant,
-        } => put_both(
-            text,
-            "role ",
-            ascendant,
-            " is already declared to inherit role ",
-            descendant,
-        ),
-        Hindrance::NoInheritance {
-            ascendant,
-            descendant,
-        } => put_both(
-            text,
-            "role ",
-            ascendant,
-            " is not declared to inherit role ",
-            descendant,
-        ),
-        Hindrance::Cycle { chain } => {
-            put_named(text, "the roles would inherit each other: ", &chain.first)?;
-            put_all(text, &InheritedTeller, &chain.rest)
-        }
-        Hindrance::SsdViolated {
-            user,
-            set,
-            roles,
-            number,
-        } => {
-            let words = " would be authorized for too many roles of static set ";
-            put_breach(text, "user ", user, words, set, roles, *number)
-        }
-        Hindrance::DsdViolated {
-            session,
-            set,
-            roles,
-            number,
-        } => {
-            let words = " would have too many active roles of dynamic set ";
-            put_breach(text, "session ", session, words, set, roles, *number)
-        }
-        Hindrance::SetExists { kind, set } => put_set(text, "there is already a ", *kind, set),
-        Hindrance::NoSet { kind, set } => put_set(text, "there is no ", *kind, set),
-        Hindrance::BadCardinality {
-            kind,
-            set,
-            size,
-            number,
-        } => put_sizes(text, *kind, set, *size, *number),
-        Hindrance::InSet { kind, set, role } => {
             put_named(text, "role ", role)?;
-            put_set(text, " is already in the ", *kind, set)
+            put_both(text, words, operation, " on ", object)
         }
-        Hindrance::NotInSet { kind, set, role } => {
+        Named::Assignment { user, role } => put_both(text, "user ", user, words, role),
+        Named::Activation { session, role } => put_both(text, "role ", role, words, session),
+        Named::Pair {
+            ascendant,
+            descendant,
+        } => put_pair(text, denial, ascendant, descendant),
+        Named::Set { kind, set } => put_set(text, words, kind, set),
+        Named::Member { kind, set, role } => {
             put_named(text, "role ", role)?;
-            put_set(text, " is not in the ", *kind, set)
+            put_set(text, words, kind, set)
         }
-        Hindrance::RoleConstrained { kind, set } => {
-            put_set(text, "the role is in the ", *kind, set)
+        Named::Breach { kind, holder, set } => {
+            put_both(text, holder_word(kind), holder, words, set)
         }
-        Hindrance::Limit { counted } => put_limit(text, *counted),
-        Hindrance::NoOperation { operation } => {
-            put_named(text, "the founding has no operation ", operation)
-        }
-        Hindrance::NoObject { object } => put_named(text, "the founding has no object ", object),
-        Hindrance::Limited { descendant } => {
-            let words = "the hierarchy is limited, and the ascendant already inherits role ";
-            put_named(text, words, descendant)
-        }
+        Named::Count { counted } => put_count(text, words, counted),
     }
 }
 
-// The number and the size of a set.
-fn put_sizes(
-    text: &mut Vec<u8>,
-    kind: Separation,
-    set: &Name,
-    size: usize,
-    number: u32,
-) -> Result<(), AllocError>
-    ensures { OnOk result (text.new.items ≡ text.old.items ++ (set_named (codes "the ") kind set.now ++ numbered (codes " would have the number ") number ++ numbered (codes " and this many roles: ") size)) }
+// What there can be no more of.
+fn put_count(text: &mut Vec<u8>, words: &str, counted: Counted) -> Result<(), AllocError>
+    ensures { OnOk result (text.new.items ≡ text.old.items ++ (words.now ++ counted_word counted)) }
 {
-    put_set(text, "the ", kind, set)?;
+    text.extend_from_slice(words.as_bytes())?;
+    text.extend_from_slice(counted_word(counted).as_bytes())
+}
+
+// The roles of a breach, and how many they are.
+fn put_breach(text: &mut Vec<u8>, roles: &NameSet, number: u32) -> Result<(), AllocError>
+    ensures { OnOk result (text.new.items ≡ text.old.items ++ (codes ":" ++ flat_map name_text roles.now ++ excess_text (length roles.now) number)) }
+{
+    text.extend_from_slice(b":")?;
+    put_all(text, &NameTeller, roles.names())?;
+    put_excess(text, roles.len(), number)
+}
+
+// The roles of a cycle.
+fn put_chain(text: &mut Vec<u8>, chain: &Chain) -> Result<(), AllocError>
+    ensures { OnOk result (text.new.items ≡ text.old.items ++ (chain.now.first ++ flat_map inherited_text chain.now.rest.items)) }
+{
+    text.extend_from_slice(chain.first.as_bytes())?;
+    put_all(text, &InheritedTeller, &chain.rest)
+}
+
+// The number and the size of a set.
+fn put_sizes(text: &mut Vec<u8>, size: usize, number: u32) -> Result<(), AllocError>
+    ensures { OnOk result (text.new.items ≡ text.old.items ++ (numbered (codes " would have the number ") number ++ numbered (codes " and this many roles: ") size)) }
+{
     put_numbered(text, " would have the number ", u64::from(number))?;
     put_numbered(text, " and this many roles: ", size as u64)
 }
 
-// What there can be no more of.
-fn put_limit(text: &mut Vec<u8>, counted: Counted) -> Result<(), AllocError>
-    ensures { OnOk result (text.new.items ≡ text.old.items ++ (codes "there can be no more " ++ counted_word counted)) }
+// What is told besides the names.
+fn put_besides(text: &mut Vec<u8>, explanation: &Explanation) -> Result<(), AllocError>
+    ensures { OnOk result (text.new.items ≡ text.old.items ++ besides_text explanation.now) }
 {
-    text.extend_from_slice(b"there can be no more ")?;
-    text.extend_from_slice(counted_word(counted).as_bytes())
+    match explanation {
+        Explanation::Nothing => Ok(()),
+        Explanation::Breach { roles, number } => put_breach(text, roles, *number),
+        Explanation::Cycle { chain } => put_chain(text, chain),
+        Explanation::Size { size, number } => put_sizes(text, *size, *number),
+    }
 }
 
 /// What is told of a denied command: the word of its denial, and the sentence of what stands in its way.
-pub(crate) fn denied_text(alloc: Global, hindrance: &Hindrance) -> Result<Vec<u8>, AllocError>
-    ensures { IfOk result (λ text. text.items ≡ denied_text hindrance.now) }
+pub(crate) fn denied_text(alloc: Global, told: &Explained<'_>) -> Result<Vec<u8>, AllocError>
+    ensures { IfOk result (λ text. text.items ≡ denied_text (told_by told.now.hindrance) told.now.explanation) }
 {
     let mut text = Vec::new(alloc);
     text.extend_from_slice(b"Denied: ")?;
-    text.extend_from_slice(hindrance.denial().word().as_bytes())?;
+    text.extend_from_slice(told.hindrance.denial.word().as_bytes())?;
     text.extend_from_slice(b": ")?;
-    put_hindrance(&mut text, hindrance)?;
+    put_names(&mut text, told.hindrance.denial, told.hindrance.named)?;
+    put_besides(&mut text, &told.explanation)?;
     text.extend_from_slice(b"\n")?;
     Ok(text)
 }

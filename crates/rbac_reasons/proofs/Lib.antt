@@ -1,6 +1,8 @@
-pub mod BreachLemmas
-pub mod HindranceLemmas
+pub mod AuthorizedLemmas
+pub mod ExplanationLemmas
+pub mod KeptLemmas
 pub mod ListLemmas
+pub mod PairLemmas
 pub mod ReasonLemmas
-pub mod SortedLemmas
+pub mod ToldLemmas
 pub mod WalkLemmas

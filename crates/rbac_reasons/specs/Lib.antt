@@ -1,7 +1,6 @@
-pub mod Hindrance
+pub mod After
+pub mod Explanation
 pub mod Lists
-pub mod Naming
 pub mod Path
 pub mod Reason
-pub mod Trying
 pub mod Walk

@@ -1,33 +1,15 @@
 //! Who is authorized for which roles.
-ghost use Rattle.std.specs.Prelude.{◌≡◌, IfOk};
+ghost use Rattle.std.specs.Prelude.{◌≡◌, ◌||◌, IfOk};
 ghost use Rattle.std.specs.List.{filter};
-ghost use Rattle.std.specs.List.Sorted.{IsStrictlySortedBy};
 ghost use Rattle.sorted_keys.specs.Keys.{has};
-ghost use Rattle.rbac_terms.specs.Name.{Name as NameValue, name_cmp, pair_cmp};
-ghost use Rattle.rbac_terms.specs.State.{State};
-ghost use Rattle.rbac_terms.specs.Sound.{HasReferences};
+ghost use Rattle.rbac_terms.specs.Name.{Name as NameValue, name_cmp};
 ghost use Rattle.rbac_terms.specs.Authorization.{is_authorized};
 
-use crate::sorted::seconds;
+use crate::pairs::seconds;
 use crate::walk::reached;
 use rbac_decide::Policy;
 use rbac_terms::{Name, NameSet};
 use std::alloc::{AllocError, Global};
-
-/// The roles that a user is authorized for, by these assignments and declared pairs.
-pub(crate) fn authorized_by(
-    alloc: Global,
-    assigned: &[(Name, Name)],
-    declared: &[(Name, Name)],
-    user: &Name,
-) -> Result<NameSet, AllocError>
-    requires assigned { IsStrictlySortedBy pair_cmp assigned.now }
-    requires declared { IsStrictlySortedBy pair_cmp declared.now }
-    ensures { IfOk result (λ roles. (s : State) → HasReferences s → s.assigned ≡ assigned.now → s.declared ≡ declared.now → (role : NameValue) → has name_cmp role roles ≡ is_authorized s user.now role) }
-{
-    let starts = seconds(alloc, assigned, user)?;
-    reached(alloc, declared, &starts)
-}
 
 /// The roles that a user is authorized for, as a set.
 ///
@@ -37,23 +19,32 @@ pub fn authorized_roles(alloc: Global, policy: &Policy, user: &Name) -> Result<N
     ensures { IfOk result (λ roles. (role : NameValue) → has name_cmp role roles ≡ is_authorized policy.now user.now role) }
 {
     policy.invariants();
-    authorized_by(alloc, policy.assignments(), policy.declarations(), user)
+    let starts = seconds(alloc, policy.assignments(), user)?;
+    reached(alloc, policy.declarations(), &starts)
 }
 
-/// Those of the names that are among the others.
-pub(crate) fn common(
+// Whether the name is among these or those.
+fn is_in_one(name: &Name, these: &NameSet, those: &NameSet) -> bool
+    ensures { result ≡ (has name_cmp name.now these.now || has name_cmp name.now those.now) }
+{
+    these.contains(name) || those.contains(name)
+}
+
+/// Those of the names that are among these or those.
+pub(crate) fn among(
     alloc: Global,
     names: &NameSet,
-    others: &NameSet,
+    these: &NameSet,
+    those: &NameSet,
 ) -> Result<NameSet, AllocError>
-    ensures { IfOk result (λ both. both ≡ filter (λ name. has name_cmp name others.now) names.now) }
+    ensures { IfOk result (λ kept. kept ≡ filter (λ name. has name_cmp name these.now || has name_cmp name those.now) names.now) }
 {
-    let mut both = NameSet::new(alloc);
+    let mut kept = NameSet::new(alloc);
     for name in names.names() {
-        if others.contains(name) {
-            both.add_copy(name)?;
+        if is_in_one(name, these, those) {
+            kept.add_copy(name)?;
         }
     }
-    let _in_order = both.names();
-    Ok(both)
+    let _in_order = kept.names();
+    Ok(kept)
 }

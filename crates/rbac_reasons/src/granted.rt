@@ -10,8 +10,6 @@ ghost use Rattle.rbac_terms.specs.declared.answer.Answer.TheVariants.{Granted};
 ghost use Rattle.rbac_terms.specs.declared.command.Command.TheVariants.{CheckAccess};
 ghost use Rattle.rbac_reasons.specs.Reason.{IsReason};
 
-use crate::asking::session_called;
-use crate::sorted::names_of;
 use crate::told::Reason;
 use crate::walk::find_chain;
 use rbac_decide::Policy;
@@ -27,6 +25,17 @@ fn is_granted(policy: &Policy, session: &Name, operation: &Name, object: &Name) 
         Ok(granted) => granted,
         Err(_) => false,
     }
+}
+
+// The set of these names.
+fn names_of(alloc: Global, names: &[Name]) -> Result<NameSet, AllocError>
+    ensures { IfOk result (λ set. (name : NameValue) → has name_cmp name set ≡ has name_cmp name names.now) }
+{
+    let mut set = NameSet::new(alloc);
+    for name in names {
+        set.add_copy(name)?;
+    }
+    Ok(set)
 }
 
 // The roles that are granted the permission.
@@ -60,11 +69,11 @@ pub fn reason(
     if !is_granted(policy, session, operation, object) {
         return Ok(None);
     }
-    let Some(session) = session_called(policy, session) else {
+    let Some(found) = policy.session(session) else {
         return Ok(None);
     };
     let goals = goals_of(alloc, policy, operation, object)?;
-    match find_chain(alloc, policy.declarations(), &session.active, &goals)? {
+    match find_chain(alloc, policy.declarations(), &found.active, &goals)? {
         Some(chain) => Ok(Some(Reason {
             active: chain.first,
             inherited: chain.rest,

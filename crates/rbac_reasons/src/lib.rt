@@ -1,21 +1,19 @@
 //! Why a policy answers as it does: what grants an access, and what stands in the way of a command; and what it holds of one role or user.
 #![tactic(auto)]
 
-mod asking;
+mod after;
 mod authorized;
-mod breach;
-mod breaking;
 mod chain;
-mod denied;
+mod explaining;
 mod granted;
 mod lists;
-mod sorted;
+mod pairs;
 mod told;
 mod walk;
 
 pub use authorized::authorized_roles;
 pub use chain::Chain;
-pub use denied::hindrance;
+pub use explaining::hindrance;
 pub use granted::reason;
 pub use lists::{assignments_of, declarations_of, juniors, permissions_of, seniors};
-pub use told::{Counted, Hindrance, Reason};
+pub use told::{Explained, Explanation, Reason};

@@ -7,8 +7,7 @@ ghost use Rattle.rbac_terms.specs.Name.{Name as NameValue, Permission, name_cmp,
 ghost use Rattle.rbac_terms.specs.Inheritance.{juniors, seniors};
 ghost use Rattle.rbac_reasons.specs.Lists.{turned, granted_to};
 
-use crate::asking::{has_role, is_granted};
-use crate::sorted::beginning_with;
+use crate::pairs::beginning_with;
 use crate::walk::reached;
 use rbac_decide::Policy;
 use rbac_terms::{Name, NameSet, PermissionSet};
@@ -29,6 +28,13 @@ pub fn declarations_of<'p>(policy: &'p Policy, role: &Name) -> &'p [(Name, Name)
 {
     policy.invariants();
     beginning_with(policy.declarations(), role)
+}
+
+// Whether it is one of the roles.
+fn has_role(policy: &Policy, role: &Name) -> bool
+    ensures { result ≡ has name_cmp role.now policy.now.roles }
+{
+    policy.roles().iter().any(|other| role.cmp(other).is_eq())
 }
 
 // The role alone, if it is one.
@@ -117,7 +123,8 @@ impl KeyTest<(Name, Name)> for GrantedTo<'_> {
     ghost passes = { λ t permission. has grant_cmp (permission, t.role.now) t.policy.now.granted };
 
     fn test(&self, permission: &(Name, Name)) -> bool {
-        is_granted(self.policy, &permission.0, &permission.1, self.role)
+        self.policy
+            .is_granted(&permission.0, &permission.1, self.role)
     }
 }
 

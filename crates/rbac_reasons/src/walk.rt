@@ -7,7 +7,7 @@ ghost use Rattle.rbac_reasons.specs.Path.{LeadsFrom, LeadsTo, NoneLeads, AreReac
 ghost use Rattle.rbac_reasons.specs.Walk.{IsTrail, found_by};
 
 use crate::chain::Chain;
-use crate::sorted::beginning_with;
+use crate::pairs::beginning_with;
 use rbac_terms::{Name, NameSet};
 use std::alloc::{AllocError, Global};
 use std::collections::VecDeque;

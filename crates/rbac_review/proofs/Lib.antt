@@ -1,2 +1,3 @@
 pub mod HashedLemmas
 pub mod ReviewLemmas
+pub mod SubjectLemmas

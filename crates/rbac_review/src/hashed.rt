@@ -1,5 +1,6 @@
 //! Names that are found by their hash.
 ghost use Rattle.std.specs.Prelude.{◌≡◌, IfOk};
+ghost use Rattle.std.specs.List.{list_any};
 ghost use Rattle.sorted_keys.specs.Keys.{has};
 ghost use Rattle.rbac_terms.specs.Name.{Name as NameValue, name_cmp};
 
@@ -35,6 +36,13 @@ impl HashedNames {
             names.insert(name.copy()?)?;
         }
         Ok(HashedNames { names })
+    }
+
+    /// Whether one of these names is in the set.
+    pub(crate) fn has_one_of(&self, names: &[Name]) -> bool
+        ensures { result ≡ list_any (λ name. has name_cmp name self.now.names.keys) names.now }
+    {
+        names.iter().any(|name| is_among(&self.names, name))
     }
 }
 

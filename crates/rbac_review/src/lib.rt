@@ -8,6 +8,8 @@ mod parts;
 mod permissions;
 mod sessions;
 mod sets;
+mod subjects;
 mod users;
 
 pub use parts::Parts;
+pub use subjects::Subjects;

@@ -15,4 +15,5 @@ pub mod Rows
 pub mod Separation
 pub mod Sound
 pub mod State
+pub mod Subjects
 pub mod Vocabulary

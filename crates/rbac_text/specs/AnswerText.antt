@@ -36,3 +36,7 @@ answer_text (Names names) = names_text names
 answer_text (Permissions permissions) = permissions_text permissions
 answer_text (Count count) = count_text count
 answer_text (Denied denial) = denial_text denial
+
+-- {"sessions":["morning"],"users":["ann"]}: who may perform an operation on an object
+abbrev pub subjects_text : List Name → List Name → List ℕ
+subjects_text sessions users = codes "{\"sessions\":" ++ array_text in_quotes sessions ++ codes ",\"users\":" ++ array_text in_quotes users ++ codes "}"

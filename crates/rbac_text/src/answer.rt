@@ -6,6 +6,7 @@ ghost use Rattle.rbac_text.specs.AnswerText.{answer_text, count_text, denial_tex
 mod lists;
 
 use crate::pieces::{put_number, put_piece};
+pub use lists::put_subjects;
 use lists::{put_names, put_permissions};
 use rbac_terms::{Answer, Denial};
 use std::alloc::AllocError;

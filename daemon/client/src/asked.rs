@@ -57,6 +57,24 @@ impl Subject {
     }
 }
 
+/// Which subjects are sought.
+#[derive(Clone, Copy, Debug, PartialEq, Eq)]
+pub enum SubjectKind {
+    /// Sessions, by their active roles and those that they inherit.
+    Session,
+    /// Users, by all roles that they are authorized for.
+    User,
+}
+
+impl SubjectKind {
+    pub(crate) fn word(self) -> &'static str {
+        match self {
+            SubjectKind::Session => "session",
+            SubjectKind::User => "user",
+        }
+    }
+}
+
 /// Whether a subject may perform an action, an operation, on a resource, an object.
 #[derive(Clone, Debug, PartialEq, Eq)]
 pub struct Evaluation {

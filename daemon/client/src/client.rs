@@ -1,6 +1,6 @@
 //! The client, and what it asks once, or anywhere.
 use crate::address::Address;
-use crate::asked::{Asked, Evaluation, Rests, Semantic, Subject};
+use crate::asked::{Asked, Evaluation, Rests, Semantic, Subject, SubjectKind};
 use crate::error::{Error, Why};
 use crate::history::History;
 use crate::search::Search;
@@ -149,6 +149,22 @@ impl Client {
         body["action"] = json!({ "name": action });
         body["resource"] = json!({ "type": "object" });
         Search::of(self, "/access/v1/search/resource", body, "id", rests)
+    }
+
+    /// The sessions, or the users, that may perform an action on a resource, page after page.
+    pub fn search_subjects(
+        &self,
+        kind: SubjectKind,
+        action: &str,
+        resource: &str,
+        rests: &Rests,
+    ) -> Search<'_> {
+        let body = json!({
+            "subject": { "type": kind.word() },
+            "action": { "name": action },
+            "resource": { "type": "object", "id": resource },
+        });
+        Search::of(self, "/access/v1/search/subject", body, "id", rests)
     }
 
     /// Has 1 to 64 commands carried out, together and once, and gives their records.

@@ -12,7 +12,7 @@ mod told;
 mod wire;
 
 pub use address::{Address, NoAddress};
-pub use asked::{Consistency, Evaluation, Rests, Semantic, Subject};
+pub use asked::{Consistency, Evaluation, Rests, Semantic, Subject, SubjectKind};
 pub use client::Client;
 pub use error::{Error, Refused, Why};
 pub use history::History;

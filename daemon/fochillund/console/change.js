@@ -118,7 +118,7 @@ export class ChangeForm {
     try {
       const told = await ask('v1/commands/try', { command });
       if (this.turn === turn) {
-        this.tell(command, told.answers[0], { would: true, at: told.at });
+        this.tell(command, told.answers[0], { would: true, at: told.at, reason: told.reasons[0] });
       }
     } catch (error) {
       if (this.turn === turn) {
@@ -161,16 +161,16 @@ export class ChangeForm {
   }
 
   /** Shows the process's answer, and what stands in the way. */
-  tell(command, answer, { would, at }) {
+  tell(command, answer, { would, at, reason }) {
     const { policy, graph } = this.world();
     const place = make('p', { class: 'hint' }, `${would ? 'Tried on a copy' : 'Carried out'} as of ${at}.`);
     if (answer.denied === undefined) {
-      graph.mark('granted', touched(policy, command, '').nodes, []);
+      graph.mark('granted', touched(policy, command).nodes, []);
       const verdict = would ? '✓ It would be done' : '✓ Done';
       byId('change-answer').replaceChildren(make('p', { class: 'verdict granted' }, verdict), place);
       return;
     }
-    const { nodes, sentences } = touched(policy, command, answer.denied);
+    const { nodes, sentences } = touched(policy, command, reason);
     graph.mark('denied', nodes, []);
     const verdict = `✗ ${would ? 'It would be denied' : 'Denied'}: ${answer.denied} (${answer.number})`;
     byId('change-answer').replaceChildren(

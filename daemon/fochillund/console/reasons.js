@@ -68,32 +68,25 @@ export function rolesWith(policy, operation, object) {
 }
 
 /**
- * What a denied command touches: the nodes that are marked, and sentences on the sets of a separation of duty.
+ * What a command touches: the nodes that are marked, and sentences on what stands in its way, as the process told it.
  * @param {import('./policy.js').Policy} policy
  * @param {any} command
- * @param {string} denied the word that the process told
+ * @param {any} [reason] of a command that was tried
  * @returns {{nodes: string[], sentences: string[]}}
  */
-export function touched(policy, command, denied) {
-  const nodes = namedBy(policy, command);
+export function touched(policy, command, reason = {}) {
+  const { names = {}, roles = [], chain: way = [] } = reason;
+  const nodes = [...namedBy(policy, command), ...namedBy(policy, names), ...[...roles, ...way].map((role) => `role:${role}`)];
   const sentences = [];
-  if (denied === 'SsdViolated' || denied === 'DsdViolated') {
-    const isStatic = denied === 'SsdViolated';
-    const had = isStatic ? rolesOfUser(policy, command) : rolesOfSession(policy, command);
-    for (const set of policy.sets) {
-      const roles = [...set.roles].filter((role) => had.has(role));
-      const isOfKind = set.kind === (isStatic ? 'static' : 'dynamic');
-      if (isOfKind && command.set === set.name) {
-        // A change of the set itself: who would have too many of its roles is not told.
-        set.roles.forEach((role) => nodes.push(`role:${role}`));
-        sentences.push(`It is about the ${set.kind} set ${set.name}: ${[...set.roles].join(', ')}.`);
-      } else if (isOfKind && roles.length >= set.n) {
-        roles.forEach((role) => nodes.push(`role:${role}`));
-        const who = command.user ?? command.session ?? 'somebody';
-        const gets = isStatic ? 'would be authorized for' : 'would have active';
-        sentences.push(`${set.kind} set ${set.name} allows ${set.n - 1} of ${[...set.roles].join(', ')}; ${who} ${gets} ${roles.join(' and ')}.`);
-      }
-    }
+  if (roles.length > 0) {
+    const gets = names.kind === 'static' ? 'would be authorized for' : 'would have active';
+    sentences.push(`${names.kind} set ${names.set} allows ${reason.cardinality - 1} of its roles; ${names.user ?? names.session} ${gets} ${roles.join(' and ')}.`);
+  } else if (way.length > 0) {
+    sentences.push(`${way.join(', which inherits ')}.`);
+  } else if (reason.size !== undefined) {
+    sentences.push(`${names.kind} set ${names.set} would have ${reason.size} roles and the number ${reason.cardinality}.`);
+  } else if (names.set) {
+    sentences.push(`It is about the ${names.kind} set ${names.set}.`);
   }
   return { nodes: [...new Set(nodes)], sentences };
 }
@@ -110,15 +103,4 @@ function namedBy(policy, command) {
     nodes.push(`permission:${permissionName(command.operation, command.object)}`);
   }
   return nodes;
-}
-
-function rolesOfUser(policy, command) {
-  const assigned = policy.users.get(command.user)?.roles ?? [];
-  const more = [command.role, command.ascendant, command.descendant].filter(Boolean);
-  return reached(policy, [...assigned, ...more], 'juniors');
-}
-
-function rolesOfSession(policy, command) {
-  const active = policy.sessions.get(command.session)?.roles ?? [];
-  return new Set([...active, ...(command.roles ?? []), command.role].filter(Boolean));
 }

@@ -1,5 +1,5 @@
 /**
- * The commands with their fields, and what denials mean: docs/LINES.md in short.
+ * The commands with their fields, and what denials mean: docs/USE.md in short.
  * @module words
  */
 

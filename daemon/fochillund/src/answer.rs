@@ -1,6 +1,7 @@
 //! Answers of the library, as records have them.
-use fochillun::{CheckError, MemberError};
+use fochillun::{CheckError, MemberError, Subjects, SubjectsError};
 use serde::{Deserialize, Serialize};
+use serde_json::Value;
 
 /// What a command is answered.
 #[derive(Clone, Debug, PartialEq, Eq, Serialize, Deserialize)]
@@ -25,11 +26,21 @@ pub enum Answer {
         /// Each an operation and an object, in their order.
         permissions: Vec<(String, String)>,
     },
+    /// Who may perform an operation on an object, which no command tells.
+    Subjects {
+        /// The sessions, in their order.
+        sessions: Vec<String>,
+        /// The users, in their order.
+        users: Vec<String>,
+    },
     /// What a review counts.
     Count {
         /// The number.
         count: u64,
     },
+    /// Why a command would be denied, or a check is granted or refused, as the library tells it, which no command does.
+    #[serde(skip)]
+    Why(Value),
 }
 
 /// An answer that is a word.
@@ -53,6 +64,22 @@ impl Answer {
             Ok(true) => Ok(Answer::Word(Word::Granted)),
             Ok(false) => Ok(Answer::Word(Word::Refused)),
             Err(CheckError::BadName) => Err(MemberError::BadName),
+            Err(denial) => Ok(Answer::Denied {
+                denied: format!("{denial:?}"),
+                number: denial.number(),
+            }),
+        }
+    }
+
+    /// Of the question who may perform an operation on an object.
+    ///
+    /// # Errors
+    /// Where a text of it is no name, or memory ran out.
+    pub fn of_subjects(told: Result<Subjects, SubjectsError>) -> Result<Answer, MemberError> {
+        match told {
+            Ok(Subjects { sessions, users }) => Ok(Answer::Subjects { sessions, users }),
+            Err(SubjectsError::BadName) => Err(MemberError::BadName),
+            Err(SubjectsError::NoMemory) => Err(MemberError::NoMemory),
             Err(denial) => Ok(Answer::Denied {
                 denied: format!("{denial:?}"),
                 number: denial.number(),

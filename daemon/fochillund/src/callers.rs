@@ -199,6 +199,7 @@ impl Callers {
             Route::Check => self.answer_check(asker, &request).await,
             Route::SearchAction => self.answer_search_action(asker, request).await,
             Route::SearchResource => self.answer_search_resource(asker, request).await,
+            Route::SearchSubject => self.answer_search_subject(asker, request).await,
             Route::Commands => self.answer_call(asker, request).await,
             Route::Try => self.answer_try(asker, request).await,
             Route::Dump => self.answer_dump(&request).await,

@@ -2,9 +2,7 @@
 use crate::answer::{Answer, Word};
 use crate::node::{Check, Query};
 use fochillun::{ApplyError, MemberError, Monitor, OpenError};
-use serde::Deserialize;
-use serde_json::json;
-use std::collections::HashMap;
+use serde_json::{json, Value};
 
 /// What a change is answered.
 const DONE: &str = "\"Done\"";
@@ -13,16 +11,6 @@ const DONE: &str = "\"Done\"";
 #[derive(Debug)]
 pub(crate) struct Policy {
     monitor: Monitor,
-    /// Who has made each session, which no command tells. Of one that has ended the name may still stand here.
-    owners: HashMap<String, String>,
-}
-
-/// The command that makes a session.
-#[derive(Deserialize)]
-struct Created {
-    name: String,
-    user: String,
-    session: String,
 }
 
 impl Policy {
@@ -30,21 +18,12 @@ impl Policy {
     pub(crate) fn of(founding: &[u8]) -> Result<Policy, OpenError> {
         Ok(Policy {
             monitor: Monitor::open(founding)?,
-            owners: HashMap::new(),
         })
     }
 
     /// Carries a command out, and gives its answer's text.
     pub(crate) fn apply(&mut self, command: &str) -> Result<String, ApplyError> {
-        let answer = self.monitor.apply(command)?.to_owned();
-        if answer == DONE && command.contains("\"CreateSession\"") {
-            if let Ok(created) = serde_json::from_str::<Created>(command) {
-                if created.name == "CreateSession" {
-                    self.owners.insert(created.session, created.user);
-                }
-            }
-        }
-        Ok(answer)
+        self.monitor.apply(command).map(str::to_owned)
     }
 
     /// Carries out commands of a dump.
@@ -76,28 +55,39 @@ impl Policy {
                 })?;
                 Ok(serde_json::from_str(answer).expect("an answer of the library"))
             }
+            Query::Subjects { operation, object } => {
+                Answer::of_subjects(self.monitor.subjects(operation, object))
+            }
+            Query::Why(command) => self.why(command).map(Answer::Why),
             Query::Owner { user, session } => self.owner(user, session),
         }
     }
 
-    /// Whether a session is a user's: the denial that a command of both would meet first, or Done.
+    /// Why a command would be denied, or a check is granted or refused: the object that the library tells.
+    pub(crate) fn why(&mut self, command: &str) -> Result<Value, MemberError> {
+        let told = self.monitor.explain(command).map_err(|why| match why {
+            ApplyError::BadName => MemberError::BadName,
+            _ => MemberError::NoMemory,
+        })?;
+        Ok(serde_json::from_str(&told).expect("a text of the library"))
+    }
+
+    /// Whether a session is a user's: the denial by which the user could not end it, or Done.
     fn owner(&mut self, user: &str, session: &str) -> Result<Answer, MemberError> {
-        let of_user = json!({ "name": "AssignedRoles", "user": user });
-        let of_session = json!({ "name": "SessionRoles", "session": session });
-        for review in [of_user, of_session] {
-            let answer = self.query(&Query::Review(review.to_string()))?;
-            if matches!(answer, Answer::Denied { .. }) {
-                return Ok(answer);
-            }
-        }
-        Ok(match self.owners.get(session) {
-            Some(owner) if owner == user => Answer::Word(Word::Done),
-            _ => Answer::Denied {
-                denied: "NotOwner".to_owned(),
-                number: 11,
+        let why = self.why(&ended(user, session))?;
+        Ok(match (why["denied"].as_str(), why["number"].as_u64()) {
+            (Some(denied), Some(number)) => Answer::Denied {
+                denied: denied.to_owned(),
+                number: u32::try_from(number).expect("a denial's number"),
             },
+            _ => Answer::Word(Word::Done),
         })
     }
+}
+
+/// The command by which a user ends a session of its own.
+pub(crate) fn ended(user: &str, session: &str) -> String {
+    json!({ "name": "DeleteSession", "user": user, "session": session }).to_string()
 }
 
 #[cfg(test)]

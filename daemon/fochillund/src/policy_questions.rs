@@ -10,6 +10,7 @@ pub use search::{Search, Sought};
 
 use crate::answer::{Answer, Word};
 use crate::node::{Check, Query};
+use crate::policy::ended;
 use fochillun::MemberError;
 use serde::{Deserialize, Serialize};
 use serde_json::json;
@@ -97,18 +98,31 @@ impl Asked {
         }
     }
 
+    /// Why it is denied: what the policy is asked, in the order of what comes before the other.
+    pub fn reasons(&self) -> Vec<Query> {
+        let owner = self.owner.as_ref();
+        let owner = owner.map(|(user, session)| ended(user, session));
+        let commands = owner.into_iter().chain([self.command()]);
+        commands.map(Query::Why).collect()
+    }
+
     /// The command that asks the same in the members' order.
     pub fn command(&self) -> String {
         match &self.what {
             Query::Check(check) => check_access(check),
             Query::Review(command) => command.clone(),
-            Query::Owner { .. } => unreachable!("no question is of an owner alone"),
+            // No command tells it: a review of nothing much has the place in the order.
+            Query::Subjects { .. } => json!({ "name": "SsdRoleSets" }).to_string(),
+            Query::Why(_) | Query::Owner { .. } => {
+                unreachable!("no question is of an owner, or of a reason, alone")
+            }
         }
     }
 
-    /// Whether that command's own answer is the answer: not where it has to be told whose a session is, which no command does.
+    /// Whether that command's own answer is the answer: not where it has to be told whose a session is, or who may do something, which no command
+    /// does.
     pub fn is_told_by_command(&self) -> bool {
-        self.owner.is_none()
+        self.owner.is_none() && !matches!(self.what, Query::Subjects { .. })
     }
 }
 

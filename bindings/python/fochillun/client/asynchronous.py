@@ -120,6 +120,13 @@ class AsyncClient(Asking):
         """As `Client.search_resources`."""
         return self._names(Search.of_resources(subject, action, session, limit, Rests(consistency, at_least, request_id)))
 
+    def search_subjects(
+        self, kind: str, action: str, resource: str, *, limit: Optional[int] = None,
+        consistency: Optional[str] = None, at_least: Optional[str] = None, request_id: Optional[str] = None,
+    ) -> AsyncIterator[str]:  # fmt: skip
+        """As `Client.search_subjects`."""
+        return self._names(Search.of_subjects(kind, action, resource, limit, Rests(consistency, at_least, request_id)))
+
     async def _names(self, search: Search) -> AsyncIterator[str]:
         token = None
         while True:

@@ -345,6 +345,12 @@ class Search(NamedTuple):
         body = {**asked.subject_of(subject, session), "action": {"name": action}, "resource": {"type": "object"}}
         return cls("/access/v1/search/resource", body, "id", limit, rests)
 
+    @classmethod
+    def of_subjects(cls, kind: str, action: str, resource: str, limit: Optional[int], rests: Rests) -> Search:
+        """The subjects of a kind that may perform an action on a resource."""
+        body = {"subject": {"type": kind}, "action": {"name": action}, "resource": {"type": "object", "id": resource}}
+        return cls("/access/v1/search/subject", body, "id", limit, rests)
+
 
 def _outcome(outcome: Union[Outcome, Opened, None]) -> Outcome:
     assert isinstance(outcome, (Reply, Unsent, Lost)), "who asks is told what came of it"

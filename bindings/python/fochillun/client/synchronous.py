@@ -142,6 +142,13 @@ class Client(Asking):
         """The names of the resources on which a subject may perform an action, page after page."""
         return self._names(Search.of_resources(subject, action, session, limit, Rests(consistency, at_least, request_id)))
 
+    def search_subjects(
+        self, kind: str, action: str, resource: str, *, limit: Optional[int] = None,
+        consistency: Optional[str] = None, at_least: Optional[str] = None, request_id: Optional[str] = None,
+    ) -> Iterator[str]:  # fmt: skip
+        """The names of the sessions (`kind` "session") or users ("user") that may perform an action on a resource, page after page."""
+        return self._names(Search.of_subjects(kind, action, resource, limit, Rests(consistency, at_least, request_id)))
+
     def _names(self, search: Search) -> Iterator[str]:
         token = None
         while True:

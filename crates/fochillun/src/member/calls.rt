@@ -7,7 +7,7 @@ ghost use Rattle.rbac_embedded_member.specs.Holding.{asked, check_status, number
 ghost use Rattle.rbac_embedded_member.specs.Observing.{acting_step, acting_told, answering, receiving};
 ghost use Rattle.rbac_embedded_member.specs.Status.{status_number};
 ghost use Rattle.rbac_embedded_member.specs.Step.{deliver_step, submit_batch_step, submit_step, take_own_step};
-ghost use Rattle.rbac_embedded_member.specs.Texts.{message_at, next_submit, next_submit_batch, policy_dump, record_at, review};
+ghost use Rattle.rbac_embedded_member.specs.Texts.{message_at, next_submit, next_submit_batch, policy_dump, record_at, review, subjects};
 ghost use Rattle.fochillun.specs.Waits.{told_waiting, told_waits};
 
 use super::place::MemberPlace;
@@ -421,6 +421,29 @@ pub extern "C" fn member_review(
 {
     let holder = MemberHolder::of(place.take(alloc));
     let status = holder.review(alloc, command, out, written);
+    place.put(holder.into_kept());
+    status.number()
+}
+
+/// Puts the text of who may perform the operation on the object by the member's policy into the buffer.
+#[unsafe(no_mangle)]
+pub extern "C" fn member_subjects(
+    place: &mut MemberPlace,
+    alloc: Global,
+    operation: &[u8],
+    object: &[u8],
+    out: &mut [u8],
+    written: &mut usize,
+) -> u32
+    ensures told { result ≢ no_memory → result ≡ status_number (text_status (asked (λ k. subjects operation.now object.now k.member) place.old.slot.kept) out.old) }
+    ensures buffer { result ≢ no_memory → out.new ≡ text_buffer (asked (λ k. subjects operation.now object.now k.member) place.old.slot.kept) out.old }
+    ensures length { result ≢ no_memory → written.new ≡ text_length (asked (λ k. subjects operation.now object.now k.member) place.old.slot.kept) }
+    ensures unchanged { place.new.slot.kept ≡ place.old.slot.kept }
+    ensures buffer_unchanged { result ≡ no_memory → out.new ≡ out.old }
+    ensures no_length { result ≡ no_memory → written.new ≡ 0 }
+{
+    let holder = MemberHolder::of(place.take(alloc));
+    let status = holder.subjects(alloc, operation, object, out, written);
     place.put(holder.into_kept());
     status.number()
 }

@@ -1,7 +1,9 @@
 //! The calls of other languages on a policy: each takes it out of its place, calls what is proved, and puts it back.
 ghost use Rattle.std.specs.Prelude.{◌≡◌, ◌≢◌, None};
-ghost use Rattle.rbac_embedded.specs.Holding.{answer_buffer, answer_length, answer_status, apply_buffer, apply_kept, apply_length, apply_status, check_status, close_status, dump_buffer, dump_length, dump_status, open_status, opened, IsDumpRead};
+ghost use Rattle.rbac_embedded.specs.Holding.{answer_buffer, answer_length, answer_status, apply_buffer, apply_kept, apply_length, apply_status, asked, check_status, close_status, dump_buffer, dump_length, dump_status, open_status, opened, told_buffer, told_length, told_status, IsDumpRead};
 ghost use Rattle.rbac_embedded.specs.Status.{no_memory, status_number};
+ghost use Rattle.rbac_embedded.specs.Subjects.{subjects, Told};
+ghost use Rattle.rbac_embedded.specs.Explaining.{IsExplanation};
 
 use super::place::PolicyPlace;
 use rbac_embedded::{Holder, Monitor};
@@ -76,6 +78,49 @@ pub extern "C" fn policy_check(
 {
     let holder = Holder::of(place.take(alloc));
     let status = holder.check(session, operation, object);
+    place.put(holder.into_monitor());
+    status.number()
+}
+
+/// Puts the text of why the command would be denied, or why a check is granted or refused, into the buffer.
+#[unsafe(no_mangle)]
+pub extern "C" fn policy_explain(
+    place: &mut PolicyPlace,
+    alloc: Global,
+    command: &[u8],
+    out: &mut [u8],
+    written: &mut usize,
+) -> u32
+    ensures told { result ≢ no_memory → (told : Told) × IsExplanation command.now place.old.slot.kept told × (result ≡ status_number (told_status told out.old)) × (out.new ≡ told_buffer told out.old) × (written.new ≡ told_length told) }
+    ensures unchanged { place.new.slot.kept ≡ place.old.slot.kept }
+    ensures buffer_unchanged { result ≡ no_memory → out.new ≡ out.old }
+    ensures no_length { result ≡ no_memory → written.new ≡ 0 }
+{
+    let holder = Holder::of(place.take(alloc));
+    let status = holder.explain(alloc, command, out, written);
+    place.put(holder.into_monitor());
+    status.number()
+}
+
+/// Puts the text of who may perform the operation on the object into the buffer.
+#[unsafe(no_mangle)]
+pub extern "C" fn policy_subjects(
+    place: &mut PolicyPlace,
+    alloc: Global,
+    operation: &[u8],
+    object: &[u8],
+    out: &mut [u8],
+    written: &mut usize,
+) -> u32
+    ensures told { result ≢ no_memory → result ≡ status_number (told_status (asked (λ kept. subjects operation.now object.now kept.state) place.old.slot.kept) out.old) }
+    ensures buffer { result ≢ no_memory → out.new ≡ told_buffer (asked (λ kept. subjects operation.now object.now kept.state) place.old.slot.kept) out.old }
+    ensures length { result ≢ no_memory → written.new ≡ told_length (asked (λ kept. subjects operation.now object.now kept.state) place.old.slot.kept) }
+    ensures unchanged { place.new.slot.kept ≡ place.old.slot.kept }
+    ensures buffer_unchanged { result ≡ no_memory → out.new ≡ out.old }
+    ensures no_length { result ≡ no_memory → written.new ≡ 0 }
+{
+    let holder = Holder::of(place.take(alloc));
+    let status = holder.subjects(alloc, operation, object, out, written);
     place.put(holder.into_monitor());
     status.number()
 }

@@ -4,7 +4,7 @@ use crate::member::calls::{
     MemberWaiting, member_check, member_close, member_deliver, member_dump, member_message,
     member_next_answer, member_next_serial, member_next_submit, member_next_submit_batch,
     member_observe, member_open, member_read, member_receive, member_record, member_review,
-    member_submit, member_submit_batch, member_take_own, member_waits,
+    member_subjects, member_submit, member_submit_batch, member_take_own, member_waits,
 };
 use crate::member::place::MemberPlace;
 use std::alloc::Global;
@@ -179,6 +179,18 @@ fn review(alloc: Global, place: &mut MemberPlace, command: &[u8]) -> (u32, usize
     (status, written)
 }
 
+fn expect_subjects(rt: &impl Abort, alloc: Global, place: &mut MemberPlace, wanted: &[u8]) {
+    let (mut out, mut written) = ([0; 200], 9);
+    let status = member_subjects(place, alloc, b"read", b"ledger", &mut out, &mut written);
+    expect_text(rt, status, &out, written, wanted);
+}
+
+fn subjects(alloc: Global, place: &mut MemberPlace, words: (&[u8], &[u8])) -> (u32, usize) {
+    let mut written = 9;
+    let status = member_subjects(place, alloc, words.0, words.1, &mut [0; 5], &mut written);
+    (status, written)
+}
+
 /// What the calls that tell a next message answer, and that each of them writes no byte.
 fn expect_no_next(rt: &impl Abort, alloc: Global, place: &mut MemberPlace) {
     let (mut out, mut written) = ([7; 20], 9);
@@ -217,6 +229,7 @@ fn an_empty_place_has_no_member(rt: HostRuntime) {
     expect_told(&rt, next_serial(alloc, &mut place), (40, 0));
     expect_waits(&rt, alloc, &mut place, 40, NOTHING);
     assert_eq!(&rt; review(alloc, &mut place, USERS), (40, 0));
+    assert_eq!(&rt; subjects(alloc, &mut place, (b"read", b"ledger")), (40, 0));
     assert_eq!(&rt; member_observe(&mut place, alloc, FOUNDING, 3), 301);
     assert_eq!(&rt; member_open(&mut place, alloc, FOUNDING, 3), 301);
     assert_eq!(&rt; member_open(&mut place, alloc, FOUNDING, 2), 0);
@@ -362,6 +375,39 @@ fn reviews_tell_by_the_policy_of_the_history(rt: HostRuntime) {
     assert_eq!(&rt; review(alloc, &mut place, USERS), (42, 12));
     assert_eq!(&rt; review(alloc, &mut place, ADD_ANN), (314, 0));
     assert_eq!(&rt; review(alloc, &mut place, b"[]"), (203, 0));
+    expect_told(&rt, deliver(alloc, &mut place), (0, 0));
+    expect_end(&rt, alloc, place);
+}
+
+/// What makes a user and a session that may read the ledger.
+const CLERK: &[u8] =
+    br#"[{"name":"AddUser","user":"ann"},{"name":"AddRole","role":"clerk"},{"name":"GrantPermission","operation":"read","object":"ledger","role":"clerk"},{"name":"AssignUser","user":"ann","role":"clerk"},{"name":"CreateSession","user":"ann","session":"s1","roles":["clerk"]}]"#;
+
+fn deliver_all(rt: &impl Abort, alloc: Global, place: &mut MemberPlace, records: u64) {
+    for number in 1..=records {
+        expect_told(rt, deliver(alloc, place), (0, number));
+    }
+}
+
+#[test]
+fn who_may_is_told_by_the_policy_of_the_history(rt: HostRuntime) {
+    let alloc = rt.alloc();
+    let mut place = opened(&rt, alloc, 1);
+    let nobody = br#"{"sessions":[],"users":[]}"#;
+    expect_subjects(&rt, alloc, &mut place, nobody);
+    let mut told = 9;
+    let status = member_submit_batch(&mut place, alloc, 0, 0, CLERK, &mut told);
+    expect_told(&rt, (status, told), (0, 1));
+    let answer = br#"{"stamp":[7,2]}"#;
+    expect_told(&rt, receive(alloc, &mut place, 2, 1, answer), (0, 0));
+    expect_subjects(&rt, alloc, &mut place, nobody);
+    deliver_all(&rt, alloc, &mut place, 5);
+    let ann = br#"{"sessions":["s1"],"users":["ann"]}"#;
+    expect_subjects(&rt, alloc, &mut place, ann);
+    assert_eq!(&rt; subjects(alloc, &mut place, (b"read", b"ledger")), (42, 35));
+    assert_eq!(&rt; subjects(alloc, &mut place, (b"fly", b"moon")), (27, 0));
+    assert_eq!(&rt; subjects(alloc, &mut place, (b"read", b"moon")), (28, 0));
+    assert_eq!(&rt; subjects(alloc, &mut place, (b"read", b"mo on")), (52, 0));
     expect_told(&rt, deliver(alloc, &mut place), (0, 0));
     expect_end(&rt, alloc, place);
 }

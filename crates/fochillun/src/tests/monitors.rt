@@ -1,6 +1,9 @@
 //! A monitor by itself.
 
-use super::clerk::{ADD_ANN, CHECKS, DONE, FOUNDING, OTHERS, REFUSED_COMMANDS, REFUSED_FOUNDINGS};
+use super::clerk::{
+    ADD_ANN, CHECKS, DONE, DUTIES, FOUNDING, OTHERS, REASONS, REFUSED_COMMANDS, REFUSED_FOUNDINGS,
+    SUBJECTS,
+};
 use rbac_embedded::{Monitor, Status};
 use std::alloc::Global;
 use std::process::Abort;
@@ -26,6 +29,68 @@ fn expect_checks(rt: &impl Abort, monitor: &Monitor) {
     for (session, operation, object, number) in CHECKS {
         expect_check(rt, monitor, (session, operation, object), number);
     }
+}
+
+fn expect_subjects(
+    rt: &impl Abort,
+    alloc: Global,
+    monitor: &Monitor,
+    words: (&[u8], &[u8]),
+    number: u32,
+    text: &[u8],
+) {
+    match monitor.subjects(alloc, words.0, words.1) {
+        Ok(told) => {
+            let is_told = number == 0 && told.as_slice() == text;
+            drop(told);
+            assert!(rt; is_told);
+        }
+        Err(status) => assert_eq!(rt; status.number(), number),
+    }
+}
+
+fn expect_all_subjects(rt: &impl Abort, alloc: Global, monitor: &Monitor) {
+    for (operation, object, number, text) in SUBJECTS {
+        expect_subjects(rt, alloc, monitor, (operation, object), number, text);
+    }
+}
+
+fn expect_reason(
+    rt: &impl Abort,
+    alloc: Global,
+    monitor: &Monitor,
+    command: &[u8],
+    number: u32,
+    text: &[u8],
+) {
+    match monitor.explain(alloc, command) {
+        Ok(told) => {
+            let is_told = number == 0 && told.as_slice() == text;
+            drop(told);
+            assert!(rt; is_told);
+        }
+        Err(status) => assert_eq!(rt; status.number(), number),
+    }
+}
+
+fn expect_all_reasons(rt: &impl Abort, alloc: Global, monitor: &mut Monitor) {
+    for command in DUTIES {
+        expect_answer(rt, alloc, monitor, command, DONE);
+    }
+    for (command, text) in REASONS {
+        expect_reason(rt, alloc, monitor, command, 0, text);
+    }
+    for (command, number) in REFUSED_COMMANDS {
+        expect_reason(rt, alloc, monitor, command, number, b"");
+    }
+}
+
+#[test]
+fn a_monitor_tells_why(rt: HostRuntime) {
+    let mut monitor = founded(&rt, rt.alloc());
+    become_clerk(&rt, rt.alloc(), &mut monitor);
+    expect_all_reasons(&rt, rt.alloc(), &mut monitor);
+    drop(monitor);
 }
 
 fn become_clerk(rt: &impl Abort, alloc: Global, monitor: &mut Monitor) {
@@ -72,6 +137,7 @@ fn a_monitor_answers_and_checks(rt: HostRuntime) {
     assert!(&rt; monitor.answer().is_empty());
     become_clerk(&rt, rt.alloc(), &mut monitor);
     expect_checks(&rt, &monitor);
+    expect_all_subjects(&rt, rt.alloc(), &monitor);
     let review = br#"{"name":"SessionPermissions","session":"s1"}"#;
     let listed = br#"{"permissions":[["read","ledger"]]}"#;
     expect_answer(&rt, rt.alloc(), &mut monitor, review, listed);

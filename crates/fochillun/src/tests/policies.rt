@@ -1,10 +1,12 @@
 //! The calls of another language on a policy.
 
 use super::clerk::{
-    ADD_ANN, CHECKS, DONE, FOUNDING, LINES, OTHERS, REFUSED_COMMANDS, REFUSED_FOUNDINGS,
+    ADD_ANN, CHECKS, DONE, DUTIES, FOUNDING, LINES, OTHERS, REASONS, REFUSED_COMMANDS,
+    REFUSED_FOUNDINGS, SUBJECTS,
 };
 use crate::policy::calls::{
-    policy_answer, policy_apply, policy_check, policy_close, policy_dump, policy_open,
+    policy_answer, policy_apply, policy_check, policy_close, policy_dump, policy_explain,
+    policy_open, policy_subjects,
 };
 use crate::policy::place::PolicyPlace;
 use std::alloc::Global;
@@ -86,6 +88,86 @@ fn expect_checks(rt: &impl Abort, alloc: Global, place: &mut PolicyPlace) {
         let words = (session, operation, object);
         expect_check(rt, alloc, place, words, status);
     }
+}
+
+/// Who may, in a buffer of so many bytes.
+fn expect_subjects(
+    rt: &impl Abort,
+    alloc: Global,
+    place: &mut PolicyPlace,
+    words: (&[u8], &[u8]),
+    room: usize,
+    status: u32,
+    text: &[u8],
+    length: usize,
+) {
+    let mut out = Vec::new(alloc);
+    out.resize(room, b'#').expect(rt, "memory");
+    let mut written = 9;
+    let told = policy_subjects(place, alloc, words.0, words.1, &mut out, &mut written);
+    assert_eq!(rt; (told, written), (status, length));
+    assert!(rt; has_text(&out, text.len(), text));
+    drop(out);
+}
+
+fn expect_all_subjects(rt: &impl Abort, alloc: Global, place: &mut PolicyPlace) {
+    for (operation, object, status, text) in SUBJECTS {
+        let words = (operation, object);
+        expect_subjects(rt, alloc, place, words, 40, status, text, text.len());
+    }
+}
+
+#[test]
+fn who_may_is_told(rt: HostRuntime) {
+    let mut place = PolicyPlace::empty();
+    let words = (b"read".as_slice(), b"ledger".as_slice());
+    expect_subjects(&rt, rt.alloc(), &mut place, words, 40, 40, b"", 0);
+    become_clerk(&rt, rt.alloc(), &mut place);
+    expect_all_subjects(&rt, rt.alloc(), &mut place);
+    expect_subjects(&rt, rt.alloc(), &mut place, words, 34, 42, b"", 35);
+    expect_again(&rt, rt.alloc(), &mut place, 9, 0, DONE, 6);
+    expect_end(&rt, rt.alloc(), place);
+}
+
+/// Why, in a buffer of so many bytes.
+fn expect_reason(
+    rt: &impl Abort,
+    alloc: Global,
+    place: &mut PolicyPlace,
+    command: &[u8],
+    room: usize,
+    status: u32,
+    text: &[u8],
+    length: usize,
+) {
+    let mut out = Vec::new(alloc);
+    out.resize(room, b'#').expect(rt, "memory");
+    let mut written = 9;
+    let told = policy_explain(place, alloc, command, &mut out, &mut written);
+    assert_eq!(rt; (told, written), (status, length));
+    assert!(rt; has_text(&out, text.len(), text));
+    drop(out);
+}
+
+fn expect_all_reasons(rt: &impl Abort, alloc: Global, place: &mut PolicyPlace) {
+    for command in DUTIES {
+        expect_answer(rt, alloc, place, command, 0, DONE);
+    }
+    for (command, text) in REASONS {
+        expect_reason(rt, alloc, place, command, 200, 0, text, text.len());
+    }
+}
+
+#[test]
+fn why_is_told(rt: HostRuntime) {
+    let mut place = PolicyPlace::empty();
+    expect_reason(&rt, rt.alloc(), &mut place, ADD_ANN, 200, 40, b"", 0);
+    become_clerk(&rt, rt.alloc(), &mut place);
+    expect_all_reasons(&rt, rt.alloc(), &mut place);
+    expect_reason(&rt, rt.alloc(), &mut place, b"[]", 200, 203, b"", 0);
+    expect_reason(&rt, rt.alloc(), &mut place, ADD_ANN, 56, 42, b"", 57);
+    expect_again(&rt, rt.alloc(), &mut place, 9, 0, DONE, 6);
+    expect_end(&rt, rt.alloc(), place);
 }
 
 #[test]

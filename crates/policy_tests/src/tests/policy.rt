@@ -1,7 +1,7 @@
 //! Each public call of `rbac_decide` with ample memory, and the limits of roles and sets. What commands answer is played by the goldens.
 
-use super::named::{assert_called, name, name_set, names};
-use rbac_decide::{Policy, Session};
+use super::named::{assert_called, assert_found, name, name_set, names};
+use rbac_decide::{Policy, Session, Subjects};
 use rbac_terms::{
     Answer, Command, Denial, HierarchyKind, LentName, Name, Review, Separation, Vocabulary,
 };
@@ -199,6 +199,40 @@ fn checks_without_a_command(rt: HostRuntime) {
     }
     drop(policy);
     drop(copy);
+}
+
+// Compares the users and the sessions that may perform an operation on ledgers.
+fn expect_subjects(
+    rt: &impl Abort,
+    alloc: Global,
+    policy: &Policy,
+    operation: &str,
+    users: &[&str],
+    sessions: &[&str],
+) {
+    let (operation, object) = (name(rt, alloc, operation), name(rt, alloc, "ledger"));
+    let found = policy.subjects(alloc, &operation, &object);
+    let found = found.expect(rt, "memory");
+    let Subjects {
+        users: told,
+        sessions: others,
+    } = found;
+    assert_found(rt, Ok(told), users);
+    assert_found(rt, Ok(others), sessions);
+}
+
+#[test]
+fn who_may_is_listed_without_a_command(rt: HostRuntime) {
+    let alloc = rt.alloc();
+    let mut policy = a_clerk(&rt, alloc);
+    expect_subjects(&rt, alloc, &policy, "read", &["ann"], &["s1"]);
+    expect_subjects(&rt, alloc, &policy, "pay", &[], &[]);
+    expect_subjects(&rt, alloc, &policy, "fly", &[], &[]);
+    declare_boss(&rt, alloc, &mut policy);
+    add_user(&rt, alloc, &mut policy, "bob");
+    assign(&rt, alloc, &mut policy, "bob", "boss");
+    expect_subjects(&rt, alloc, &policy, "read", &["ann", "bob"], &["s1"]);
+    drop(policy);
 }
 
 fn declare_boss(rt: &impl Abort, alloc: Global, policy: &mut Policy) {

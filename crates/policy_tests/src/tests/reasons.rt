@@ -3,12 +3,12 @@
 use super::dump::a_policy_of_each_thing;
 use super::named::{assert_called, assert_found, name};
 use super::policy::{add_role, add_user, assign, founded, grant, inherit, open_session};
-use rbac_decide::Policy;
+use rbac_decide::{Hindrance, Named, Obstacle, Policy};
 use rbac_reasons::{
-    Hindrance, Reason, assignments_of, declarations_of, hindrance, juniors, permissions_of, reason,
-    seniors,
+    Explanation, Reason, assignments_of, declarations_of, hindrance, juniors, permissions_of,
+    reason, seniors,
 };
-use rbac_terms::{Command, Separation};
+use rbac_terms::{Command, Denial, Separation};
 use std::alloc::Global;
 use std::process::Abort;
 
@@ -107,73 +107,102 @@ fn what_a_policy_holds_of_a_role_is_told(rt: HostRuntime) {
     drop(policy);
 }
 
-// The denial that a hindrance explains, and the name that it tells first.
-fn told(found: &Hindrance) -> (&'static str, &[u8]) {
-    match found {
-        Hindrance::UserExists { user } => ("UserExists", user.as_bytes()),
-        Hindrance::NoUser { user } => ("NoUser", user.as_bytes()),
-        Hindrance::RoleExists { role } => ("RoleExists", role.as_bytes()),
-        Hindrance::NoRole { role } => ("NoRole", role.as_bytes()),
-        Hindrance::Assigned { user, .. } => ("Assigned", user.as_bytes()),
-        Hindrance::NotAssigned { user, .. } => ("NotAssigned", user.as_bytes()),
-        Hindrance::NoPermission { operation, .. } => ("NoPermission", operation.as_bytes()),
-        Hindrance::NotGranted { operation, .. } => ("NotGranted", operation.as_bytes()),
-        Hindrance::SessionExists { session } => ("SessionExists", session.as_bytes()),
-        Hindrance::NoSession { session } => ("NoSession", session.as_bytes()),
-        Hindrance::NotOwner { owner } => ("NotOwner", owner.as_bytes()),
-        Hindrance::NotAuthorized { role } => ("NotAuthorized", role.as_bytes()),
-        Hindrance::RoleActive { session, .. } => ("RoleActive", session.as_bytes()),
-        Hindrance::RoleNotActive { session, .. } => ("RoleNotActive", session.as_bytes()),
-        Hindrance::Inherits { ascendant, .. } => ("Inherits", ascendant.as_bytes()),
-        Hindrance::NoInheritance { ascendant, .. } => ("NoInheritance", ascendant.as_bytes()),
-        Hindrance::SsdViolated { user, .. } => ("SsdViolated", user.as_bytes()),
-        Hindrance::DsdViolated { session, .. } => ("DsdViolated", session.as_bytes()),
-        Hindrance::SetExists { set, .. } => ("SetExists", set.as_bytes()),
-        Hindrance::NoSet { set, .. } => ("NoSet", set.as_bytes()),
-        Hindrance::BadCardinality { set, .. } => ("BadCardinality", set.as_bytes()),
-        Hindrance::InSet { set, .. } => ("InSet", set.as_bytes()),
-        Hindrance::NotInSet { set, .. } => ("NotInSet", set.as_bytes()),
-        Hindrance::RoleConstrained { set, .. } => ("RoleConstrained", set.as_bytes()),
-        Hindrance::NoOperation { operation } => ("NoOperation", operation.as_bytes()),
-        Hindrance::NoObject { object } => ("NoObject", object.as_bytes()),
-        Hindrance::Limited { descendant } => ("Limited", descendant.as_bytes()),
-        Hindrance::Cycle { chain } => ("Cycle", chain.first.as_bytes()),
-        Hindrance::Limit { .. } => ("Limit", "".as_bytes()),
+// The name that is told first; of a pair that would close a cycle the descendant.
+fn first_name<'a>(denial: Denial, named: Named<'a>) -> &'a [u8] {
+    match named {
+        Named::User { user } => user.as_bytes(),
+        Named::Role { role } => role.as_bytes(),
+        Named::Session { session } => session.as_bytes(),
+        Named::Operation { operation } => operation.as_bytes(),
+        Named::Object { object } => object.as_bytes(),
+        Named::Permission { operation, .. } => operation.as_bytes(),
+        Named::Grant { operation, .. } => operation.as_bytes(),
+        Named::Assignment { user, .. } => user.as_bytes(),
+        Named::Activation { session, .. } => session.as_bytes(),
+        Named::Pair {
+            ascendant,
+            descendant,
+        } => {
+            if denial == Denial::Cycle {
+                descendant.as_bytes()
+            } else {
+                ascendant.as_bytes()
+            }
+        }
+        Named::Set { set, .. } => set.as_bytes(),
+        Named::Member { set, .. } => set.as_bytes(),
+        Named::Breach { holder, .. } => holder.as_bytes(),
+        Named::Count { .. } => "".as_bytes(),
+    }
+}
+
+// Compares the denial and the name that are told first.
+fn expect_told(rt: &impl Abort, found: Hindrance<'_>, wanted: (&str, &str)) {
+    assert_eq!(rt; found.denial.word(), wanted.0);
+    assert_eq!(rt; first_name(found.denial, found.named), wanted.1.as_bytes());
+}
+
+// Decides a command, and compares the denial and the name that are told first: none where they are empty.
+fn expect_decision(
+    rt: &impl Abort,
+    alloc: Global,
+    policy: &Policy,
+    command: &Command,
+    wanted: (&str, &str),
+) {
+    match policy.decide(alloc, command) {
+        Ok(_) => assert_eq!(rt; "", wanted.0),
+        Err(Obstacle::Denied(found)) => expect_told(rt, found, wanted),
+        Err(Obstacle::NoMemory) => assert_eq!(rt; "memory", wanted.0),
     }
 }
 
 // Asks what stands in the way of a command, and compares the denial and the name that are told first: none where they are empty.
+// Answers what is told besides: two numbers of a breach and of a set that is badly sized, and of a cycle how many roles there are.
 fn expect_hindrance(
+    rt: &impl Abort,
+    alloc: Global,
+    policy: &Policy,
+    command: &Command,
+    wanted: (&str, &str),
+) -> (usize, u32) {
+    expect_decision(rt, alloc, policy, command, wanted);
+    match hindrance(alloc, policy, command).expect(rt, "memory") {
+        Some(found) => {
+            expect_told(rt, found.hindrance, wanted);
+            numbers(&found.explanation)
+        }
+        None => {
+            assert_eq!(rt; "", wanted.0);
+            (0, 0)
+        }
+    }
+}
+
+fn numbers(explanation: &Explanation) -> (usize, u32) {
+    match explanation {
+        Explanation::Nothing => (0, 0),
+        Explanation::Breach { roles, number } => (roles.len(), *number),
+        Explanation::Cycle { chain } => (chain.rest.len() + 1, 0),
+        Explanation::Size { size, number } => (*size, *number),
+    }
+}
+
+// The same of a command of which nothing is told besides.
+fn expect_names(
     rt: &impl Abort,
     alloc: Global,
     policy: &Policy,
     command: Command,
     wanted: (&str, &str),
 ) {
-    let found = hindrance(alloc, policy, &command).expect(rt, "memory");
-    match &found {
-        Some(found) => {
-            let (denial, first) = told(found);
-            assert_eq!(rt; denial, wanted.0);
-            assert_eq!(rt; first, wanted.1.as_bytes());
-        }
-        None => assert_eq!(rt; "", wanted.0),
-    }
-    drop(found);
+    let besides = expect_hindrance(rt, alloc, policy, &command, wanted);
+    assert!(rt; besides == (0, 0));
     drop(command);
 }
 
-// How many roles are told by which a set would be broken, and the set's number.
-fn numbers(found: &Hindrance) -> (usize, u32) {
-    match found {
-        Hindrance::SsdViolated { roles, number, .. } => (roles.len(), *number),
-        Hindrance::DsdViolated { roles, number, .. } => (roles.len(), *number),
-        _ => (0, 0),
-    }
-}
-
-// The same of a command that separation denies, with how many roles are told and the set's number.
-fn expect_breach(
+// The same of a command of which numbers are told besides.
+fn expect_numbers(
     rt: &impl Abort,
     alloc: Global,
     policy: &Policy,
@@ -181,14 +210,9 @@ fn expect_breach(
     wanted: (&str, &str, usize, u32),
 ) {
     let (denial, holder, count, number) = wanted;
-    let found = hindrance(alloc, policy, &command).expect(rt, "memory");
-    let told = match &found {
-        Some(found) => numbers(found),
-        None => (0, 0),
-    };
-    drop(found);
-    assert!(rt; told == (count, number));
-    expect_hindrance(rt, alloc, policy, command, (denial, holder));
+    let besides = expect_hindrance(rt, alloc, policy, &command, (denial, holder));
+    assert!(rt; besides == (count, number));
+    drop(command);
 }
 
 // Ann and bob, two sessions of ann, and what else `a_policy_of_each_thing` holds.
@@ -244,7 +268,7 @@ fn what_is_missing_is_named(rt: HostRuntime) {
         ("bob", "b", ("", "")),
     ] {
         let command = assign_command(&rt, rt.alloc(), user, role);
-        expect_hindrance(&rt, rt.alloc(), &policy, command, wanted);
+        expect_names(&rt, rt.alloc(), &policy, command, wanted);
     }
     for (words, wanted) in [
         (["zz", "read", "ledger"], ("NoSession", "zz")),
@@ -253,7 +277,7 @@ fn what_is_missing_is_named(rt: HostRuntime) {
         (["s1", "read", "ledger"], ("", "")),
     ] {
         let command = check_command(&rt, rt.alloc(), words);
-        expect_hindrance(&rt, rt.alloc(), &policy, command, wanted);
+        expect_names(&rt, rt.alloc(), &policy, command, wanted);
     }
     drop(policy);
 }
@@ -263,12 +287,12 @@ fn who_would_break_separation_is_named(rt: HostRuntime) {
     let policy = a_policy_of_two(&rt, rt.alloc());
     let command = assign_command(&rt, rt.alloc(), "ann", "c");
     let wanted = ("SsdViolated", "ann", 3, 3);
-    expect_breach(&rt, rt.alloc(), &policy, command, wanted);
+    expect_numbers(&rt, rt.alloc(), &policy, command, wanted);
     let command = pair_command(&rt, rt.alloc(), "b", "c");
-    expect_breach(&rt, rt.alloc(), &policy, command, wanted);
+    expect_numbers(&rt, rt.alloc(), &policy, command, wanted);
     let command = active_command(&rt, rt.alloc(), "ann", "a");
     let wanted = ("DsdViolated", "s1", 2, 2);
-    expect_breach(&rt, rt.alloc(), &policy, command, wanted);
+    expect_numbers(&rt, rt.alloc(), &policy, command, wanted);
     drop(policy);
 }
 
@@ -277,26 +301,27 @@ fn pairs_sets_and_sessions_that_hinder_are_named(rt: HostRuntime) {
     let policy = a_policy_of_two(&rt, rt.alloc());
     for (ascendant, descendant, wanted) in [
         ("a", "b", ("Inherits", "a")),
-        ("b", "a", ("Cycle", "a")),
         ("z", "a", ("NoRole", "z")),
     ] {
         let command = pair_command(&rt, rt.alloc(), ascendant, descendant);
-        expect_hindrance(&rt, rt.alloc(), &policy, command, wanted);
+        expect_names(&rt, rt.alloc(), &policy, command, wanted);
     }
+    let command = pair_command(&rt, rt.alloc(), "b", "a");
+    expect_numbers(&rt, rt.alloc(), &policy, command, ("Cycle", "a", 2, 0));
     for (user, role, wanted) in [
         ("bob", "a", ("NotOwner", "ann")),
         ("ann", "c", ("NotAuthorized", "c")),
         ("ann", "b", ("RoleActive", "s1")),
     ] {
         let command = active_command(&rt, rt.alloc(), user, role);
-        expect_hindrance(&rt, rt.alloc(), &policy, command, wanted);
+        expect_names(&rt, rt.alloc(), &policy, command, wanted);
     }
     for (set, role, wanted) in [("zz", "a", ("NoSet", "zz")), ("d", "a", ("InSet", "d"))] {
         let command = member_command(&rt, rt.alloc(), set, role);
-        expect_hindrance(&rt, rt.alloc(), &policy, command, wanted);
+        expect_names(&rt, rt.alloc(), &policy, command, wanted);
     }
     let role = name(&rt, rt.alloc(), "a");
     let command = Command::DeleteRole { role };
-    expect_hindrance(&rt, rt.alloc(), &policy, command, ("RoleConstrained", "d"));
+    expect_names(&rt, rt.alloc(), &policy, command, ("RoleConstrained", "d"));
     drop(policy);
 }

@@ -1,7 +1,7 @@
 //! Each review of `rbac_review` with ample memory. What is expected was written by hand.
 use super::named::{assert_found, name, name_set, names};
 use rbac_hierarchy::{Hierarchy, RoleOrder};
-use rbac_review::Parts;
+use rbac_review::{Parts, Subjects};
 use rbac_rolesets::RoleSets;
 use rbac_separation::SetTable;
 use rbac_sessions::Sessions;
@@ -298,6 +298,36 @@ fn operations_on_an_object_are_listed(rt: HostRuntime) {
     expect_role_operations(&rt, &office, ("payer", "ledger"), &[]);
     expect_user_operations(&rt, &office, ("ann", "ledger"), &["read"]);
     expect_user_operations(&rt, &office, ("bob", "invoice"), &[]);
+    drop(office);
+}
+
+// Compares the users and the sessions that may perform an operation on an object.
+fn expect_subjects(
+    rt: &impl Abort,
+    office: &Office,
+    texts: (&str, &str),
+    users: &[&str],
+    sessions: &[&str],
+) {
+    let operation = name(rt, office.alloc, texts.0);
+    let object = name(rt, office.alloc, texts.1);
+    let found = parts(office).subjects(office.alloc, &operation, &object);
+    let Subjects {
+        users: may,
+        sessions: may_in,
+    } = found.expect(rt, "memory");
+    assert_found(rt, Ok(may), users);
+    assert_found(rt, Ok(may_in), sessions);
+}
+
+#[test]
+fn who_may_is_listed(rt: HostRuntime) {
+    let office = small_office(&rt, rt.alloc());
+    let readers = ["Zed", "ann", "bob"];
+    expect_subjects(&rt, &office, ("read", "ledger"), &readers, &[]);
+    expect_subjects(&rt, &office, ("pay", "invoice"), &["ann"], &["s1"]);
+    expect_subjects(&rt, &office, ("approve", "invoice"), &["ann"], &[]);
+    expect_subjects(&rt, &office, ("read", "invoice"), &[], &[]);
     drop(office);
 }
 

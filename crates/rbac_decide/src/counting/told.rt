@@ -6,12 +6,14 @@ ghost use Rattle.sorted_keys.specs.Keys.{has};
 ghost use Rattle.rbac_terms.specs.Name.{name_cmp};
 ghost use Rattle.rbac_terms.specs.declared.command.Command.TheVariants.{AssignUser, AddInheritance};
 ghost use Rattle.rbac_separation.specs.Counts.{numbers_of, is_over};
-ghost use Rattle.rbac_decide.specs.Tables.{IsUndenied};
+ghost use Rattle.rbac_terms.specs.Vocabulary.{Vocabulary as VocabularyValue};
+ghost use Rattle.rbac_decide.specs.Ground.{IsBelow};
+ghost use Rattle.rbac_decide.specs.Tables.{IsUndenied, state_of};
 ghost use Rattle.rbac_decide.specs.Counting.{AreCountsBy, authorized_by, breaks_besides, gains, gains_by, touched_sets, TellsAfter};
 
 use crate::authorization::{fresh_roles, is_authorized};
 use crate::tables::Tables;
-use crate::touched::{constrained_below, touches};
+use crate::touched::{Constrained, touches};
 use rbac_separation::{CountChange, Counts, RoleSet};
 use rbac_terms::{Name, NameSet};
 use std::alloc::{AllocError, Global};
@@ -120,12 +122,13 @@ pub(crate) fn told_of_assignment(
     counts: &Counts,
     user: &Name,
     role: &Name,
+    below: &Constrained,
 ) -> Result<Vec<CountChange>, AllocError>
+    requires below { (v : VocabularyValue) × IsBelow (state_of tables.now v) role.now below.now }
     requires counted { AreCountsBy tables.now counts.now }
     requires undenied { IsUndenied (AssignUser user.now role.now) tables.now }
     ensures { IfOk result (λ told. TellsAfter (AssignUser user.now role.now) told.items counts.now tables.now) }
 {
-    let below = constrained_below(alloc, tables, role)?;
     let mut told = Vec::new(alloc);
     tell_user(
         alloc,
@@ -150,12 +153,13 @@ pub(crate) fn told_of_inheritance(
     counts: &Counts,
     ascendant: &Name,
     descendant: &Name,
+    below: &Constrained,
 ) -> Result<Vec<CountChange>, AllocError>
+    requires below { (v : VocabularyValue) × IsBelow (state_of tables.now v) descendant.now below.now }
     requires counted { AreCountsBy tables.now counts.now }
     requires undenied { IsUndenied (AddInheritance ascendant.now descendant.now) tables.now }
     ensures { IfOk result (λ told. TellsAfter (AddInheritance ascendant.now descendant.now) told.items counts.now tables.now) }
 {
-    let below = constrained_below(alloc, tables, descendant)?;
     if below.roles.is_empty() {
         return Ok(Vec::new(alloc));
     }

@@ -1,13 +1,14 @@
 //! Who is authorized for a role, and what a session may do.
-ghost use Rattle.std.specs.Prelude.{◌≡◌, length};
+ghost use Rattle.std.specs.Prelude.{◌≡◌, not, length};
 ghost use Rattle.sorted_keys.specs.Keys.{has};
-ghost use Rattle.std.specs.List.{list_all};
+ghost use Rattle.std.specs.List.{find as first_where};
+ghost use Rattle.std.specs.Option.{option_copied};
 ghost use Rattle.rbac_terms.specs.Name.{name_cmp};
 ghost use Rattle.rbac_terms.specs.Authorization.{inherits_in, is_authorized as is_authorized_in};
 ghost use Rattle.rbac_terms.specs.Effect.{reply};
 ghost use Rattle.rbac_terms.specs.declared.command.Command.TheVariants.{CheckAccess};
 
-use crate::authorization::{is_authorized, is_authorized_for_all};
+use crate::authorization::{first_unauthorized, is_authorized};
 use crate::policy::Policy;
 use rbac_hierarchy::RoleOrder;
 use rbac_terms::{Answer, Name};
@@ -41,11 +42,11 @@ impl Policy {
         is_authorized(&self.tables.sets, &self.tables.hierarchy, user, role)
     }
 
-    /// Whether the user is authorized for each of the roles.
-    pub(crate) fn is_authorized_for_all(&self, user: &Name, roles: &[Name]) -> bool
-        ensures { result ≡ list_all (is_authorized_in self.now user.now) roles.now }
+    /// The first of the roles that the user is not authorized for.
+    pub(crate) fn first_unauthorized<'a>(&self, user: &Name, roles: &'a [Name]) -> Option<&'a Name>
+        ensures { option_copied result ≡ first_where (λ role. not (is_authorized_in self.now user.now role)) roles.now }
     {
-        is_authorized_for_all(&self.tables.sets, &self.tables.hierarchy, user, roles)
+        first_unauthorized(&self.tables.sets, &self.tables.hierarchy, user, roles)
     }
 
     /// The answer to CheckAccess.

@@ -1,12 +1,14 @@
 //! Whether a user would break a static set with roles that it gets besides.
 ghost use Rattle.std.specs.Prelude.{◌≡◌, ◌&&◌, Some, IfOk};
-ghost use Rattle.std.specs.List.{list_any};
+ghost use Rattle.std.specs.List.{list_any, find as first_where};
+ghost use Rattle.std.specs.Option.{option_copied};
 ghost use Rattle.sorted_keys.specs.Keys.{has};
 ghost use Rattle.rbac_terms.specs.Name.{Name as NameValue, name_cmp};
 ghost use Rattle.rbac_terms.specs.Authorization.{is_authorized as is_authorized_in};
 ghost use Rattle.rbac_separation.specs.Counts.{numbers_of, is_over};
 ghost use Rattle.rbac_decide.specs.Counting.{authorized_count, touches, touched_sets};
-ghost use Rattle.rbac_decide.specs.Breaking.{breaks_with, breaks_below, is_constrained_junior};
+ghost use Rattle.rbac_decide.specs.Breaking.{breaks_with, is_constrained_junior};
+ghost use Rattle.rbac_decide.specs.Ground.{IsBelow};
 
 use crate::authorization::fresh_roles;
 use crate::policy::Policy;
@@ -31,10 +33,13 @@ impl Policy {
         is_over_some(&self.counts, touched, user, fresh)
     }
 
-    // What the role inherits that some static set counts.
-    fn constrained_below(&self, alloc: Global, role: &Name) -> Result<Constrained, AllocError>
-        ensures roles { IfOk result (λ c. (r : NameValue) → has name_cmp r c.roles ≡ is_constrained_junior self.now role.now r) }
-        ensures sets { IfOk result (λ c. c.sets.items ≡ touched_sets c.roles self.now.static_sets) }
+    /// What the role inherits that some static set counts.
+    pub(crate) fn constrained_below(
+        &self,
+        alloc: Global,
+        role: &Name,
+    ) -> Result<Constrained, AllocError>
+        ensures { IfOk result (IsBelow self.now role.now) }
     {
         constrained_below(alloc, &self.tables, role)
     }
@@ -63,17 +68,18 @@ impl Policy {
         Ok(self.breaks_with_fresh(user, &fresh, touched))
     }
 
-    /// Whether the user would break a static set with this role, and what it inherits, besides. Only roles that the user is not
-    /// authorized for are tried.
+    /// Whether the user would break a static set with this role, and what it inherits, besides, of which this was gathered. Only
+    /// roles that the user is not authorized for are tried.
     pub(crate) fn breaks_with(
         &self,
         alloc: Global,
         role: &Name,
         user: &Name,
+        below: &Constrained,
     ) -> Result<bool, AllocError>
+        requires { IsBelow self.now role.now below.now }
         ensures { IfOk result (λ breaks. breaks ≡ breaks_with self.now role.now user.now) }
     {
-        let below = self.constrained_below(alloc, role)?;
         self.breaks_with_juniors(alloc, user, &below.roles, &below.sets)
     }
 
@@ -97,26 +103,27 @@ impl Policy {
         self.breaks_with_juniors(alloc, user, juniors, touched)
     }
 
-    /// Whether some user who is authorized for the ascendant would break a static set with the descendant. Only roles that such
+    /// The first user who is authorized for the ascendant and would break a static set with the descendant. Only roles that such
     /// a user is not authorized for are tried, and no user where the descendant inherits no role of a static set.
-    pub(crate) fn breaks_below(
-        &self,
+    pub(crate) fn user_broken_below<'a>(
+        &'a self,
         alloc: Global,
         ascendant: &Name,
         descendant: &Name,
-    ) -> Result<bool, AllocError>
-        ensures { IfOk result (λ breaks. breaks ≡ breaks_below self.now ascendant.now descendant.now) }
+        below: &Constrained,
+    ) -> Result<Option<&'a Name>, AllocError>
+        requires { IsBelow self.now descendant.now below.now }
+        ensures { IfOk result (λ found. option_copied found ≡ first_where (λ user. is_authorized_in self.now user ascendant.now && breaks_with self.now descendant.now user) self.now.users) }
     {
         self.invariants();
-        let below = self.constrained_below(alloc, descendant)?;
         if below.roles.is_empty() {
-            return Ok(false);
+            return Ok(None);
         }
         for user in self.tables.sets.users() {
             if self.breaks_through(alloc, ascendant, user, &below.roles, &below.sets)? {
-                return Ok(true);
+                return Ok(Some(user));
             }
         }
-        Ok(false)
+        Ok(None)
     }
 }

@@ -11,8 +11,8 @@ use rbac_terms::{Answer, Review};
 use std::alloc::{AllocError, Global};
 
 impl Policy {
-    // The parts that reviews look at.
-    fn parts(&self) -> Parts<'_>
+    /// The parts that reviews look at.
+    pub(crate) fn parts(&self) -> Parts<'_>
         ensures { state_of_parts result ≡ self.now }
     {
         Parts {
@@ -77,7 +77,7 @@ impl Policy {
     {
         match self.may_review(review) {
             Ok(()) => self.review(alloc, review),
-            Err(denial) => Ok(Answer::Denied(denial)),
+            Err(hindrance) => Ok(Answer::Denied(hindrance.denial)),
         }
     }
 }

@@ -1,10 +1,10 @@
 //! The sets of separation of duty of each kind, their roles and their numbers.
-ghost use Rattle.std.specs.Prelude.{◌≡◌, ◌||◌, ◌&&◌, nat_le, length};
+ghost use Rattle.std.specs.Prelude.{◌≡◌, ◌&&◌, nat_le, length};
 ghost use Rattle.std.specs.Option.{option_copied};
 ghost use Rattle.std.specs.FinMap.Entries.{find};
 ghost use Rattle.sorted_keys.specs.Keys.{without};
 ghost use Rattle.rbac_terms.specs.Name.{name_cmp};
-ghost use Rattle.rbac_terms.specs.Separation.{is_well_sized, is_constrained};
+ghost use Rattle.rbac_terms.specs.Separation.{is_well_sized};
 ghost use Rattle.rbac_terms.specs.Change.{without_member, with_cardinality};
 ghost use Rattle.rbac_terms.specs.Constraints.{sets_of};
 ghost use Rattle.rbac_terms.specs.Rows.{found_and, is_set, is_member};
@@ -67,13 +67,6 @@ impl Policy {
             Some(set) => set.roles.contains(role),
             None => false,
         }
-    }
-
-    /// Whether the role is in a set of either kind.
-    pub(crate) fn is_constrained(&self, role: &Name) -> bool
-        ensures { result ≡ (is_constrained role.now self.now.static_sets || is_constrained role.now self.now.dynamic_sets) }
-    {
-        self.tables.static_sets.holds_role(role) || self.tables.dynamic_sets.holds_role(role)
     }
 
     /// Whether the set may have its number without the role.

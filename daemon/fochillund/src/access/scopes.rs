@@ -104,7 +104,7 @@ mod tests {
 
     /// The names in the first column of the page's table under a heading.
     fn listed(heading: &str) -> BTreeSet<String> {
-        let page = include_str!("../../../../docs/LINES.md");
+        let page = include_str!("../../../../docs/USE.md");
         let (_, behind) = page.split_once(&format!("### {heading}\n")).unwrap();
         let rows = behind.lines().take_while(|line| !line.starts_with("```"));
         let rows = rows.filter_map(|row| row.strip_prefix("| ")?.split(" |").next());

@@ -6,14 +6,17 @@ use super::doors::Door;
 use super::replies::Told;
 use super::requests::{body_of, wanted_of};
 use super::{Asker, Callers};
+use crate::answer::Answer;
 use crate::decision_log::Line;
 use crate::node::{ShownAt, Stamp};
 use crate::policy_questions::{Asked, Decision, Evaluation, Reason, Sought};
 use hyper::header::HOST;
 use hyper::{Body, Request};
-use requests::{check_of, Page, Read, ReadEvaluation, ReadEvaluations, ReadSearch, Semantic};
+use requests::{
+    check_of, Page, Read, ReadEvaluation, ReadEvaluations, ReadSearch, ReadSubjectSearch, Semantic,
+};
 use serde::Serialize;
-use serde_json::json;
+use serde_json::{json, Value};
 
 /// The most evaluations of a request.
 const MOST_EVALUATIONS: usize = 64;
@@ -34,11 +37,20 @@ struct ToldDecisions<'d> {
     evaluations: Vec<ToldDecision<'d>>,
 }
 
+/// Why a decision is not true, and the names that make its precondition fail, where they are told.
+#[derive(Serialize)]
+struct ToldReason<'d> {
+    #[serde(flatten)]
+    reason: &'d Reason,
+    #[serde(skip_serializing_if = "Option::is_none")]
+    names: Option<&'d Value>,
+}
+
 /// Why, and up to where that is right; nothing of the latter where the policy was not asked.
 #[derive(Serialize)]
 struct Context<'d> {
     #[serde(skip_serializing_if = "Option::is_none")]
-    reason: Option<&'d Reason>,
+    reason: Option<ToldReason<'d>>,
     #[serde(skip_serializing_if = "Option::is_none")]
     generation: Option<u64>,
     #[serde(skip_serializing_if = "Option::is_none")]
@@ -48,9 +60,13 @@ struct Context<'d> {
 }
 
 impl<'d> Context<'d> {
-    fn of(reason: Option<&'d Reason>, at: Option<ShownAt>) -> Context<'d> {
+    fn of(
+        reason: Option<&'d Reason>,
+        names: Option<&'d Value>,
+        at: Option<ShownAt>,
+    ) -> Context<'d> {
         Context {
-            reason,
+            reason: reason.map(|reason| ToldReason { reason, names }),
             generation: at.map(|at| at.generation),
             stamp: at.and_then(|at| at.stamp),
             at: at.map(|at| at.to_string()),
@@ -62,6 +78,8 @@ impl<'d> Context<'d> {
 struct Decided {
     evaluation: Evaluation,
     decision: Decision,
+    /// Of a denial, the names that make its precondition fail.
+    names: Option<Value>,
     at: Option<ShownAt>,
 }
 
@@ -69,7 +87,7 @@ impl Decided {
     fn told(&self) -> ToldDecision<'_> {
         ToldDecision {
             decision: self.decision.is_granted(),
-            context: Context::of(self.decision.reason.as_ref(), self.at),
+            context: Context::of(self.decision.reason.as_ref(), self.names.as_ref(), self.at),
         }
     }
 }
@@ -154,25 +172,43 @@ impl Callers {
                 Err(decision) => Some(decision),
             })
             .collect();
+        let mut asked = questions.iter();
         let mut placed = self.answers(&questions, wanted).await?.into_iter();
-        let decided = known.into_iter().zip(evaluations);
-        Ok(decided
-            .map(|(known, evaluation)| match known {
-                Some(decision) => Decided {
-                    evaluation,
-                    decision,
-                    at: None,
-                },
+        let mut decided = Vec::with_capacity(evaluations.len());
+        for (known, evaluation) in known.into_iter().zip(evaluations) {
+            let (decision, names, at) = match known {
+                Some(decision) => (decision, None, None),
                 None => {
                     let (answer, at) = placed.next().expect("each question is answered");
-                    Decided {
-                        decision: evaluation.decision(&answer),
-                        evaluation,
-                        at: Some(at),
-                    }
+                    let asked = asked.next().expect("each answer has a question");
+                    let names = self.names_of(asked, &answer).await;
+                    (evaluation.decision(&answer), names, Some(at))
                 }
-            })
-            .collect())
+            };
+            decided.push(Decided {
+                evaluation,
+                decision,
+                names,
+                at,
+            });
+        }
+        Ok(decided)
+    }
+
+    /// Of a denial the names that make its precondition fail, as the library tells them of the policy that is shown. None where that one tells
+    /// another denial, or nothing; and of NotOwner, which would name the owner to who may but ask for checks.
+    async fn names_of(&self, asked: &Asked, answer: &Answer) -> Option<Value> {
+        let Answer::Denied { denied, .. } = answer else {
+            return None;
+        };
+        if denied == "NotOwner" {
+            return None;
+        }
+        let shown = self.shown(asked.reasons(), None).await.ok()?;
+        shown.answers.into_iter().find_map(|why| match why {
+            Ok(Answer::Why(mut why)) if why["denied"] == **denied => Some(why["names"].take()),
+            _ => None,
+        })
     }
 
     /// Counts decisions, and writes them to the decision log.
@@ -224,6 +260,22 @@ impl Callers {
         let kind = read.resource_kind()?;
         let told = |name: &str| json!({ "type": kind, "id": name });
         let (sought, page) = read.for_resources()?;
+        self.found(asker, wanted, sought, page, told).await
+    }
+
+    pub(super) async fn answer_search_subject(
+        &self,
+        asker: &Asker,
+        request: Request<Body>,
+    ) -> Result<Told, Told> {
+        let wanted = wanted_of(request.uri())?;
+        let body = body_of(asker, request).await?;
+        let (sought, page) = ReadSubjectSearch::read(&body)?.sought()?;
+        let kind = match &sought {
+            Sought::Subjects { kind, .. } => kind.clone(),
+            _ => unreachable!("subjects are sought"),
+        };
+        let told = |name: &str| json!({ "type": kind, "id": name });
         self.found(asker, wanted, sought, page, told).await
     }
 
@@ -289,7 +341,7 @@ impl Callers {
                 "count": results.len(),
                 "total": total,
             },
-            "context": Context::of(reason.as_ref(), at),
+            "context": Context::of(reason.as_ref(), None, at),
         })))
     }
 
@@ -309,6 +361,7 @@ impl Callers {
             "access_evaluations_endpoint": at("evaluations"),
             "search_action_endpoint": at("search/action"),
             "search_resource_endpoint": at("search/resource"),
+            "search_subject_endpoint": at("search/subject"),
         }))
     }
 }

@@ -11,6 +11,7 @@ pub(super) enum Route {
     Evaluations,
     SearchAction,
     SearchResource,
+    SearchSubject,
     Configuration,
     Check,
     Commands,
@@ -29,7 +30,7 @@ pub(super) enum Route {
 }
 
 /// Each route with its method and path. The first of a route's paths is what it is called.
-const ROUTES: [(Route, Method, &str); 20] = [
+const ROUTES: [(Route, Method, &str); 21] = [
     (Route::Evaluation, Method::POST, "/access/v1/evaluation"),
     (Route::Evaluations, Method::POST, "/access/v1/evaluations"),
     (
@@ -41,6 +42,11 @@ const ROUTES: [(Route, Method, &str); 20] = [
         Route::SearchResource,
         Method::POST,
         "/access/v1/search/resource",
+    ),
+    (
+        Route::SearchSubject,
+        Method::POST,
+        "/access/v1/search/subject",
     ),
     (
         Route::Configuration,
@@ -93,7 +99,9 @@ impl Route {
     pub(super) fn scope(self) -> Option<Scope> {
         match self {
             Route::Evaluation | Route::Evaluations | Route::Check => Some(Scope::Check),
-            Route::SearchAction | Route::SearchResource => Some(Scope::Review),
+            Route::SearchAction | Route::SearchResource | Route::SearchSubject => {
+                Some(Scope::Review)
+            }
             Route::Dump | Route::Founding => Some(Scope::Review),
             Route::Records | Route::History => Some(Scope::Review),
             Route::Decisions | Route::Messages => Some(Scope::Operate),

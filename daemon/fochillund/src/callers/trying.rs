@@ -24,10 +24,11 @@ struct Asked {
     command: Option<Box<RawValue>>,
 }
 
-/// A command that was tried, and its answer.
+/// A command that was tried, its answer, and why.
 struct Tried {
     command: Box<RawValue>,
     answer: Value,
+    reason: Value,
 }
 
 impl Callers {
@@ -55,11 +56,13 @@ impl Callers {
             tried.map_err(|why| Told::Refused(NodeRefusal::Call(Refusal::Commands(why))))?;
         self.log(|| lines(asker, at, &tried)).await?;
         let answers: Vec<&Value> = tried.iter().map(|it| &it.answer).collect();
+        let reasons: Vec<&Value> = tried.iter().map(|it| &it.reason).collect();
         Ok(Told::json(&json!({
             "generation": at.generation,
             "stamp": at.stamp,
             "at": at.to_string(),
             "answers": answers,
+            "reasons": reasons,
         })))
     }
 
@@ -84,10 +87,12 @@ fn tried(dumped: &Dumped, commands: &RawValue) -> Result<Vec<Tried>, MemberError
     let made = policy.apply_dump(dumped.commands.iter().map(String::as_str));
     made.map_err(|_| MemberError::NoMemory)?;
     let answered = |command: &str| {
+        let reason = policy.why(command)?;
         let answer = policy.apply(command).map_err(|_| MemberError::NoMemory)?;
         Ok(Tried {
             command: RawValue::from_string(command.to_owned()).expect("a command is JSON"),
             answer: serde_json::from_str(&answer).expect("an answer of the library"),
+            reason,
         })
     };
     commands_of(&message).into_iter().map(answered).collect()

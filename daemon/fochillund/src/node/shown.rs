@@ -100,6 +100,15 @@ pub enum Query {
     Check(Check),
     /// What a review is answered: the JSON of its command.
     Review(String),
+    /// Who may perform an operation on an object.
+    Subjects {
+        /// The operation.
+        operation: String,
+        /// The object.
+        object: String,
+    },
+    /// Why a command would be denied, or a check is granted or refused: the JSON of the command.
+    Why(String),
     /// Whether a session is a user's: Done, or the denial that says why it is not.
     Owner {
         /// The user.

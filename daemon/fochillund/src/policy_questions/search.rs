@@ -1,4 +1,4 @@
-//! Which actions or resources a subject may.
+//! Which actions or resources a subject may, and who may.
 use super::{Asked, Holder, Names, Reason, Subject};
 use crate::answer::Answer;
 use crate::node::Query;
@@ -23,6 +23,16 @@ pub enum Sought {
         /// The action.
         action: String,
     },
+    /// The sessions, or the users, that may perform an action on a resource.
+    Subjects {
+        /// Which of them: `session` or `user`.
+        #[serde(rename = "type")]
+        kind: String,
+        /// The action.
+        action: String,
+        /// The resource.
+        resource: String,
+    },
 }
 
 /// A search.
@@ -37,6 +47,11 @@ impl Sought {
         let (subject, other) = match self {
             Sought::Actions { subject, resource } => (subject, resource),
             Sought::Resources { subject, action } => (subject, action),
+            Sought::Subjects {
+                kind,
+                action,
+                resource,
+            } => return asked_of_all(kind, action, resource, names),
         };
         let Some(holder) = subject.holder() else {
             return Err(Reason::word("UnknownType"));
@@ -64,10 +79,15 @@ impl Sought {
     pub fn found(&self, answer: Answer) -> Result<Vec<String>, Reason> {
         match answer {
             Answer::Names { names } => Ok(names),
+            Answer::Subjects { sessions, users } => Ok(match self {
+                Sought::Subjects { kind, .. } if kind == "user" => users,
+                _ => sessions,
+            }),
             Answer::Permissions { permissions } => {
                 let named = |(operation, object): (String, String)| match self {
                     Sought::Actions { resource, .. } => (object == *resource).then_some(operation),
                     Sought::Resources { action, .. } => (operation == *action).then_some(object),
+                    Sought::Subjects { .. } => None,
                 };
                 let mut found: Vec<String> = permissions.into_iter().filter_map(named).collect();
                 found.sort();
@@ -76,6 +96,23 @@ impl Sought {
             other => Err(Reason::of(&other)),
         }
     }
+}
+
+/// Who may perform an action on a resource.
+fn asked_of_all(kind: &str, action: &str, resource: &str, names: &Names) -> Result<Asked, Reason> {
+    if !["session", "user"].contains(&kind) {
+        return Err(Reason::word("UnknownType"));
+    }
+    if !names.are_names([action, resource]) {
+        return Err(Reason::word("BadName"));
+    }
+    Ok(Asked {
+        owner: None,
+        what: Query::Subjects {
+            operation: action.to_owned(),
+            object: resource.to_owned(),
+        },
+    })
 }
 
 #[cfg(test)]

@@ -132,6 +132,12 @@ fn questions() -> Vec<(&'static str, Method, &'static str, Value)> {
             check.clone(),
         ),
         ("review", post.clone(), "/access/v1/search/resource", check),
+        (
+            "review",
+            post.clone(),
+            "/access/v1/search/subject",
+            json!({ "subject": { "type": "session" }, "action": { "name": "read" }, "resource": { "type": "record", "id": "chart" } }),
+        ),
         ("review", get.clone(), "/v1/dump", Value::Null),
         ("review", get.clone(), "/v1/founding", Value::Null),
         ("review", get.clone(), "/v1/records", Value::Null),

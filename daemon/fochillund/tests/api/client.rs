@@ -4,7 +4,8 @@ use crate::group::Group;
 use crate::http;
 use crate::page::{examples, has_hospital, page};
 use fochillun_client::{
-    Address, Call, Client, Consistency, Error, Evaluation, Place, Rests, Semantic, Subject, Why,
+    Address, Call, Client, Consistency, Error, Evaluation, Place, Rests, Semantic, Subject,
+    SubjectKind, Why,
 };
 use serde_json::{json, Value};
 use std::path::{Path, PathBuf};
@@ -65,6 +66,10 @@ async fn a_client_is_told_what_the_process_tells() {
     }
     let search = client.search_actions(&Subject::session("s1"), "chart", &rests);
     assert_eq!(search.all().await.unwrap(), ["read"]);
+    for (kind, found) in [(SubjectKind::Session, "s1"), (SubjectKind::User, "ann")] {
+        let search = client.search_subjects(kind, "read", "chart", &rests);
+        assert_eq!(search.all().await.unwrap(), [found]);
+    }
     let status = client.status().await.unwrap();
     assert_eq!(status["node"], "n1");
 }

@@ -41,6 +41,13 @@ async fn what_is_tried_is_answered_as_it_would_be_and_changes_nothing() {
     let no_session = json!({ "denied": "NoSession", "number": 10 });
     let wanted = json!([exists, "Done", "Done", no_session, "Done"]);
     assert_eq!((&told["answers"], &told["at"]), (&wanted, &before["at"]));
+    let none = json!({ "denied": null });
+    let exists = json!({ "denied": "UserExists", "names": { "user": "ann" }, "number": 1 });
+    let no_session = json!({ "denied": "NoSession", "names": { "session": "s1" }, "number": 10 });
+    assert_eq!(
+        told["reasons"],
+        json!([exists, none, none, no_session, none])
+    );
     for command in &commands {
         let body = json!({ "command": command });
         let told = client.post("/v1/commands/try", &body).await;

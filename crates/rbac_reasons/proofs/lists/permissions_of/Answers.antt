@@ -3,7 +3,7 @@ use Rattle.std.specs.List.{filter}
 use Rattle.sorted_keys.specs.Keys.{has}
 use Rattle.rbac_terms.specs.Name.{pair_cmp, grant_cmp}
 use Rattle.rbac_terms.specs.Vocabulary.{Vocabulary}
-use Rattle.rbac_reasons.proofs.BreachLemmas.{if_ok}
+use Rattle.rbac_reasons.proofs.AuthorizedLemmas.{if_ok}
 use Rattle.rbac_reasons.proofs.ListLemmas.{are_granted}
 use Rattle.rbac_reasons.proofs.lists.permissions_of.Goals as goal
 

@@ -84,6 +84,15 @@ pub(super) struct ReadSearch {
     page: Option<Page>,
 }
 
+/// A search of subjects.
+#[derive(Debug, Deserialize)]
+pub(super) struct ReadSubjectSearch {
+    subject: Option<Kind>,
+    action: Option<Action>,
+    resource: Option<Entity>,
+    page: Option<Page>,
+}
+
 /// Which part of a search's results is told.
 #[derive(Debug, Default, Deserialize)]
 pub(super) struct Page {
@@ -108,6 +117,7 @@ pub(super) trait Read: DeserializeOwned {
 impl Read for ReadEvaluation {}
 impl Read for ReadEvaluations {}
 impl Read for ReadSearch {}
+impl Read for ReadSubjectSearch {}
 
 fn there<T>(part: Option<T>, name: &str) -> Result<T, Told> {
     part.ok_or_else(|| Told::BadRequest(format!("{name} is missing")))
@@ -178,6 +188,17 @@ impl ReadEvaluations {
             .evaluation()
         });
         each.collect()
+    }
+}
+
+impl ReadSubjectSearch {
+    pub(super) fn sought(self) -> Result<(Sought, Page), Told> {
+        let sought = Sought::Subjects {
+            kind: there(self.subject, "subject")?.kind,
+            action: there(self.action, "action")?.name,
+            resource: there(self.resource, "resource")?.id,
+        };
+        Ok((sought, self.page.unwrap_or_default()))
     }
 }
 

@@ -1,5 +1,7 @@
 use Rattle.std.proofs.Common.{◌≡◌, ◌∙◌, subst, sym, ap}
+use Rattle.rbac_terms.specs.State.{State}
 use Rattle.rbac_terms.specs.Change.{change}
+use Rattle.rbac_decide.specs.Ground.{IsGround}
 use Rattle.rbac_terms.specs.Sound.{IsSound}
 use Rattle.rbac_terms.specs.Rows.{first_denial}
 use Rattle.rbac_decide.specs.Tables.{state_of}
@@ -26,6 +28,9 @@ invariant_of-self-in_err-tables c =
       counted = counts_stay_right c.plan.new.self tables same c.self.inside.counts c.plan_counts.new.counts c.plan_counts.ensures.numbers c.self.invariant.counted;
     }
 
+pub plan_counts-requires-clause-grounded : goal.plan_counts-requires-clause-grounded
+plan_counts-requires-clause-grounded c = (c.self.inside.vocabulary, subst (λ (seen : State). IsGround c.args.command.now seen c.in-Ok.gathered) (sym c.self.view_is) c.in-Ok.ensures.gathered)
+
 pub commit_counts-requires-clause-prepared : goal.commit_counts-requires-clause-prepared
 commit_counts-requires-clause-prepared c =
     let v = c.self.inside.vocabulary in
@@ -37,9 +42,9 @@ commit_counts-requires-clause-prepared c =
       step = record {
         vocabulary = v;
         sound = c.self.invariant.sound;
-        undenied = ap (first_denial c.args.command.now) c.self.view_is ∙ c.in-Ok.ensures;
+        undenied = ap (first_denial c.args.command.now) c.self.view_is ∙ c.in-Ok.ensures.denial;
         made = made;
-        sound_after = sound_then c.args.command.now c.args.self.now (state_of tables v) (state_of c.commit.new.self v) c.invariants.ensures c.self.invariant.sound c.in-Ok.ensures c.self.view_is made;
+        sound_after = sound_then c.args.command.now c.args.self.now (state_of tables v) (state_of c.commit.new.self v) c.invariants.ensures c.self.invariant.sound c.in-Ok.ensures.denial c.self.view_is made;
       };
       counted = λ set user. (λ i. c.plan_counts.ensures.numbers i set user) ∙ c.self.invariant.counted set user;
       planned = c.in_ok-counts.ensures.planned;
@@ -54,7 +59,7 @@ invariant_of-self-2 c =
     let made : state_of c.commit.new.self v ≡ change c.args.command.now (state_of tables v) =
     c.commit.ensures.state v ∙ ap (change c.args.command.now) (same_state c.plan.new.self tables same v) in
     record {
-      sound = sound_then c.args.command.now c.args.self.now (state_of tables v) (state_of c.commit.new.self v) c.invariants.ensures c.self.invariant.sound c.in-Ok.ensures c.self.view_is made;
+      sound = sound_then c.args.command.now c.args.self.now (state_of tables v) (state_of c.commit.new.self v) c.invariants.ensures c.self.invariant.sound c.in-Ok.ensures.denial c.self.view_is made;
       same_roles = c.commit.ensures.same_roles (roles_stay_same c.plan.new.self tables same c.self.invariant.same_roles);
       counted = c.commit_counts.ensures;
     }

@@ -1,0 +1,4 @@
+use Rattle.rbac_decide.proofs.policy.Policy.deny_assignment.Goals as goal
+
+pub returns : goal.returns
+returns c = c.deny_for.ensures _ _ c.requires

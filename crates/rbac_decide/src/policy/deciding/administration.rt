@@ -1,0 +1,215 @@
+//! The first failing precondition of each command about users, roles, assignments and permissions (ANSI INCITS 359-2004, 6.1.1).
+ghost use Rattle.std.specs.Prelude.{◌≡◌, ◌||◌, OnOk};
+ghost use Rattle.rbac_decide.specs.Ground.{IsBelow};
+ghost use Rattle.std.specs.List.{find as first_where};
+ghost use Rattle.std.specs.Option.{option_copied};
+ghost use Rattle.sorted_keys.specs.Keys.{has};
+ghost use Rattle.rbac_terms.specs.Name.{name_cmp};
+ghost use Rattle.rbac_terms.specs.Separation.{is_constrained};
+ghost use Rattle.rbac_terms.specs.Change.{change};
+ghost use Rattle.rbac_terms.specs.Constraints.{is_violated};
+ghost use Rattle.rbac_terms.specs.declared.separation.Separation.TheVariants.{Static};
+ghost use Rattle.rbac_terms.specs.declared.command.Command.TheVariants.{AddUser, DeleteUser, AddRole, DeleteRole, AssignUser, DeassignUser, GrantPermission, RevokePermission};
+ghost use Rattle.rbac_decide.specs.Hindrance.{Decides, DecidesUnless, Denies, Tells, constraint_of, static_breach};
+
+use crate::gathered::Ground;
+use crate::hindrance::{Hindrance, Obstacle, deny_for, deny_if};
+use crate::named::{Counted, Named};
+use crate::policy::Policy;
+use rbac_separation::RoleSet;
+use rbac_terms::limits::{MOST_ROLES, MOST_USERS};
+use rbac_terms::{Denial, Name, Separation};
+use std::alloc::Global;
+
+// The first set that has the role.
+fn set_with<'a>(sets: &'a [(Name, RoleSet)], role: &Name) -> Option<&'a (Name, RoleSet)>
+    ensures { option_copied result ≡ first_where (λ e. has name_cmp role.now e.1.roles) sets.now }
+{
+    sets.iter().find(|entry| entry.1.roles.contains(role))
+}
+
+impl Policy {
+    pub(crate) fn may_add_user<'a>(&'a self, user: &'a Name) -> Result<(), Hindrance<'a>>
+        ensures { Decides (AddUser user.now) self.now result }
+    {
+        let counted = Counted::Users;
+        let full = self.tables.sets.user_count() >= MOST_USERS;
+        deny_if(
+            self.tables.sets.has_user(user),
+            Denial::UserExists,
+            Named::User { user },
+        )?;
+        deny_if(full, Denial::Limit, Named::Count { counted })?;
+        Ok(())
+    }
+
+    pub(crate) fn may_delete_user<'a>(&'a self, user: &'a Name) -> Result<(), Hindrance<'a>>
+        ensures { Decides (DeleteUser user.now) self.now result }
+    {
+        deny_if(
+            !self.tables.sets.has_user(user),
+            Denial::NoUser,
+            Named::User { user },
+        )?;
+        Ok(())
+    }
+
+    pub(crate) fn may_add_role<'a>(&'a self, role: &'a Name) -> Result<(), Hindrance<'a>>
+        ensures { Decides (AddRole role.now) self.now result }
+    {
+        let counted = Counted::Roles;
+        deny_if(
+            self.has_role(role),
+            Denial::RoleExists,
+            Named::Role { role },
+        )?;
+        deny_if(
+            self.role_count() >= MOST_ROLES,
+            Denial::Limit,
+            Named::Count { counted },
+        )?;
+        Ok(())
+    }
+
+    // The first static set that has the role, or else the first dynamic one.
+    fn constraint<'a>(&'a self, role: &Name) -> Option<Named<'a>>
+        ensures { let s = self.now in Tells (is_constrained role.now s.static_sets || is_constrained role.now s.dynamic_sets) (constraint_of role.now s) result }
+    {
+        let kind = Separation::Static;
+        if let Some(entry) = set_with(self.separation_sets(kind), role) {
+            return Some(Named::Set {
+                kind,
+                set: &entry.0,
+            });
+        }
+        let kind = Separation::Dynamic;
+        if let Some(entry) = set_with(self.separation_sets(kind), role) {
+            return Some(Named::Set {
+                kind,
+                set: &entry.0,
+            });
+        }
+        None
+    }
+
+    // Denies where some set has the role.
+    fn deny_constrained<'a>(&'a self, role: &Name) -> Result<(), Hindrance<'a>>
+        ensures { let s = self.now in Denies (is_constrained role.now s.static_sets || is_constrained role.now s.dynamic_sets) (record { denial = Denial.RoleConstrained; named = constraint_of role.now s }) result }
+    {
+        deny_for(self.constraint(role), Denial::RoleConstrained)
+    }
+
+    // Denies where the assignment breaks a static set.
+    fn deny_assignment<'a>(
+        &'a self,
+        user: &Name,
+        role: &Name,
+        breach: Option<Named<'a>>,
+    ) -> Result<(), Hindrance<'a>>
+        requires { let after = change (AssignUser user.now role.now) self.now in Tells (is_violated Static after) (static_breach after) breach }
+        ensures { let after = change (AssignUser user.now role.now) self.now in Denies (is_violated Static after) (record { denial = Denial.SsdViolated; named = static_breach after }) result }
+    {
+        deny_for(breach, Denial::SsdViolated)
+    }
+
+    pub(crate) fn may_delete_role<'a>(&'a self, role: &'a Name) -> Result<(), Hindrance<'a>>
+        ensures { Decides (DeleteRole role.now) self.now result }
+    {
+        deny_if(!self.has_role(role), Denial::NoRole, Named::Role { role })?;
+        self.deny_constrained(role)?;
+        Ok(())
+    }
+
+    pub(crate) fn may_assign_user<'a>(
+        &'a self,
+        alloc: Global,
+        user: &'a Name,
+        role: &'a Name,
+        gathered: &mut Ground,
+    ) -> Result<(), Obstacle<'a>>
+        ensures hindrance { DecidesUnless (AssignUser user.now role.now) self.now result }
+        ensures gathered { OnOk result (IsBelow self.now role.now gathered.new.below) }
+    {
+        deny_if(
+            !self.tables.sets.has_user(user),
+            Denial::NoUser,
+            Named::User { user },
+        )?;
+        deny_if(!self.has_role(role), Denial::NoRole, Named::Role { role })?;
+        let assigned = self.tables.sets.assigned(user, role);
+        deny_if(assigned, Denial::Assigned, Named::Assignment { user, role })?;
+        let below = self.constrained_below(alloc, role)?;
+        let breach = self.assignment_breach(alloc, user, role, &below)?;
+        self.deny_assignment(user, role, breach)?;
+        gathered.below = below;
+        Ok(())
+    }
+
+    pub(crate) fn may_deassign_user<'a>(
+        &'a self,
+        user: &'a Name,
+        role: &'a Name,
+    ) -> Result<(), Hindrance<'a>>
+        ensures { Decides (DeassignUser user.now role.now) self.now result }
+    {
+        deny_if(
+            !self.tables.sets.has_user(user),
+            Denial::NoUser,
+            Named::User { user },
+        )?;
+        deny_if(!self.has_role(role), Denial::NoRole, Named::Role { role })?;
+        let assigned = self.tables.sets.assigned(user, role);
+        deny_if(
+            !assigned,
+            Denial::NotAssigned,
+            Named::Assignment { user, role },
+        )?;
+        Ok(())
+    }
+
+    pub(crate) fn may_grant_permission<'a>(
+        &'a self,
+        operation: &'a Name,
+        object: &'a Name,
+        role: &'a Name,
+    ) -> Result<(), Hindrance<'a>>
+        ensures { Decides (GrantPermission operation.now object.now role.now) self.now result }
+    {
+        let known = self.vocabulary.has_permission(operation, object);
+        deny_if(
+            !known,
+            Denial::NoPermission,
+            Named::Permission { operation, object },
+        )?;
+        deny_if(!self.has_role(role), Denial::NoRole, Named::Role { role })?;
+        Ok(())
+    }
+
+    pub(crate) fn may_revoke_permission<'a>(
+        &'a self,
+        operation: &'a Name,
+        object: &'a Name,
+        role: &'a Name,
+    ) -> Result<(), Hindrance<'a>>
+        ensures { Decides (RevokePermission operation.now object.now role.now) self.now result }
+    {
+        let known = self.vocabulary.has_permission(operation, object);
+        deny_if(
+            !known,
+            Denial::NoPermission,
+            Named::Permission { operation, object },
+        )?;
+        deny_if(!self.has_role(role), Denial::NoRole, Named::Role { role })?;
+        let granted = self.tables.sets.granted(operation, object, role);
+        deny_if(
+            !granted,
+            Denial::NotGranted,
+            Named::Grant {
+                operation,
+                object,
+                role,
+            },
+        )?;
+        Ok(())
+    }
+}
