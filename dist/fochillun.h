@@ -37,7 +37,7 @@ struct policy_place {
 enum policy_status {
     POLICY_DONE = 0,
 
-    /* A check of what is not there: the numbers of these denials. */
+    /* A check, or a listing of subjects, of what is not there: the numbers of these denials. */
     POLICY_NO_SESSION = 10,
     POLICY_NO_OPERATION = 27,
     POLICY_NO_OBJECT = 28,
@@ -49,7 +49,7 @@ enum policy_status {
 
     POLICY_GRANTED = 50,
     POLICY_REFUSED = 51,
-    POLICY_BAD_NAME = 52, /* one of the three texts is no name */
+    POLICY_BAD_NAME = 52, /* one of the texts is no name */
 
     /* A founding file is refused: the first reason, in the order of the checks. */
     POLICY_FOUNDING_TOO_LONG = 101,
@@ -98,6 +98,29 @@ uint32_t policy_answer(struct policy_place *place, uint8_t *out, size_t out_leng
 uint32_t policy_check(struct policy_place *place, const uint8_t *session, size_t session_length,
                       const uint8_t *operation, size_t operation_length, const uint8_t *object,
                       size_t object_length);
+
+/* Writes who may perform the operation on the object to the front of `out`, and the text's length to `written`:
+ * {"sessions":["s1"],"users":["ann"]}, each list sorted by bytes. The users are those of whom a review of their
+ * permissions lists the two, by a role that they are authorized for; the sessions those for which policy_check
+ * grants, by a role that is active in them. Takes time and memory in proportion to the policy. Changes nothing, the
+ * last answer neither.
+ * The first that applies: EMPTY_PLACE; BAD_NAME; NO_OPERATION; NO_OBJECT; SHORT_BUFFER, `out` as it was; DONE. Or
+ * NO_MEMORY. */
+uint32_t policy_subjects(struct policy_place *place, const uint8_t *operation, size_t operation_length,
+                         const uint8_t *object, size_t object_length, uint8_t *out, size_t out_length,
+                         size_t *written);
+
+/* Writes why the command of a JSON object, read as by policy_apply, would be denied, or a check is granted or refused, to the
+ * front of `out`, and the text's length to `written`: a JSON object, its keys in the order of their bytes. Of a command that would
+ * be denied `denied` is the word of its first failing precondition, `number` its number, and `names` are what makes it fail (`user`,
+ * `role`, `session`, `operation`, `object`, `ascendant`, `descendant`, `kind`, `set`, `counted`; of several the first in order).
+ * Besides, a breach of separation has `roles`, those that would be authorized or active, and `cardinality`; a Cycle the `chain` of
+ * roles from the descendant down to the ascendant; a BadCardinality `size` and `cardinality`. Of any other command `denied` is null.
+ * Of a check that is not denied `granted` says whether, and of a granted one `chain` has an active role and the roles from it down to
+ * one that is granted the permission. Takes time and memory in proportion to the policy. Changes nothing, the last answer neither.
+ * EMPTY_PLACE; why the text is refused; SHORT_BUFFER, `out` as it was; DONE. Or NO_MEMORY. */
+uint32_t policy_explain(struct policy_place *place, const uint8_t *command, size_t command_length, uint8_t *out,
+                        size_t out_length, size_t *written);
 
 /* Writes the client lines that make this policy, the text that `rbac_monitor dump` writes, to the front of
  * `out`, and its length to `written`. A policy that was just opened with the same founding, to which each
@@ -151,16 +174,27 @@ enum member_status {
     MEMBER_CLOCK_FULL = 308,
     MEMBER_SENT_FULL = 309,  /* the member has sent as many messages as the founding lets it send */
     MEMBER_BAD_SERIAL = 310, /* not the caller's next one, which is in `told` */
-    MEMBER_MESSAGE_TOO_LONG = 311 /* the message's text would have more than 1,048,576 bytes */
+    MEMBER_MESSAGE_TOO_LONG = 311, /* the message's text would have more than 1,048,576 bytes */
+    MEMBER_NOT_YET = 312,  /* the place only observes: received once a later message of the member's own row was taken */
+    MEMBER_OBSERVES = 313, /* the place only observes, and sends nothing */
+    MEMBER_NOT_A_REVIEW = 314 /* the command is neither a review nor a check of access: it would change something */
 };
 
 /* Founds the member of this number, from 1 on, in an empty place.
  * DONE, FULL_PLACE, NO_MEMORY, why the file is refused, UNKNOWN_MEMBER. */
 uint32_t member_open(struct member_place *place, const uint8_t *founding, size_t founding_length, uint32_t number);
 
+/* Founds the member of this number in an empty place, as one that only observes: a process that shows what the member would
+ * show, beside the one that acts, and sends nothing. It takes what stands in the member's row by member_take_own, receives what
+ * it need not acknowledge, delivers, and is asked as any other. member_submit, member_submit_batch, member_next_submit and
+ * member_next_submit_batch tell OBSERVES there, whatever they are given but an empty place; member_receive and
+ * member_next_answer, where they are refused for nothing else, tell NOT_YET of a message that it would have to acknowledge.
+ * As member_open. */
+uint32_t member_observe(struct member_place *place, const uint8_t *founding, size_t founding_length, uint32_t number);
+
 /* Submits the command of a JSON object as that of a caller, any number, whose commands at this member have the serials 0, 1
  * and so on. `told` has the number of the message that sends it.
- * DONE, EMPTY_PLACE, NO_MEMORY, why the text is refused, CLOCK_FULL, SENT_FULL, BAD_SERIAL, MESSAGE_TOO_LONG. */
+ * DONE, EMPTY_PLACE, OBSERVES, NO_MEMORY, why the text is refused, CLOCK_FULL, SENT_FULL, BAD_SERIAL, MESSAGE_TOO_LONG. */
 uint32_t member_submit(struct member_place *place, uint32_t caller, uint32_t serial, const uint8_t *command,
                        size_t command_length, uint64_t *told);
 
@@ -172,7 +206,7 @@ uint32_t member_submit_batch(struct member_place *place, uint32_t caller, uint32
 /* Receives message `number`, from 1 on, of member `from`. `told` has the number of the acknowledgement that was sent, and 0
  * where none is due.
  * DONE, EMPTY_PLACE, NO_MEMORY, why the text is refused, UNKNOWN_MEMBER, FROM_SELF, REPEAT, GAP, STAMP_NOT_RISING, BAD_BATCH,
- * CLOCK_FULL, SENT_FULL, BAD_SERIAL. */
+ * CLOCK_FULL, SENT_FULL, BAD_SERIAL, NOT_YET. */
 uint32_t member_receive(struct member_place *place, uint32_t from, uint32_t number, const uint8_t *message,
                         size_t message_length, uint64_t *told);
 
@@ -213,6 +247,18 @@ uint32_t member_next_answer(struct member_place *place, uint32_t from, uint32_t 
 /* The client lines that make the member's policy, as policy_dump writes them. */
 uint32_t member_dump(struct member_place *place, uint8_t *out, size_t out_length, size_t *written);
 
+/* The answer that the command of a JSON object, a review or CheckAccess, has by the policy that the member's history left, as
+ * policy_apply writes it: a denial too. A review takes time and memory in proportion to the policy; member_check is the
+ * quicker question. NOT_A_REVIEW, or why the text is refused. */
+uint32_t member_review(struct member_place *place, const uint8_t *command, size_t command_length, uint8_t *out,
+                       size_t out_length, size_t *written);
+
+/* Who may perform the operation on the object by the policy that the member's history left, which may be behind that of
+ * other members. As policy_subjects. */
+uint32_t member_subjects(struct member_place *place, const uint8_t *operation, size_t operation_length,
+                         const uint8_t *object, size_t object_length, uint8_t *out, size_t out_length,
+                         size_t *written);
+
 /* These take no memory, and change nothing. */
 
 /* How many messages of member `from` were received. DONE, EMPTY_PLACE. */
@@ -246,7 +292,7 @@ uint32_t member_close(struct member_place *place);
 /* ---- The version
  *
  * That of this header, and of the library that it came with. */
-static inline const char *policy_version(void) { return "0.10.0"; }
+static inline const char *policy_version(void) { return "0.11.0"; }
 
 /* ---- What a status says
  *
@@ -289,6 +335,9 @@ static inline const char *policy_status_text(uint32_t status) {
     case MEMBER_SENT_FULL: return "the member has sent as many messages as it may";
     case MEMBER_BAD_SERIAL: return "the serial is not the caller's next one";
     case MEMBER_MESSAGE_TOO_LONG: return "the message's text would be too long";
+    case MEMBER_NOT_YET: return "an observer receives it once the member's own row has a later message";
+    case MEMBER_OBSERVES: return "an observer sends nothing";
+    case MEMBER_NOT_A_REVIEW: return "the command is neither a review nor a check of access";
     default: return "unknown status";
     }
 }
