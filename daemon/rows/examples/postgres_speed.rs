@@ -62,7 +62,7 @@ async fn main() {
     for number in 1..=300 {
         set(&engine, &row, number).await;
         let began = Instant::now();
-        tidings.wait(Duration::from_secs(5)).await;
+        tidings.wait(number, Duration::from_secs(5)).await;
         told.push(began.elapsed());
         assert_eq!(reader.get(&row, number).await.expect("a read").len(), 1);
         read.push(began.elapsed());

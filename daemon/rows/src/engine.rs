@@ -80,7 +80,8 @@ pub trait Engine: Send + Sync {
 /// Tells when a row may have more cells.
 #[async_trait]
 pub trait Tidings: Send {
-    /// Returns once cells may have been set since the last call, and at the latest after this time. Whoever follows a row asks `get` then:
-    /// so a tiding that was lost delays, and loses nothing.
-    async fn wait(&mut self, longest: Duration);
+    /// Returns once cells from number `next` on may have been set since the last call, and at the latest after this time. Some engines tell the
+    /// texts along, from that number on: such as `get` would show, though others may be there too. Of the others none are told, and whoever follows
+    /// a row asks `get` then, as from time to time in any case: so a tiding that was lost delays, and loses nothing.
+    async fn wait(&mut self, next: u64, longest: Duration) -> Vec<Bytes>;
 }

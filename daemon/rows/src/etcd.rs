@@ -26,7 +26,7 @@ use messages::{
 };
 use std::sync::atomic::{AtomicU64, Ordering};
 use std::sync::Arc;
-use watch::Watching;
+use watch::{Row, Watching};
 
 /// The most cells that are read at once.
 const PAGE: u32 = 1000;
@@ -248,8 +248,12 @@ impl Engine for Etcd {
     }
 
     async fn follow(&self, row: &RowName) -> Result<Box<dyn Tidings>, Fault> {
-        let (key, end) = (self.keys.cell(row, 0), self.keys.end(row));
-        let told = Watching::of(Arc::clone(&self.gateway), key, end).await?;
-        Ok(Box::new(told))
+        let row = Row {
+            gateway: Arc::clone(&self.gateway),
+            cluster: self.cluster,
+            keys: self.keys.clone(),
+            name: row.clone(),
+        };
+        Ok(Box::new(Watching::of(row).await?))
     }
 }

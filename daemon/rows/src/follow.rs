@@ -2,9 +2,11 @@
 use crate::cell::{Chain, Lost, Sent};
 use crate::engine::{Engine, Fault, Tidings};
 use crate::sure::sure_get;
+use bytes::Bytes;
 use std::sync::Arc;
 use std::time::Duration;
 use thiserror::Error;
+use tokio::time::Instant;
 
 /// After this time a row is read again, also where no tiding came.
 pub const SWEEP: Duration = Duration::from_millis(500);
@@ -25,8 +27,8 @@ pub struct Follower {
     engine: Arc<dyn Engine>,
     chain: Chain,
     tidings: Box<dyn Tidings>,
-    /// Whether all was read of which there were tidings.
-    is_read: bool,
+    /// When it was begun to read all of which there were tidings; none where that is to be done.
+    read: Option<Instant>,
 }
 
 impl Follower {
@@ -40,7 +42,7 @@ impl Follower {
             engine,
             chain,
             tidings,
-            is_read: false,
+            read: None,
         })
     }
 
@@ -56,6 +58,10 @@ impl Follower {
     pub async fn there(&mut self) -> Result<Vec<Sent>, FollowFault> {
         let (row, next) = (self.chain.row(), self.chain.next());
         let texts = sure_get(&*self.engine, row, next).await?;
+        self.take(&texts)
+    }
+
+    fn take(&mut self, texts: &[Bytes]) -> Result<Vec<Sent>, FollowFault> {
         let sent = texts.iter().map(|text| self.chain.take_sent(text));
         Ok(sent.collect::<Result<_, _>>()?)
     }
@@ -67,12 +73,16 @@ impl Follower {
     pub async fn next(&mut self) -> Result<Vec<Sent>, FollowFault> {
         loop {
             // What was set since it was last read was told, or is found by the sweep: nothing is asked for that is hardly there.
-            if self.is_read {
-                self.tidings.wait(SWEEP).await;
-                self.is_read = false;
+            if let Some(read) = self.read {
+                let texts = self.tidings.wait(self.chain.next(), SWEEP).await;
+                if !texts.is_empty() && read.elapsed() < SWEEP {
+                    return self.take(&texts);
+                }
+                self.read = None;
             }
+            let began = Instant::now();
             let cells = self.there().await?;
-            self.is_read = true;
+            self.read = Some(began);
             if !cells.is_empty() {
                 return Ok(cells);
             }

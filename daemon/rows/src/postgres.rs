@@ -22,8 +22,7 @@ use line::{Line, Shared};
 use std::path::PathBuf;
 use std::sync::Arc;
 use std::time::Duration;
-use target::Target;
-use tidings::Listener;
+use target::{Target, Task};
 
 /// What the rows of a server are opened with.
 #[derive(Clone, Debug)]
@@ -63,7 +62,7 @@ pub struct Postgres {
     target: Arc<Target>,
     sets: Line,
     gets: Shared,
-    listener: Listener,
+    _hearing: Task,
 }
 
 impl Postgres {
@@ -78,7 +77,7 @@ impl Postgres {
         Ok(Postgres {
             sets: Line::of(Arc::clone(&target)),
             gets: Shared::of(Arc::clone(&target)),
-            listener: Listener::start(Arc::clone(&target)).await?,
+            _hearing: tidings::listen(Arc::clone(&target)).await?,
             target,
         })
     }
@@ -108,10 +107,10 @@ impl Engine for Postgres {
     /// By a connection of its own, which ends with it.
     async fn trim(&self, row: &RowName, last: u64) -> Result<(), Fault> {
         let session = self.target.connect().await?;
-        session.trim(&self.target.table, row, last).await
+        session.trim(row, last).await
     }
 
     async fn follow(&self, row: &RowName) -> Result<Box<dyn Tidings>, Fault> {
-        Ok(self.listener.follow(row))
+        Ok(self.target.followed.follow(row))
     }
 }

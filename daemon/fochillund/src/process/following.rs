@@ -183,7 +183,7 @@ async fn follow_foundings(engine: Arc<dyn Engine>, mut next: u64, tell: mpsc::Se
             tidings = engine.follow(&row).await.ok();
         }
         match &mut tidings {
-            Some(tidings) => tidings.wait(SWEEP).await,
+            Some(tidings) => drop(tidings.wait(next, SWEEP).await),
             None => tokio::time::sleep(SWEEP).await,
         }
     }

@@ -70,8 +70,8 @@ pub(super) struct Found {
     pub(super) key: Bytes,
     #[serde(default, with = "base")]
     pub(super) value: Bytes,
-    /// At which revision it was made.
-    #[serde(with = "number")]
+    /// At which revision it was made; 0 where it was removed.
+    #[serde(default, with = "number")]
     pub(super) create_revision: u64,
 }
 
@@ -186,12 +186,21 @@ pub(super) struct Line {
 
 #[derive(Debug, Deserialize)]
 pub(super) struct Happened {
+    pub(super) header: Header,
+    #[serde(default)]
+    pub(super) events: Vec<Event>,
     #[serde(default)]
     pub(super) created: bool,
     #[serde(default)]
     pub(super) canceled: bool,
     #[serde(default)]
     pub(super) cancel_reason: String,
+}
+
+/// A key that was set, or removed.
+#[derive(Debug, Deserialize)]
+pub(super) struct Event {
+    pub(super) kv: Found,
 }
 
 /// The error of a reply.

@@ -1,16 +1,20 @@
 //! Tidings of a row, by a watch of its keys.
 //!
-//! A watch tells what is set from now on. Where it ends another one is made, and that is a tiding by itself: what was set between the two is
-//! asked for then. So no place is kept from which to watch, none can be compacted away, and a watch never has to tell what is old.
+//! A watch tells what is set from now on, with the text of each cell: etcd tells it once a majority has synced it, as it would to a get. Where it
+//! ends another one is made, and that is a tiding by itself: what was set between the two is asked for then. So no place is kept from which to
+//! watch, none can be compacted away, and a watch never has to tell what is old.
 use super::failure::Failure;
 use super::gateway::{body_of, Gateway};
-use super::messages::{Happened, Line, Watch, Watched, WATCH};
+use super::keys::Keys;
+use super::messages::{Event, Happened, Line, Watch, Watched, WATCH};
+use super::PAGE;
 use crate::engine::{Fault, Tidings};
+use crate::name::RowName;
 use async_trait::async_trait;
 use bytes::{Bytes, BytesMut};
 use hyper::body::{to_bytes, HttpBody};
 use hyper::{Body, Response, StatusCode};
-use std::sync::Arc;
+use std::sync::{Arc, Mutex, MutexGuard, PoisonError};
 use std::time::Duration;
 use tokio::sync::Notify;
 use tokio::task::JoinSet;
@@ -24,34 +28,22 @@ const LONGEST_PAUSE: Duration = Duration::from_secs(2);
 
 /// Tells what the watch tells.
 pub(super) struct Watching {
-    told: Arc<Notify>,
+    told: Arc<Told>,
     /// What reads the watch ends with this.
     _reading: JoinSet<()>,
 }
 
 impl Watching {
-    /// Of the keys from one on up to another. Where etcd is silent, it tells once it speaks.
+    /// Of the cells of a row. Where etcd is silent, it tells once it speaks.
     ///
     /// # Errors
     /// `Refused`, where it may not be told.
-    pub(super) async fn of(
-        gateway: Arc<Gateway>,
-        key: Vec<u8>,
-        range_end: Vec<u8>,
-    ) -> Result<Watching, Fault> {
-        let create_request = Watched {
-            key: key.into(),
-            range_end: range_end.into(),
-        };
-        let row = Row {
-            gateway,
-            request: body_of(&Watch { create_request }),
-        };
+    pub(super) async fn of(row: Row) -> Result<Watching, Fault> {
         let lines = match row.watch().await {
             Err(Failure::Denied(why)) => return Err(Fault::Refused(why)),
             begun => begun.ok(),
         };
-        let told = Arc::new(Notify::new());
+        let told = Arc::new(Told::default());
         let mut reading = JoinSet::new();
         reading.spawn(row.read_on(lines, Arc::clone(&told)));
         Ok(Watching {
@@ -63,36 +55,98 @@ impl Watching {
 
 #[async_trait]
 impl Tidings for Watching {
-    async fn wait(&mut self, longest: Duration) {
-        // However much was told since, it is told once.
-        let _ = timeout(longest, self.told.notified()).await;
+    async fn wait(&mut self, next: u64, longest: Duration) -> Vec<Bytes> {
+        let told = timeout(longest, self.told.next(next)).await;
+        told.unwrap_or_default()
+    }
+}
+
+/// What was told and not taken yet.
+#[derive(Default)]
+struct Told {
+    cells: Mutex<Cells>,
+    is_new: Notify,
+}
+
+/// Cells, by their numbers, as they were told.
+#[derive(Default)]
+struct Cells {
+    told: Vec<(u64, Bytes)>,
+    /// Whether there may be others.
+    are_more: bool,
+}
+
+impl Told {
+    fn cells(&self) -> MutexGuard<'_, Cells> {
+        self.cells.lock().unwrap_or_else(PoisonError::into_inner)
+    }
+
+    /// These cells are set, or others.
+    fn put(&self, told: Option<Vec<(u64, Bytes)>>) {
+        let mut cells = self.cells();
+        match told {
+            Some(told) if cells.told.len() < PAGE as usize => cells.told.extend(told),
+            _ => cells.are_more = true,
+        }
+        self.is_new.notify_one();
+    }
+
+    /// What was told of cells from a number on, once something is: the texts, or none where others may be there before them.
+    async fn next(&self, next: u64) -> Vec<Bytes> {
+        loop {
+            let Cells { mut told, are_more } = std::mem::take(&mut *self.cells());
+            told.retain(|(number, _)| *number >= next);
+            let follows = |((number, _), expected): (&(u64, Bytes), u64)| *number == expected;
+            if are_more || !told.iter().zip(next..).all(follows) {
+                return Vec::new();
+            }
+            if !told.is_empty() {
+                return told.into_iter().map(|(_, text)| text).collect();
+            }
+            self.is_new.notified().await;
+        }
     }
 }
 
 /// What is watched.
-struct Row {
-    gateway: Arc<Gateway>,
-    request: Bytes,
+pub(super) struct Row {
+    pub(super) gateway: Arc<Gateway>,
+    /// The number of the cluster.
+    pub(super) cluster: u64,
+    pub(super) keys: Keys,
+    pub(super) name: RowName,
 }
 
 impl Row {
     /// Tells each line of a watch, and of the next one where it ends.
-    async fn read_on(self, mut lines: Option<Lines>, told: Arc<Notify>) {
+    async fn read_on(self, mut lines: Option<Lines>, told: Arc<Told>) {
         let mut pause = FIRST_PAUSE;
         loop {
             if let Some(mut lines) = lines {
-                while self.next(&mut lines).await.is_ok() {
+                while let Ok(happened) = self.next(&mut lines).await {
                     pause = FIRST_PAUSE;
-                    told.notify_one();
+                    told.put(self.cells_of(happened));
                 }
             }
             sleep(pause).await;
             pause = LONGEST_PAUSE.min(pause * 2);
             lines = self.watch().await.ok();
             if lines.is_some() {
-                told.notify_one();
+                told.put(None);
             }
         }
+    }
+
+    /// The cells that were set; none where something else happened.
+    fn cells_of(&self, happened: Happened) -> Option<Vec<(u64, Bytes)>> {
+        let cell = |event: Event| {
+            let number = self.keys.number(&self.name, &event.kv.key)?;
+            let is_set = event.kv.create_revision > 0;
+            is_set.then_some((number, event.kv.value))
+        };
+        let is_here = happened.header.cluster_id == self.cluster;
+        let cells = happened.events.into_iter().map(cell).collect();
+        is_here.then_some(cells).flatten()
     }
 
     /// What happens next. A watch ends where another member is asked: this one may be silent for good.
@@ -109,8 +163,13 @@ impl Row {
     /// Begins to watch: all that is set from the return on is told.
     async fn watch(&self) -> Result<Lines, Failure> {
         let place = self.gateway.place();
+        let create_request = Watched {
+            key: self.keys.cell(&self.name, 0).into(),
+            range_end: self.keys.end(&self.name).into(),
+        };
+        let request = body_of(&Watch { create_request });
         let begun = self.gateway.with_token(place, |token| {
-            let sent = self.gateway.send(place, WATCH, self.request.clone(), token);
+            let sent = self.gateway.send(place, WATCH, request.clone(), token);
             self.gateway
                 .in_time(async { Lines::of(sent.await?, place).await })
         });

@@ -1,6 +1,7 @@
 //! Tidings of a row's mark, by the kernel.
 use crate::engine::Tidings;
 use async_trait::async_trait;
+use bytes::Bytes;
 use inotify::{Inotify, WatchMask};
 use std::io;
 use std::os::unix::io::{AsRawFd, RawFd};
@@ -42,11 +43,12 @@ impl Marked {
 
 #[async_trait]
 impl Tidings for Marked {
-    async fn wait(&mut self, longest: Duration) {
+    async fn wait(&mut self, _next: u64, longest: Duration) -> Vec<Bytes> {
         let ready = tokio::time::timeout(longest, self.0.readable_mut()).await;
         if let Ok(Ok(mut ready)) = ready {
             Marked::take(ready.get_inner_mut());
             ready.clear_ready();
         }
+        Vec::new()
     }
 }

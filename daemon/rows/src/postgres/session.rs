@@ -12,7 +12,6 @@ use std::future::Future;
 use std::sync::atomic::{AtomicU64, Ordering};
 use std::sync::Arc;
 use std::time::Duration;
-use tokio::sync::mpsc;
 use tokio_postgres::types::{ToSql, Type};
 use tokio_postgres::{Client, Statement};
 
@@ -20,19 +19,21 @@ use tokio_postgres::{Client, Statement};
 pub(super) struct Session {
     client: Client,
     warnings: Arc<AtomicU64>,
-    tidings: mpsc::UnboundedReceiver<String>,
     tls: MakeTls,
     patience: Duration,
-    channel: String,
+    table: Table,
     insert: Statement,
     select: Statement,
     confirm: Statement,
     notify: Statement,
-    _driver: Task,
+    driver: Task,
 }
 
 /// Writes to the log, in a transaction of its own, so that its commit waits for the standbys.
 const CONFIRM: &str = "SELECT pg_logical_emit_message(true, 'rows'::text, ''::text)";
+
+/// A connection over which nothing is asked is asked after so long whether it is there.
+const ASKED_AFTER: Duration = Duration::from_secs(10);
 
 const NOTIFY: &str = "SELECT pg_notify($1, $2)";
 
@@ -53,15 +54,14 @@ impl Session {
         Ok(Session {
             client: link.client,
             warnings: link.warnings,
-            tidings: link.tidings,
             tls: target.tls.clone(),
             patience: target.answer_timeout,
-            channel: table.channel().to_owned(),
+            table: table.clone(),
             insert,
             select,
             confirm,
             notify,
-            _driver: link.driver,
+            driver: link.driver,
         })
     }
 
@@ -109,7 +109,7 @@ impl Session {
 
     /// Asks this, and tells all who listen that the row may have more cells once the server has answered it. Returns with its answer.
     async fn told_behind<T>(&self, row: &RowName, asked: impl Future<Output = T>) -> T {
-        let words: [&(dyn ToSql + Sync); 2] = [&self.channel, &row.as_str()];
+        let words: [&(dyn ToSql + Sync); 2] = [&self.table.channel(), &row.as_str()];
         let told = self.client.execute(&self.notify, &words);
         pin_mut!(asked, told);
         match select(asked, told).await {
@@ -120,45 +120,57 @@ impl Session {
 
     /// The texts of a row, each of which no failure takes back any more.
     pub(super) async fn get(&self, row: &RowName, first: u64) -> Result<Vec<Bytes>, Fault> {
-        let mut expected = i64::try_from(first.max(1)).unwrap_or(i64::MAX);
-        let words: [&(dyn ToSql + Sync); 2] = [&row.as_str(), &expected];
-        let rows = self.client.query_raw(&self.select, words);
-        let rows = self.in_time(rows).await?;
-        pin_mut!(rows);
-        let (mut texts, mut has_standbys) = (Vec::new(), false);
-        while let Some(cell) = self.in_time(rows.try_next()).await? {
-            let (number, oldest): (i64, i64) = (cell.get(0), cell.get(3));
-            if number != expected {
-                return Err(match number == oldest {
-                    true => Fault::Trimmed(number.unsigned_abs()),
-                    false => Fault::Broken(format!("cell {expected} of {row} is gone")),
-                });
+        let first = i64::try_from(first.max(1)).unwrap_or(i64::MAX);
+        let (cells, has_standbys) = self.read(row, first).await?;
+        for (expected, (number, _)) in (first..).zip(&cells) {
+            if *number != expected {
+                return Err(self.why_gone(row, expected).await);
             }
-            expected += 1;
-            texts.push(Bytes::copy_from_slice(cell.get(1)));
-            has_standbys = cell.get(2);
         }
         if has_standbys {
             self.confirm().await?;
         }
-        Ok(texts)
+        Ok(cells.into_iter().map(|(_, text)| text).collect())
+    }
+
+    /// The cells from a number on, and whether the server has standbys, where there is one.
+    async fn read(&self, row: &RowName, first: i64) -> Result<(Vec<(i64, Bytes)>, bool), Fault> {
+        let words: [&(dyn ToSql + Sync); 2] = [&row.as_str(), &first];
+        let rows = self.client.query_raw(&self.select, words);
+        let rows = self.in_time(rows).await?;
+        pin_mut!(rows);
+        let (mut cells, mut has_standbys) = (Vec::new(), false);
+        while let Some(cell) = self.in_time(rows.try_next()).await? {
+            cells.push((cell.get(0), Bytes::copy_from_slice(cell.get(1))));
+            has_standbys = cell.get(2);
+        }
+        Ok((cells, has_standbys))
+    }
+
+    /// Why a cell is not there, though one behind it is.
+    async fn why_gone(&self, row: &RowName, number: i64) -> Fault {
+        match self.ends(row).await {
+            Ok(Some((oldest, _))) if oldest > number => Fault::Trimmed(oldest.unsigned_abs()),
+            Ok(_) => Fault::Broken(format!("cell {number} of {row} is gone")),
+            Err(fault) => fault,
+        }
     }
 
     /// Removes the cells before a number. A set that began before the last cell was there may see none from its own number on; so each that has
     /// begun is waited for first: then all see that last cell, which stays.
-    pub(super) async fn trim(&self, table: &Table, row: &RowName, last: u64) -> Result<(), Fault> {
+    pub(super) async fn trim(&self, row: &RowName, last: u64) -> Result<(), Fault> {
         let not_there = || Fault::Broken(format!("cell {last} of {row} is not there"));
         let number = i64::try_from(last).map_err(|_| not_there())?;
-        match self.ends(table, row).await? {
+        match self.ends(row).await? {
             Some((oldest, _)) if oldest >= number => return Ok(()),
             Some((_, newest)) if newest >= number => {}
             _ => return Err(not_there()),
         }
-        let (wait, delete) = (table.wait_for_sets(), table.delete());
+        let (wait, delete) = (self.table.wait_for_sets(), self.table.delete());
         self.in_time(self.client.batch_execute(&wait)).await?;
         let words: [&(dyn ToSql + Sync); 2] = [&row.as_str(), &number];
         self.in_time(self.client.execute(&delete, &words)).await?;
-        match self.ends(table, row).await? {
+        match self.ends(row).await? {
             Some((oldest, _)) if oldest >= number => Ok(()),
             _ => Err(Fault::Refused(format!(
                 "cells of {row} may not be removed by this role"
@@ -167,8 +179,8 @@ impl Session {
     }
 
     /// The first and the last number of a row's cells.
-    async fn ends(&self, table: &Table, row: &RowName) -> Result<Option<(i64, i64)>, Fault> {
-        let ends = table.ends();
+    async fn ends(&self, row: &RowName) -> Result<Option<(i64, i64)>, Fault> {
+        let ends = self.table.ends();
         let words: [&(dyn ToSql + Sync); 1] = [&row.as_str()];
         let told = self.in_time(self.client.query_one(&ends, &words)).await?;
         let (oldest, newest): (Option<i64>, Option<i64>) = (told.get(0), told.get(1));
@@ -195,18 +207,20 @@ impl Session {
     }
 
     pub(super) async fn listen(&self) -> Result<(), Fault> {
-        let words = format!(r#"LISTEN "{}""#, self.channel);
+        let words = format!(r#"LISTEN "{}""#, self.table.channel());
         self.in_time(self.client.batch_execute(&words)).await
     }
 
-    /// Whether the server answers.
-    pub(super) async fn is_there(&self) -> bool {
-        self.in_time(self.client.batch_execute("")).await.is_ok()
-    }
-
-    /// The next row that has more cells; none where the connection has ended.
-    pub(super) async fn told(&mut self) -> Option<String> {
-        self.tidings.recv().await
+    /// Returns once the connection has ended, or the server does not answer.
+    pub(super) async fn stays(&mut self) {
+        while tokio::time::timeout(ASKED_AFTER, &mut self.driver.0)
+            .await
+            .is_err()
+        {
+            if self.in_time(self.client.batch_execute("")).await.is_err() {
+                return;
+            }
+        }
     }
 
     async fn in_time<T>(

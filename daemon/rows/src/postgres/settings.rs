@@ -90,8 +90,10 @@ impl Settings {
             // A row is read for as long as cells come.
             "SET statement_timeout = 0".to_owned(),
             "SET idle_session_timeout = 0".to_owned(),
-            // A plan that was made when the table was small stays right when it is large.
+            // Each statement is planned once, and goes by the key, however large the table is: planning takes longer than the reading of a cell.
+            "SET plan_cache_mode = force_generic_plan".to_owned(),
             "SET enable_seqscan = off".to_owned(),
+            "SET enable_bitmapscan = off".to_owned(),
         ];
         let fixed = client.batch_execute(&words.join("; ")).await;
         fixed.map_err(|error| fault_of_read(&error))

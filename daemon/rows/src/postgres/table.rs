@@ -86,13 +86,11 @@ impl Table {
         format!("SELECT min(number), max(number) FROM {cells} WHERE row = $1")
     }
 
-    /// The cells of the row `$1` from number `$2` on, each with whether the server has standbys that commits wait for, and with the number of the
-    /// row's first cell.
+    /// The cells of the row `$1` from number `$2` on, each with whether the server has standbys that commits wait for.
     pub(super) fn select(&self) -> String {
         let cells = self.name();
         format!(
-            "SELECT number, text, (SELECT current_setting('synchronous_standby_names') <> ''), (SELECT min(number) FROM {cells} WHERE row = $1)
-            FROM {cells} WHERE row = $1 AND number >= $2 ORDER BY number"
+            "SELECT number, text, (SELECT current_setting('synchronous_standby_names') <> '') FROM {cells} WHERE row = $1 AND number >= $2 ORDER BY number"
         )
     }
 

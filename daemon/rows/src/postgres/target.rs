@@ -4,6 +4,7 @@ use super::hosts::{hosts_of, is_local};
 use super::session::Session;
 use super::settings::Settings;
 use super::table::Table;
+use super::tidings::Followed;
 use super::tls::MakeTls;
 use super::Options;
 use crate::engine::Fault;
@@ -14,7 +15,6 @@ use std::sync::atomic::{AtomicU64, Ordering};
 use std::sync::Arc;
 use std::time::Duration;
 use tokio::io::{AsyncRead, AsyncWrite};
-use tokio::sync::mpsc;
 use tokio::task::JoinHandle;
 use tokio_postgres::config::SslMode;
 use tokio_postgres::error::Severity;
@@ -29,6 +29,8 @@ pub(super) struct Target {
     connect_timeout: Duration,
     pub(super) answer_timeout: Duration,
     pub(super) table: Table,
+    /// Whom its connections wake.
+    pub(super) followed: Arc<Followed>,
 }
 
 impl Target {
@@ -54,6 +56,7 @@ impl Target {
             connect_timeout: options.connect_timeout,
             answer_timeout: options.answer_timeout,
             table: Table::of(&options.schema)?,
+            followed: Arc::default(),
         })
     }
 
@@ -105,8 +108,12 @@ impl Target {
         let made = config.connect(self.tls.clone()).await;
         let (client, connection) = made.map_err(|error| fault_of_connect(&error))?;
         let warnings = Arc::new(AtomicU64::new(0));
-        let (tell, tidings) = mpsc::unbounded_channel();
-        let driver = Task(tokio::spawn(drive(connection, Arc::clone(&warnings), tell)));
+        let driven = drive(
+            connection,
+            Arc::clone(&warnings),
+            Arc::clone(&self.followed),
+        );
+        let driver = Task(tokio::spawn(driven));
         let settings = Settings::ask(&client).await?;
         settings.check()?;
         settings.fix(&client, self.answer_timeout).await?;
@@ -114,7 +121,6 @@ impl Target {
             client,
             settings,
             warnings,
-            tidings,
             driver,
         })
     }
@@ -136,7 +142,6 @@ pub(super) struct Link {
     pub(super) client: Client,
     settings: Settings,
     pub(super) warnings: Arc<AtomicU64>,
-    pub(super) tidings: mpsc::UnboundedReceiver<String>,
     /// What reads and writes the socket; without it the connection is closed.
     pub(super) driver: Task,
 }
@@ -150,12 +155,12 @@ impl Drop for Task {
     }
 }
 
-/// Moves what is asked and answered, counts warnings and gives tidings on. What the server told before an answer was counted before the answer is
+/// Moves what is asked and answered, counts warnings and wakes who follows a row of which there are tidings. What the server told before an answer was counted before the answer is
 /// had.
 async fn drive<S, T>(
     mut connection: Connection<S, T>,
     warnings: Arc<AtomicU64>,
-    tell: mpsc::UnboundedSender<String>,
+    followed: Arc<Followed>,
 ) where
     S: AsyncRead + AsyncWrite + Unpin,
     T: AsyncRead + AsyncWrite + Unpin,
@@ -169,8 +174,7 @@ async fn drive<S, T>(
                 }
             }
             Some(Ok(AsyncMessage::Notification(told))) => {
-                // Nobody hears it where nobody listens.
-                let _ = tell.send(told.payload().to_owned());
+                followed.tell(told.payload());
             }
             Some(Ok(_)) => {}
             Some(Err(error)) => {

@@ -4,52 +4,55 @@ use super::target::{Target, Task};
 use crate::engine::{Fault, Tidings};
 use crate::name::RowName;
 use async_trait::async_trait;
+use bytes::Bytes;
 use std::collections::HashMap;
 use std::sync::{Arc, Mutex, MutexGuard, PoisonError};
 use std::time::Duration;
 use tokio::sync::watch;
 use tokio::time::{sleep, timeout};
 
-/// A connection that tells nothing for so long is asked whether it is there.
-const LONGEST_SILENCE: Duration = Duration::from_secs(10);
-
 const PAUSE: Duration = Duration::from_millis(500);
 
-type Followed = Mutex<HashMap<String, watch::Sender<()>>>;
+/// The rows that are followed, and what wakes who follows each of them.
+#[derive(Default)]
+pub(super) struct Followed(Mutex<HashMap<String, watch::Sender<()>>>);
 
-/// Hears tidings, until it is dropped.
-pub(super) struct Listener {
-    followed: Arc<Followed>,
-    _hearing: Task,
-}
-
-impl Listener {
-    pub(super) async fn start(target: Arc<Target>) -> Result<Listener, Fault> {
-        let session = connect(&target).await?;
-        let followed = Arc::new(Followed::default());
-        let hearing = hear_on(target, session, Arc::clone(&followed));
-        Ok(Listener {
-            followed,
-            _hearing: Task(tokio::spawn(hearing)),
-        })
+impl Followed {
+    fn rows(&self) -> MutexGuard<'_, HashMap<String, watch::Sender<()>>> {
+        self.0.lock().unwrap_or_else(PoisonError::into_inner)
     }
 
     pub(super) fn follow(&self, row: &RowName) -> Box<dyn Tidings> {
-        let mut followed = lock(&self.followed);
-        let told = followed.entry(row.as_str().to_owned());
+        let mut rows = self.rows();
+        let told = rows.entry(row.as_str().to_owned());
         let told = told.or_insert_with(|| watch::channel(()).0);
         Box::new(RowTidings(told.subscribe()))
     }
+
+    /// A row may have more cells.
+    pub(super) fn tell(&self, row: &str) {
+        if let Some(told) = self.rows().get(row) {
+            told.send_replace(());
+        }
+    }
+
+    fn tell_all(&self) {
+        for told in self.rows().values() {
+            told.send_replace(());
+        }
+    }
 }
 
-fn lock(followed: &Followed) -> MutexGuard<'_, HashMap<String, watch::Sender<()>>> {
-    followed.lock().unwrap_or_else(PoisonError::into_inner)
+/// Hears tidings, until this is dropped.
+pub(super) async fn listen(target: Arc<Target>) -> Result<Task, Fault> {
+    let session = connect(&target).await?;
+    Ok(Task(tokio::spawn(hear_on(target, session))))
 }
 
 /// Keeps a connection that listens. Where it broke, tidings may have been lost: each row may have more cells.
-async fn hear_on(target: Arc<Target>, mut session: Session, followed: Arc<Followed>) {
+async fn hear_on(target: Arc<Target>, mut session: Session) {
     loop {
-        hear(&mut session, &followed).await;
+        session.stays().await;
         session = loop {
             match connect(&target).await {
                 Ok(session) => break session,
@@ -57,9 +60,7 @@ async fn hear_on(target: Arc<Target>, mut session: Session, followed: Arc<Follow
             }
             sleep(PAUSE).await;
         };
-        for told in lock(&followed).values() {
-            told.send_replace(());
-        }
+        target.followed.tell_all();
     }
 }
 
@@ -69,32 +70,17 @@ async fn connect(target: &Target) -> Result<Session, Fault> {
     Ok(session)
 }
 
-/// Hears tidings until the connection ends.
-async fn hear(session: &mut Session, followed: &Followed) {
-    loop {
-        match timeout(LONGEST_SILENCE, session.told()).await {
-            Ok(Some(row)) => {
-                if let Some(told) = lock(followed).get(&row) {
-                    told.send_replace(());
-                }
-            }
-            Ok(None) => return,
-            Err(_) if session.is_there().await => {}
-            Err(_) => return,
-        }
-    }
-}
-
 /// Tidings of one row.
 struct RowTidings(watch::Receiver<()>);
 
 #[async_trait]
 impl Tidings for RowTidings {
-    async fn wait(&mut self, longest: Duration) {
+    async fn wait(&mut self, _next: u64, longest: Duration) -> Vec<Bytes> {
         match timeout(longest, self.0.changed()).await {
             Ok(Ok(())) | Err(_) => {}
             // The engine is gone: nobody tells any more.
             Ok(Err(_)) => sleep(longest).await,
         }
+        Vec::new()
     }
 }

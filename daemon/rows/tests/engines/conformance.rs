@@ -98,14 +98,16 @@ pub async fn a_reader_is_told_of_what_another_process_sets(store: &dyn Store) {
     let (writer, reader) = (store.open().await, store.open().await);
     let mut tidings = reader.follow(&row()).await.unwrap();
     let began = Instant::now();
-    tidings.wait(Duration::from_millis(50)).await;
+    let told = tidings.wait(1, Duration::from_millis(50)).await;
+    assert_eq!(told, texts(&[]));
     assert!(began.elapsed() >= Duration::from_millis(50));
     let setting = tokio::spawn(async move {
         tokio::time::sleep(Duration::from_millis(20)).await;
         set(&*writer, 1, &["one"]).await
     });
-    tidings.wait(Duration::from_secs(60)).await;
+    let told = tidings.wait(1, Duration::from_secs(60)).await;
     assert!(began.elapsed() < Duration::from_secs(30));
+    assert!(told.is_empty() || told == texts(&["one"]));
     assert_eq!(setting.await.unwrap(), Ok(Told::Set));
     assert_eq!(all(&*reader).await, texts(&["one"]));
 }

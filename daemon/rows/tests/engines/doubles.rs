@@ -11,6 +11,7 @@ use std::io;
 use std::ops::Range;
 use std::path::{Path, PathBuf};
 use std::sync::{Arc, Mutex};
+use std::time::Duration;
 use tokio::runtime::Builder;
 
 /// What a file holds.
@@ -267,5 +268,55 @@ impl Engine for LossyEngine {
 
     async fn follow(&self, row: &RowName) -> Result<Box<dyn Tidings>, Fault> {
         self.engine.follow(row).await
+    }
+}
+
+/// An engine that has one row, and whose tidings tell its texts.
+#[derive(Clone, Default)]
+pub struct TellingEngine {
+    texts: Arc<Mutex<Vec<Bytes>>>,
+    gets: Arc<Mutex<usize>>,
+}
+
+impl TellingEngine {
+    pub fn put(&self, texts: &[Bytes]) {
+        self.texts.lock().unwrap().extend_from_slice(texts);
+    }
+
+    /// How often it was asked for what it has.
+    pub fn gets(&self) -> usize {
+        *self.gets.lock().unwrap()
+    }
+
+    fn from(&self, first: u64) -> Vec<Bytes> {
+        let texts = self.texts.lock().unwrap();
+        texts.iter().skip(first as usize - 1).cloned().collect()
+    }
+}
+
+#[async_trait]
+impl Engine for TellingEngine {
+    async fn set(&self, _: &RowName, _: u64, _: &[Bytes]) -> Result<Told, Fault> {
+        Ok(Told::Gap)
+    }
+
+    async fn get(&self, _: &RowName, first: u64) -> Result<Vec<Bytes>, Fault> {
+        *self.gets.lock().unwrap() += 1;
+        Ok(self.from(first))
+    }
+
+    async fn trim(&self, _: &RowName, _: u64) -> Result<(), Fault> {
+        Ok(())
+    }
+
+    async fn follow(&self, _: &RowName) -> Result<Box<dyn Tidings>, Fault> {
+        Ok(Box::new(self.clone()))
+    }
+}
+
+#[async_trait]
+impl Tidings for TellingEngine {
+    async fn wait(&mut self, next: u64, _: Duration) -> Vec<Bytes> {
+        self.from(next)
     }
 }

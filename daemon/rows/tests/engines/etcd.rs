@@ -3,13 +3,14 @@ mod cluster;
 mod failures;
 mod rights;
 
-use crate::conformance::{self, all, row, set};
+use crate::conformance::{self, all, row, set, texts};
 use bytes::Bytes;
 pub use cluster::open_by;
 use cluster::{open, Cluster, HasRows, Setup};
 use rows::etcd::Options;
 use rows::{Engine, Fault, RowName, Told};
 use std::time::Duration;
+use tokio::time::timeout;
 
 async fn one() -> Cluster {
     Cluster::start(1, Setup::default()).await
@@ -137,4 +138,32 @@ async fn a_row_is_read_in_pages() {
         let left = engine.get(&row(), last).await;
         assert_eq!(left, Ok(all_set[last as usize - 1..].to_vec()));
     }
+}
+
+#[tokio::test]
+async fn tidings_have_the_texts_from_the_next_number_on_where_none_is_missing() {
+    let cluster = one().await;
+    let (writer, reader) = (open(cluster.options()).await, open(cluster.options()).await);
+    let mut tidings = reader.follow(&row()).await.unwrap();
+    let long = Duration::from_secs(60);
+    let cases: [(&[&str], u64, &[&str]); 5] = [
+        (&["1"], 1, &["1"]),
+        (&["2", "3"], 2, &["2", "3"]),
+        // What was read meanwhile is not told again.
+        (&["4", "5"], 5, &["5"]),
+        // The one before is missing, and is asked for.
+        (&["6"], 5, &[]),
+        (&["7"], 7, &["7"]),
+    ];
+    let mut first = 1;
+    for (set_now, next, told) in cases {
+        assert_eq!(set(&writer, first, set_now).await, Ok(Told::Set));
+        assert_eq!(tidings.wait(next, long).await, texts(told));
+        first += set_now.len() as u64;
+    }
+    assert_eq!(set(&writer, 8, &["8"]).await, Ok(Told::Set));
+    let short = Duration::from_millis(100);
+    assert_eq!(timeout(long, tidings.wait(9, short)).await, Ok(texts(&[])));
+    writer.trim(&row(), 8).await.unwrap();
+    assert_eq!(timeout(long, tidings.wait(9, long)).await, Ok(texts(&[])));
 }

@@ -1,12 +1,13 @@
 //! A row that is followed while it grows, and one that has lost its end.
 
-use crate::doubles::LossyEngine;
+use crate::doubles::{LossyEngine, TellingEngine};
 use bytes::Bytes;
 use rows::cell::{Call, Cell, Chain, Identity, Lost, Why};
-use rows::{sure_set, Engine, Fault, Files, FollowFault, Follower, RowName, Told};
+use rows::{sure_set, Engine, Fault, Files, FollowFault, Follower, RowName, Told, SWEEP};
 use serde_json::value::RawValue;
 use std::path::Path;
 use std::sync::Arc;
+use std::time::Duration;
 
 const FOUNDING: &[u8] = b"the founding's cell";
 
@@ -81,6 +82,28 @@ async fn a_row_that_is_silent_is_not_empty() {
         let mut follower = Follower::of(reader, chain()).await.unwrap();
         assert_eq!(follower.there().await.unwrap().len(), all.len());
     }
+}
+
+#[tokio::test(start_paused = true)]
+async fn texts_that_came_with_tidings_are_not_asked_for_but_from_time_to_time() {
+    let all = cells("w", chain(), 5);
+    let engine = Arc::new(TellingEngine::default());
+    let mut follower = Follower::of(engine.clone(), chain()).await.unwrap();
+    engine.put(&all[..1]);
+    assert_eq!(follower.next().await.unwrap().len(), 1);
+    assert_eq!(engine.gets(), 1);
+    engine.put(&all[1..3]);
+    assert_eq!(follower.next().await.unwrap().len(), 2);
+    assert_eq!(engine.gets(), 1);
+    for (number, text) in (2..).zip(&all[3..]) {
+        tokio::time::sleep(SWEEP + Duration::from_millis(1)).await;
+        engine.put(std::slice::from_ref(text));
+        assert_eq!(follower.next().await.unwrap().len(), 1);
+        assert_eq!(engine.gets(), number);
+    }
+    engine.put(&cells("other", chain(), 6)[5..]);
+    let told = follower.next().await.unwrap_err();
+    assert!(matches!(told, FollowFault::Lost(lost) if lost.why == Why::OtherChain));
 }
 
 #[tokio::test]

@@ -318,8 +318,8 @@ async fn tidings_come_again_after_the_server_was_killed() {
     store.0.go_on();
     // That the connection was made anew is a tiding itself.
     let long = Duration::from_secs(60);
-    timeout(long / 2, tidings.wait(long)).await.unwrap();
+    timeout(long / 2, tidings.wait(1, long)).await.unwrap();
     assert_eq!(set(&writer, 1, &["one"]).await, Ok(Told::Set));
-    timeout(long / 2, tidings.wait(long)).await.unwrap();
+    timeout(long / 2, tidings.wait(1, long)).await.unwrap();
     assert_eq!(all(&reader).await, texts(&["one"]));
 }

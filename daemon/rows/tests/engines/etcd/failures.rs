@@ -177,7 +177,7 @@ async fn over_leaders_that_are_killed_and_replies_that_are_lost_each_cell_has_on
 /// Waits for a tiding that does not come by a time that is over.
 pub async fn is_told(tidings: &mut dyn Tidings) {
     let began = Instant::now();
-    tidings.wait(Duration::from_secs(60)).await;
+    tidings.wait(1, Duration::from_secs(60)).await;
     assert!(began.elapsed() < Duration::from_secs(30));
 }
 
@@ -195,9 +195,9 @@ async fn a_follower_is_told_over_kills_and_compactions() {
         }
         // All three are told by one tiding, or two: none is left over.
         is_told(&mut *tidings).await;
-        tidings.wait(Duration::from_millis(100)).await;
+        tidings.wait(1, Duration::from_millis(100)).await;
         let began = Instant::now();
-        tidings.wait(Duration::from_millis(100)).await;
+        tidings.wait(1, Duration::from_millis(100)).await;
         assert!(began.elapsed() >= Duration::from_millis(100));
         cluster.kill_all();
         cluster.start_all();
@@ -236,7 +236,7 @@ async fn a_member_that_hangs_is_left_for_the_next() {
     assert_eq!(sure(&writer, &row(), 1, "one").await, Ok(Told::Set));
     assert_eq!(all(&reader).await, texts(&["one"]));
     is_told(&mut *tidings).await;
-    tidings.wait(Duration::from_millis(100)).await;
+    tidings.wait(1, Duration::from_millis(100)).await;
     assert_eq!(sure(&writer, &row(), 2, "two").await, Ok(Told::Set));
     is_told(&mut *tidings).await;
 }
