@@ -214,6 +214,12 @@ impl Process {
             tokio::task::yield_now().await;
             self.take_questions(asked);
             self.setting = self.begin()?;
+            // It is on its way before callers are told, whose replies take longer.
+            tokio::select! {
+                biased;
+                told = ended(&mut self.setting) => return self.take_set(told?),
+                () = std::future::ready(()) => {}
+            }
         }
         for (waiter, reply) in self.node.take_told() {
             // Who waits no longer asks again.
