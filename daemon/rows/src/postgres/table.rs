@@ -90,7 +90,8 @@ impl Table {
     pub(super) fn select(&self) -> String {
         let cells = self.name();
         format!(
-            "SELECT number, text, (SELECT current_setting('synchronous_standby_names') <> '') FROM {cells} WHERE row = $1 AND number >= $2 ORDER BY number"
+            "SELECT number, text, (SELECT current_setting('synchronous_standby_names') <> '')
+            FROM {cells} WHERE row = $1 AND number >= $2 ORDER BY number"
         )
     }
 

@@ -155,8 +155,8 @@ impl Drop for Task {
     }
 }
 
-/// Moves what is asked and answered, counts warnings and wakes who follows a row of which there are tidings. What the server told before an answer was counted before the answer is
-/// had.
+/// Moves what is asked and answered, counts warnings and wakes who follows a row of which there are tidings. What the server told before an answer
+/// was counted before the answer is had.
 async fn drive<S, T>(
     mut connection: Connection<S, T>,
     warnings: Arc<AtomicU64>,
