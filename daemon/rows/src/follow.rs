@@ -74,7 +74,8 @@ impl Follower {
         loop {
             // What was set since it was last read was told, or is found by the sweep: nothing is asked for that is hardly there.
             if let Some(read) = self.read {
-                let texts = self.tidings.wait(self.chain.next(), SWEEP).await;
+                let longest = SWEEP.saturating_sub(read.elapsed());
+                let texts = self.tidings.wait(self.chain.next(), longest).await;
                 if !texts.is_empty() && read.elapsed() < SWEEP {
                     return self.take(&texts);
                 }
