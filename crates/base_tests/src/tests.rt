@@ -3,6 +3,7 @@
 mod board;
 mod hashed;
 mod keys;
+mod lent_values;
 mod plans;
 mod refusals;
 mod relations;

@@ -19,7 +19,7 @@ use rbac_decide::Policy;
 use rbac_dump::dump_lines;
 use rbac_founding::{FoundingRefusal, read_founding};
 use rbac_terms::{Answer, Command};
-use rbac_text::{LineRefusal, put_answer, read_asked};
+use rbac_text::{LineRefusal, Scratch, put_answer, read_asked};
 use std::alloc::{AllocError, Global};
 use std::marker::Model;
 
@@ -28,6 +28,8 @@ use std::marker::Model;
 pub struct Monitor {
     policy: Policy,
     answer: Vec<u8>,
+    // What texts are read with, kept from text to text.
+    scratch: Scratch,
 }
 
 impl Model for Monitor {
@@ -61,6 +63,7 @@ impl Monitor {
         Ok(Monitor {
             policy: Policy::found(alloc, founding.vocabulary),
             answer: Vec::new(alloc),
+            scratch: Scratch::new(alloc),
         })
     }
 
@@ -89,7 +92,7 @@ impl Monitor {
         ensures first_refusal { IfErr result (λ refusal. refusal ≢ LineRefusal.NoMemory → applied text.now self.old ≡ Err refusal) }
         ensures unchanged { OnErr result (self.new ≡ self.old) }
     {
-        let command = read_asked(alloc, text)?;
+        let command = read_asked(alloc, text, &mut self.scratch)?;
         let answered = self.answer_command(alloc, &command);
         drop(command);
         match answered {
@@ -132,7 +135,7 @@ impl Monitor {
         ensures told { IfOk result (λ told. TellsAsked (asked text.now) self.now.state (Ok told.items)) }
         ensures refused { IfErr result (λ status. status_number status ≢ no_memory → TellsAsked (asked text.now) self.now.state (Err status)) }
     {
-        match read_asked(alloc, text) {
+        match read_asked(alloc, text, &mut Scratch::new(alloc)) {
             Err(refusal) => Err(Status::BadCommand(refusal)),
             Ok(command) => {
                 let told = explanation_text(alloc, &self.policy, &command);

@@ -12,7 +12,7 @@ use Rattle.rbac_words.specs.declared.message.Message.{Message}
 use Rattle.rbac_moves.specs.Seal.{row}
 use Rattle.rbac_moves.specs.Rows.{with_message}
 use Rattle.rbac_message_text.specs.Message.{message_read}
-use Rattle.rbac_embedded_member.specs.declared.kept.KeptMember.{KeptMember}
+use Rattle.rbac_embedded_member.specs.Place.{KeptMember}
 use Rattle.rbac_embedded_member.specs.Observing.{acting_step, receiving}
 use Rattle.rbac_embedded_member.specs.Step.{Step, submit_step, submit_batch_step, receive_step, take_own_step, deliver_step}
 

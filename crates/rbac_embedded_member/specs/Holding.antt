@@ -15,7 +15,7 @@ use Rattle.rbac_embedded.specs.declared.status.Status.TheVariants.{Done, EmptyPl
 use Rattle.rbac_embedded_member.specs.Observing.{kept_after}
 use Rattle.rbac_embedded_member.specs.Step.{Step}
 use Rattle.rbac_embedded_member.specs.Texts.{Told, item_at, ReadsBackAs}
-use Rattle.rbac_embedded_member.specs.declared.kept.KeptMember.{KeptMember}
+use Rattle.rbac_embedded_member.specs.Place.{KeptMember}
 use Rattle.rbac_embedded_member.specs.declared.status.MemberStatus.{MemberStatus}
 use Rattle.rbac_embedded_member.specs.declared.status.MemberStatus.TheVariants.{Plain, Refused}
 use Rattle.rbac_embedded_member.specs.declared.waiting.Waiting.{Waiting}

@@ -4,7 +4,7 @@ use Rattle.rbac_words.specs.World.{must_acknowledge}
 use Rattle.rbac_words.specs.Keeping.Member.{Member, node_of, message_refusal}
 use Rattle.rbac_words.specs.declared.message.Message.{Message}
 use Rattle.rbac_message_text.specs.Message.{message_read}
-use Rattle.rbac_embedded_member.specs.declared.kept.KeptMember.{KeptMember}
+use Rattle.rbac_embedded_member.specs.Place.{KeptMember}
 use Rattle.rbac_embedded_member.specs.declared.status.MemberStatus.TheVariants.{NotYet, Observes}
 use Rattle.rbac_embedded_member.specs.Step.{Step, refused, step_unless, if_read, message_step}
 use Rattle.rbac_embedded_member.specs.Texts.{Told, text_unless, text_read, message_told}

@@ -19,10 +19,10 @@ use rbac_embedded::buffer::tell;
 use rbac_embedded::verdict::check;
 use rbac_founding::read_founding;
 use rbac_member::Member;
-use rbac_message_text::{LONGEST_MESSAGE, read_commands, read_message};
-use rbac_text::read_command;
-use rbac_words::{Commands, Refusal};
-use std::alloc::Global;
+use rbac_message_text::read_message;
+use rbac_text::{Scratch, read_command};
+use rbac_words::Refusal;
+use std::alloc::{AllocError, Global};
 use std::marker::Model;
 
 /// A member, which acts or only observes, or none.
@@ -33,7 +33,7 @@ pub struct MemberHolder {
 
 impl Model for MemberHolder {
     ghost use Rattle.std.specs.Prelude.{Option, option_map};
-    ghost use Rattle.rbac_embedded_member.specs.declared.kept.KeptMember.{KeptMember as KeptValue};
+    ghost use Rattle.rbac_embedded_member.specs.Place.{KeptMember as KeptValue};
 
     ghost Value = { Option KeptValue };
 
@@ -98,15 +98,12 @@ impl MemberHolder {
             Ok(member) => member,
             Err(_) => return MemberStatus::Refused(Refusal::UnknownMember),
         };
-        match Box::new(alloc, KeptMember { member, observes }) {
+        match KeptMember::boxed(alloc, member, observes) {
             Ok(kept) => {
                 self.kept = Some(kept);
                 MemberStatus::Plain(Status::Done)
             }
-            Err(refused) => {
-                drop(refused);
-                MemberStatus::Plain(Status::NoMemory)
-            }
+            Err(AllocError) => MemberStatus::Plain(Status::NoMemory),
         }
     }
 
@@ -315,21 +312,7 @@ impl MemberHolder {
         let Some(kept) = &self.kept else {
             return EMPTY;
         };
-        if kept.observes {
-            return MemberStatus::Observes;
-        }
-        let told = match read_command(alloc, text) {
-            Ok(command) => texts::next_batch(
-                alloc,
-                &kept.member,
-                LONGEST_MESSAGE,
-                caller,
-                serial,
-                Commands::one(command),
-            ),
-            Err(refusal) => Err(not_read(refusal)),
-        };
-        tell_text(told, out, written)
+        tell_text(kept.next_submit(alloc, caller, serial, text), out, written)
     }
 
     /// The text of the message by which a submit of these commands would send them. As `next_submit`.
@@ -352,21 +335,11 @@ impl MemberHolder {
         let Some(kept) = &self.kept else {
             return EMPTY;
         };
-        if kept.observes {
-            return MemberStatus::Observes;
-        }
-        let told = match read_commands(alloc, text) {
-            Ok(commands) => texts::next_batch(
-                alloc,
-                &kept.member,
-                LONGEST_MESSAGE,
-                caller,
-                serial,
-                commands,
-            ),
-            Err(refusal) => Err(not_read(refusal)),
-        };
-        tell_text(told, out, written)
+        tell_text(
+            kept.next_submit_batch(alloc, caller, serial, text),
+            out,
+            written,
+        )
     }
 
     /// The text of the acknowledgement that message `number` of member `from` wants, as it can be set in the member's row and taken from there
@@ -390,7 +363,7 @@ impl MemberHolder {
         let Some(kept) = &self.kept else {
             return EMPTY;
         };
-        let told = match read_message(alloc, text) {
+        let told = match read_message(alloc, text, &mut Scratch::new(alloc)) {
             Ok(message) => {
                 let told = observing::next_answer(
                     alloc,
@@ -493,7 +466,7 @@ impl MemberHolder {
         let Some(kept) = &self.kept else {
             return EMPTY;
         };
-        let told = match read_command(alloc, text) {
+        let told = match read_command(alloc, text, &mut Scratch::new(alloc)) {
             Ok(command) => {
                 let told = reviews::question_told(alloc, &kept.member, &command);
                 drop(command);

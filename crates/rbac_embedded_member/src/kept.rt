@@ -1,18 +1,21 @@
 //! What a place has of a member, and its steps from texts.
-ghost use Rattle.std.specs.Prelude.{◌≡◌, ◌≢◌};
+ghost use Rattle.std.specs.Prelude.{◌≡◌, ◌≢◌, IfErr, IfOk, Ok, Err};
 ghost use Rattle.rbac_embedded.specs.Status.{no_memory};
-ghost use Rattle.rbac_embedded_member.specs.Observing.{acting_step, kept_after, receiving};
+ghost use Rattle.rbac_embedded_member.specs.Observing.{acting_step, acting_told, kept_after, receiving};
 ghost use Rattle.rbac_embedded_member.specs.Status.{status_number};
 ghost use Rattle.rbac_embedded_member.specs.Step.{submit_batch_step, submit_step, take_own_step};
+ghost use Rattle.rbac_embedded_member.specs.Texts.{next_submit, next_submit_batch};
 
 use crate::status::MemberStatus;
-use crate::{observing, steps};
+use crate::texts::Told;
+use crate::{observing, steps, texts};
 use rbac_embedded::Status;
 use rbac_member::Member;
-use rbac_message_text::{LONGEST_MESSAGE, read_commands, read_message};
-use rbac_text::{LineRefusal, read_command};
+use rbac_message_text::{LONGEST_MESSAGE, read_commands, read_message, read_shared};
+use rbac_text::{LineRefusal, Scratch};
 use rbac_words::Commands;
-use std::alloc::Global;
+use std::alloc::{AllocError, Global};
+use std::marker::Model;
 
 /// A member in a place, which acts, or only observes: it then takes its own row, receives what it need not acknowledge, and delivers, and
 /// sends nothing.
@@ -22,6 +25,16 @@ pub struct KeptMember {
     pub member: Member,
     /// Whether it only observes.
     pub observes: bool,
+    // What texts are read with, kept from text to text.
+    scratch: Scratch,
+}
+
+impl Model for KeptMember {
+    ghost use Rattle.rbac_embedded_member.specs.Place.{KeptMember as KeptValue};
+
+    ghost Value = { KeptValue };
+
+    ghost view = { λ k. record { member = k.member; observes = k.observes } };
 }
 
 /// Why a text is not read.
@@ -32,6 +45,28 @@ pub(crate) fn not_read(refusal: LineRefusal) -> MemberStatus
 }
 
 impl KeptMember {
+    /// A member for a place.
+    pub(crate) fn boxed(
+        alloc: Global,
+        member: Member,
+        observes: bool,
+    ) -> Result<Box<KeptMember>, AllocError>
+        ensures { IfOk result (λ kept. kept.value ≡ record { member = member; observes = observes }) }
+    {
+        let kept = KeptMember {
+            member,
+            observes,
+            scratch: Scratch::new(alloc),
+        };
+        match Box::new(alloc, kept) {
+            Ok(kept) => Ok(kept),
+            Err(refused) => {
+                drop(refused);
+                Err(AllocError)
+            }
+        }
+    }
+
     /// Submits the command that a text stands for, unless it only observes.
     pub(crate) fn submit(
         &mut self,
@@ -51,7 +86,7 @@ impl KeptMember {
         if self.observes {
             return MemberStatus::Observes;
         }
-        match read_command(alloc, text) {
+        match read_shared(alloc, text, &mut self.scratch) {
             Ok(command) => steps::submit(
                 alloc,
                 &mut self.member,
@@ -84,7 +119,7 @@ impl KeptMember {
         if self.observes {
             return MemberStatus::Observes;
         }
-        match read_commands(alloc, text) {
+        match read_commands(alloc, text, &mut self.scratch) {
             Ok(commands) => steps::submit(
                 alloc,
                 &mut self.member,
@@ -115,7 +150,7 @@ impl KeptMember {
     {
         *told = 0;
         let observes = self.observes;
-        match read_message(alloc, text) {
+        match read_message(alloc, text, &mut self.scratch) {
             Ok(message) => {
                 let status = observing::receive(
                     &mut self.member,
@@ -147,7 +182,7 @@ impl KeptMember {
         ensures no_number { status_number result ≡ no_memory → told.new ≡ 0 }
     {
         *told = 0;
-        match read_message(alloc, text) {
+        match read_message(alloc, text, &mut self.scratch) {
             Ok(message) => steps::take_own(
                 alloc,
                 &mut self.member,
@@ -157,6 +192,54 @@ impl KeptMember {
                 told,
             ),
             Err(refusal) => not_read(refusal),
+        }
+    }
+
+    /// The text of the message by which `submit` would send the command that a text stands for.
+    pub(crate) fn next_submit(&self, alloc: Global, caller: u32, serial: u32, text: &[u8]) -> Told
+        ensures text { IfOk result (λ own. acting_told (next_submit caller serial text.now) self.now ≡ Ok own.items) }
+        ensures none { IfErr result (λ status. status_number status ≢ no_memory → acting_told (next_submit caller serial text.now) self.now ≡ Err status) }
+    {
+        if self.observes {
+            return Err(MemberStatus::Observes);
+        }
+        match read_shared(alloc, text, &mut Scratch::new(alloc)) {
+            Ok(command) => texts::next_batch(
+                alloc,
+                &self.member,
+                LONGEST_MESSAGE,
+                caller,
+                serial,
+                Commands::one(command),
+            ),
+            Err(refusal) => Err(not_read(refusal)),
+        }
+    }
+
+    /// The text of the message by which `submit_batch` would send the commands of an array.
+    pub(crate) fn next_submit_batch(
+        &self,
+        alloc: Global,
+        caller: u32,
+        serial: u32,
+        text: &[u8],
+    ) -> Told
+        ensures text { IfOk result (λ own. acting_told (next_submit_batch caller serial text.now) self.now ≡ Ok own.items) }
+        ensures none { IfErr result (λ status. status_number status ≢ no_memory → acting_told (next_submit_batch caller serial text.now) self.now ≡ Err status) }
+    {
+        if self.observes {
+            return Err(MemberStatus::Observes);
+        }
+        match read_commands(alloc, text, &mut Scratch::new(alloc)) {
+            Ok(commands) => texts::next_batch(
+                alloc,
+                &self.member,
+                LONGEST_MESSAGE,
+                caller,
+                serial,
+                commands,
+            ),
+            Err(refusal) => Err(not_read(refusal)),
         }
     }
 }

@@ -12,7 +12,7 @@ use crate::refusal::DeskRefusal;
 use crate::running::MOST_READS;
 use crate::text::{put_reply, refuse};
 use line_engine::{RunFault, Summary, Taking, Watched, run_lines};
-use rbac_text::read_client;
+use rbac_text::{Scratch, read_client};
 use rbac_words::{Answer, Command};
 use std::alloc::{AllocError, Global};
 use std::io::{Read, Write};
@@ -24,20 +24,27 @@ pub(crate) struct Conversing<D: Desk>(PhantomData<D>);
 impl<D: Desk> Taking for Conversing<D> {
     type Over = D;
 
+    type Scratch = Scratch;
+
     ghost State = { D };
 
     ghost state = { λ desk. desk };
 
     ghost takes = { AnswersLine D.asks };
 
+    fn scratch(alloc: Global) -> Scratch {
+        Scratch::new(alloc)
+    }
+
     fn take_line(
         desk: &mut D,
         alloc: Global,
+        scratch: &mut Scratch,
         number: u64,
         line: &[u8],
         text: &mut Vec<u8>,
     ) -> Result<bool, AllocError> {
-        match read_client(alloc, line) {
+        match read_client(alloc, line, scratch) {
             Ok((at, command)) => ask(desk, alloc, number, at, command, text),
             Err(refusal) => refuse(text, number, refusal),
         }

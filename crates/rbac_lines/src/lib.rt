@@ -14,7 +14,7 @@ pub use conversing::converse;
 pub use desk::Desk;
 pub use line_engine::{RunFault, Summary, Watched, watch};
 pub use rbac_founding::{Founding, FoundingRefusal, read_founding, sample_founding};
-pub use rbac_text::{LineRefusal, put_answer, read_client, read_command};
+pub use rbac_text::{LineRefusal, Scratch, put_answer, read_client, read_command};
 pub use reading::{kept_line_asks_the_same, read_line};
 pub use refusal::DeskRefusal;
 pub use running::{MOST_READS, run};

@@ -10,6 +10,7 @@ use crate::text::{
     put_delivered, put_nothing_delivered, put_received, put_refused, put_submitted, refuse,
 };
 use line_engine::Taking;
+use rbac_text::Scratch;
 use rbac_words::{Event, Outcome, Record, Refusal};
 use rbac_world::World;
 use std::alloc::{AllocError, Global};
@@ -20,20 +21,27 @@ pub(crate) struct Playing;
 impl Taking for Playing {
     type Over = World;
 
+    type Scratch = Scratch;
+
     ghost State = { WorldValue };
 
     ghost state = { λ w. w };
 
     ghost takes = { PlaysLine };
 
+    fn scratch(alloc: Global) -> Scratch {
+        Scratch::new(alloc)
+    }
+
     fn take_line(
         world: &mut World,
         alloc: Global,
+        scratch: &mut Scratch,
         number: u64,
         line: &[u8],
         text: &mut Vec<u8>,
     ) -> Result<bool, AllocError> {
-        match read_line(alloc, line) {
+        match read_line(alloc, line, scratch) {
             Ok(event) => {
                 let is_refused = play(alloc, world, number, &event, text);
                 drop(event);

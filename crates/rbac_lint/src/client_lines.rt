@@ -8,7 +8,7 @@ use crate::finding::{Finding, Place, fault, findings_text};
 use crate::line::{LineKind, lint_line};
 use line_engine::{RunFault, Summary, Taking, run_lines, watch};
 use rbac_decide::Policy;
-use rbac_lines::{LineRefusal, read_client};
+use rbac_lines::{LineRefusal, Scratch, read_client};
 use rbac_terms::Command;
 use std::alloc::{AllocError, Global};
 use std::io::{Read, Write};
@@ -51,13 +51,14 @@ impl ClientLines {
     fn look_at(
         &mut self,
         alloc: Global,
+        scratch: &mut Scratch,
         number: u64,
         line: &[u8],
         findings: &mut Vec<Finding>,
     ) -> Result<(), AllocError>
         ensures { OnOk result (findings.new.items ≡ [] → IsOk (client line.now)) }
     {
-        match read_client(alloc, line) {
+        match read_client(alloc, line, scratch) {
             Ok((at, command)) => {
                 let asked = self.ask(alloc, number, at, &command, findings);
                 drop(command);
@@ -83,6 +84,8 @@ struct ClientLinting;
 impl Taking for ClientLinting {
     type Over = ClientLines;
 
+    type Scratch = Scratch;
+
     ghost use Rattle.std.specs.Prelude.{⊤};
     ghost use Rattle.rbac_text.specs.Client.{client};
     ghost use Rattle.rbac_lint.specs.Clean.{LintsBy};
@@ -93,15 +96,20 @@ impl Taking for ClientLinting {
 
     ghost takes = { LintsBy client };
 
+    fn scratch(alloc: Global) -> Scratch {
+        Scratch::new(alloc)
+    }
+
     fn take_line(
         lines: &mut ClientLines,
         alloc: Global,
+        scratch: &mut Scratch,
         number: u64,
         line: &[u8],
         text: &mut Vec<u8>,
     ) -> Result<bool, AllocError> {
         let mut findings = Vec::new(alloc);
-        lines.look_at(alloc, number, line, &mut findings)?;
+        lines.look_at(alloc, scratch, number, line, &mut findings)?;
         let own = findings_text(alloc, lines.path.as_str(), &findings)?;
         text.extend_from_slice(&own)?;
         Ok(!findings.is_empty())

@@ -8,7 +8,7 @@ use crate::client_lines::MOST_READS;
 use crate::finding::{Finding, findings_text};
 use crate::line::{LineKind, lint_line};
 use line_engine::{RunFault, Summary, Taking, run_lines, watch};
-use rbac_lines::{LineRefusal, read_line};
+use rbac_lines::{LineRefusal, Scratch, read_line};
 use std::alloc::{AllocError, Global};
 use std::io::{Read, Write};
 
@@ -21,13 +21,14 @@ pub struct ScheduleLines {
 // What is wrong with a line.
 fn look_at(
     alloc: Global,
+    scratch: &mut Scratch,
     number: u64,
     line: &[u8],
     findings: &mut Vec<Finding>,
 ) -> Result<(), AllocError>
     ensures { OnOk result (findings.new.items ≡ [] → IsOk (event line.now)) }
 {
-    match read_line(alloc, line) {
+    match read_line(alloc, line, scratch) {
         Ok(event) => {
             drop(event);
             lint_line(alloc, LineKind::Schedule, number, line, None, findings)
@@ -50,6 +51,8 @@ struct ScheduleLinting;
 impl Taking for ScheduleLinting {
     type Over = ScheduleLines;
 
+    type Scratch = Scratch;
+
     ghost use Rattle.std.specs.Prelude.{⊤};
     ghost use Rattle.rbac_lines.specs.Event.{event};
     ghost use Rattle.rbac_lint.specs.Clean.{LintsBy};
@@ -60,15 +63,20 @@ impl Taking for ScheduleLinting {
 
     ghost takes = { LintsBy event };
 
+    fn scratch(alloc: Global) -> Scratch {
+        Scratch::new(alloc)
+    }
+
     fn take_line(
         lines: &mut ScheduleLines,
         alloc: Global,
+        scratch: &mut Scratch,
         number: u64,
         line: &[u8],
         text: &mut Vec<u8>,
     ) -> Result<bool, AllocError> {
         let mut findings = Vec::new(alloc);
-        look_at(alloc, number, line, &mut findings)?;
+        look_at(alloc, scratch, number, line, &mut findings)?;
         let own = findings_text(alloc, lines.path.as_str(), &findings)?;
         text.extend_from_slice(&own)?;
         Ok(!findings.is_empty())

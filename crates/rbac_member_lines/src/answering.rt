@@ -23,6 +23,7 @@ use rbac_embedded_member::texts::{first_answer, message_at, next_batch, record_a
 use rbac_embedded_member::{MemberStatus, waits_of};
 use rbac_lines::{put_refused, put_refused_line, refuse};
 use rbac_member::Member;
+use rbac_text::Scratch;
 use rbac_words::{Message, Refusal};
 use std::alloc::{AllocError, Global};
 
@@ -35,6 +36,8 @@ pub(crate) struct Answering;
 impl Taking for Answering {
     type Over = Member;
 
+    type Scratch = Scratch;
+
     ghost use Rattle.rbac_words.specs.Keeping.Member.{Member as MemberValue};
     ghost use Rattle.rbac_member_lines.specs.Output.{ServesLine};
 
@@ -44,14 +47,19 @@ impl Taking for Answering {
 
     ghost takes = { ServesLine };
 
+    fn scratch(alloc: Global) -> Scratch {
+        Scratch::new(alloc)
+    }
+
     fn take_line(
         member: &mut Member,
         alloc: Global,
+        scratch: &mut Scratch,
         number: u64,
         line: &[u8],
         text: &mut Vec<u8>,
     ) -> Result<bool, AllocError> {
-        match read_asked(alloc, line) {
+        match read_asked(alloc, line, scratch) {
             Ok(asked) => answer(member, alloc, number, asked, text),
             Err(refusal) => refuse(text, number, refusal),
         }

@@ -6,8 +6,8 @@ mod record;
 mod stamp;
 mod writing;
 
-pub use rbac_text::LineRefusal;
-pub use reading::{LONGEST_MESSAGE, message_of, read_commands, read_message};
+pub use rbac_text::{LineRefusal, Scratch};
+pub use reading::{LONGEST_MESSAGE, message_of, read_commands, read_message, read_shared};
 pub use record::put_record;
 pub use stamp::put_stamp;
 pub use writing::{put_acknowledgement, put_batch, put_message};

@@ -19,7 +19,7 @@ fn put_begin(text: &mut Vec<u8>, delivered: &Record) -> Result<(), AllocError>
     put_answer(text, &delivered.answer)?;
     put_number(text, ",\"caller\":", u64::from(delivered.caller))?;
     put_piece(text, ",\"command\":")?;
-    put_command(text, &delivered.command)
+    put_command(text, delivered.command.get())
 }
 
 // Its end: the serial and the stamp.

@@ -4,10 +4,9 @@ use Rattle.std.specs.List.{filter}
 use Rattle.rbac_words.specs.Message.{commands_of, is_by, CountsFrom}
 use Rattle.rbac_words.specs.Front.{is_of}
 use Rattle.rbac_words.specs.Play.{IsPrefixOf}
-use Rattle.rbac_words.specs.World.{stamp, submit_refusal}
+use Rattle.rbac_words.specs.World.{submit_refusal}
 use Rattle.rbac_words.specs.Keeping.Member.{Member, node_of}
 use Rattle.rbac_terms.specs.declared.answer.Answer.{Answer}
-use Rattle.rbac_terms.specs.declared.command.Command.{Command}
 use Rattle.rbac_words.specs.declared.message.Submission.{Submission}
 use Rattle.rbac_words.specs.declared.record.Record.{Record}
 use Rattle.rbac_node.specs.Node.{NodeState}
@@ -37,10 +36,6 @@ pub record Owns (p : PassState) (t : TicketState) : Type 0 where
   pub serial : t.call.serial + 1 ≡ p.next
 
 -- ---- Submit
-
--- a command as a member submits it next, alone in its message
-abbrev pub submission : Member → ℕ → ℕ → Command → Submission
-submission v caller serial command = record { stamp = stamp (v.clock + 1) v.number; caller = caller; serial = serial; command = command }
 
 -- why a node does not submit a pass's next command: the first that applies
 abbrev pub pass_refusal : NodeState → PassState → Option ServiceRefusal

@@ -12,7 +12,7 @@ use crate::group_name::GroupName;
 use crate::node::Node;
 use crate::refusal::{MeetRefusal, ServiceRefusal};
 use rbac_board::{Mark, Row};
-use rbac_words::{Command, Record, Stamp, Submission};
+use rbac_words::{Command, Record, Submission};
 use std::alloc::AllocError;
 use std::marker::{Model, PhantomData};
 pub use ticket::{Receipt, Ticket};
@@ -66,10 +66,10 @@ impl<G: GroupName> Pass<G> {
     ghost use Rattle.rbac_terms.specs.State.{founding_state};
     ghost use Rattle.rbac_words.specs.Front.{IsLegalFront};
     ghost use Rattle.rbac_words.specs.World.{stamp, submit_refusal};
-    ghost use Rattle.rbac_words.specs.Keeping.Member.{node_of, submitted};
+    ghost use Rattle.rbac_words.specs.Keeping.Member.{node_of, submission, submitted};
     ghost use Rattle.rbac_node.specs.Node.{with_own_member};
     ghost use Rattle.rbac_node.specs.Told.{if_told};
-    ghost use Rattle.rbac_node.specs.Pass.{PassState, Owns, submission, pass_refusal};
+    ghost use Rattle.rbac_node.specs.Pass.{PassState, Owns, pass_refusal};
 
     /// A pass of this caller of a member, with an empty front of the member's history row. A node alone gives caller numbers.
     pub(crate) fn found(member: u32, caller: u32, row: &Row<Record>) -> Pass<G>
@@ -134,32 +134,18 @@ impl<G: GroupName> Pass<G> {
         ensures node_unchanged { OnErr result (node.new ≡ node.old) }
         ensures unchanged { OnErr result (self.new ≡ self.old) }
     {
-        let serial = self.next;
-        match self.submit_next(node, &command) {
-            Ok(stamp) => Ok(Ticket::new(
-                Submission {
-                    stamp,
-                    caller: self.caller,
-                    serial,
-                    command,
-                },
-                self.front.len(),
-            )),
-            Err(refusal) => {
-                drop(command);
-                Err(refusal)
-            }
-        }
+        let call = self.submit_next(node, command)?;
+        Ok(Ticket::new(call, self.front.len()))
     }
 
-    // A copy of its next command, submitted at a node; that command's stamp.
+    // Its next command, submitted at a node.
     fn submit_next(
         &mut self,
         node: &mut Node<G>,
-        command: &Command,
-    ) -> Result<Stamp, ServiceRefusal>
-        ensures stamp { IfOk result (λ s. s ≡ stamp (node.old.member.clock + 1) node.old.member.number) }
-        ensures submitted { OnOk result (node.new ≡ with_own_member node.old (submitted node.old.member self.old.caller self.old.next (command.now ∷ []))) }
+        command: Command,
+    ) -> Result<Submission, ServiceRefusal>
+        ensures call { IfOk result (λ call. call ≡ submission node.old.member self.old.caller self.old.next command) }
+        ensures submitted { OnOk result (node.new ≡ with_own_member node.old (submitted node.old.member self.old.caller self.old.next (command ∷ []))) }
         ensures pass { OnOk result (self.new ≡ record self.old { next = self.old.next + 1; is_waiting = true }) }
         ensures accepted { OnOk result (pass_refusal node.old self.old ≡ None) }
         ensures first_refusal { IfErr result (λ refusal. (refusal ≢ ServiceRefusal.NoMemory → pass_refusal node.old self.old ≡ Some refusal) × (refusal ≡ ServiceRefusal.NoMemory → pass_refusal node.old self.old ≡ None)) }
@@ -169,11 +155,14 @@ impl<G: GroupName> Pass<G> {
         ensures unchanged { OnErr result (self.new ≡ self.old) }
     {
         node.invariants();
-        self.may_submit(node)?;
-        let stamp = node.submit_copy(self.caller, self.next, command)?;
+        match self.may_submit(node) {
+            Ok(()) => {}
+            Err(refusal) => return Err(refusal),
+        }
+        let call = node.submit(self.caller, self.next, command)?;
         self.next += 1;
         self.is_waiting = true;
-        Ok(stamp)
+        Ok(call)
     }
 
     // Whether the node is not stopped, no ticket is outstanding, and the node gave this caller's number.

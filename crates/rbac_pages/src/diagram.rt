@@ -84,7 +84,9 @@ fn put_submitted_word(text: &mut Vec<u8>, event: &Event) -> Result<(), AllocErro
     ensures { OnOk result (text.new.items ≡ text.old.items ++ submitted_word event.now) }
 {
     match event {
-        Event::Submit { command, .. } => text.extend_from_slice(command_word(command).as_bytes()),
+        Event::Submit { command, .. } => text.extend_from_slice(command_word(
+            command.get(),
+        ).as_bytes()),
         Event::SubmitBatch { commands, .. } => {
             let count = commands.as_slice().len();
             put(text, format_args!("batch of {count}"))

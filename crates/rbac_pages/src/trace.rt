@@ -266,7 +266,12 @@ fn put_submitted(
     ensures { OnOk result (text.new.items ≡ text.old.items ++ submitted_text (node_of member.now) event.now stamp) }
 {
     match event {
-        Event::Submit { command, .. } => put_sent(text, member, stamp, slice::from_ref(command)),
+        Event::Submit { command, .. } => put_sent(
+            text,
+            member,
+            stamp,
+            slice::from_ref(command.get()),
+        ),
         Event::SubmitBatch { commands, .. } => put_sent(text, member, stamp, commands.as_slice()),
         Event::Receive { .. } | Event::Deliver { .. } => text.extend_from_slice(b"\n"),
     }

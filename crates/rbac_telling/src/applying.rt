@@ -6,7 +6,7 @@ ghost use Rattle.rbac_telling.specs.Applying.{is_known, served_after, served_tex
 
 use line_engine::Taking;
 use rbac_decide::Policy;
-use rbac_lines::{DeskRefusal, LineRefusal, read_client};
+use rbac_lines::{DeskRefusal, LineRefusal, Scratch, read_client};
 use rbac_terms::Command;
 use std::alloc::{AllocError, Global};
 use std::fmt::Display;
@@ -131,6 +131,8 @@ fn ask(
 impl Taking for Applying {
     type Over = Served;
 
+    type Scratch = Scratch;
+
     ghost use Rattle.rbac_telling.specs.Applying.{Served as ServedValue, AppliesLine};
 
     ghost State = { ServedValue };
@@ -139,14 +141,19 @@ impl Taking for Applying {
 
     ghost takes = { AppliesLine };
 
+    fn scratch(alloc: Global) -> Scratch {
+        Scratch::new(alloc)
+    }
+
     fn take_line(
         served: &mut Served,
         alloc: Global,
+        scratch: &mut Scratch,
         number: u64,
         line: &[u8],
         text: &mut Vec<u8>,
     ) -> Result<bool, AllocError> {
-        match read_client(alloc, line) {
+        match read_client(alloc, line, scratch) {
             Ok((at, command)) => {
                 let is_refused = ask(served, alloc, number, at, &command, text);
                 drop(command);

@@ -218,15 +218,15 @@ impl Way {
         &mut self,
         alloc: Global,
         known: &[Command],
-        wanted: &[Command],
+        wanted: Vec<Command>,
     ) -> Result<(), LeadingRefusal>
         ensures { (s : State) → IsLed s self.old.commands.items self.old.policy → OnOk result (IsLed s self.new.commands.items self.new.policy) }
     {
         let mut rest = known;
         for command in wanted {
             match rest {
-                [next, others @ ..] if next == command => rest = others,
-                _ => self.go(alloc, command.clone()?)?,
+                [next, others @ ..] if *next == command => rest = others,
+                _ => self.go(alloc, command)?,
             }
         }
         Ok(())
@@ -238,7 +238,7 @@ impl Way {
     {
         let known = commands_of(alloc, &self.policy, room)?;
         let wanted = commands_of(alloc, to, room)?;
-        self.put_in(alloc, &known, &wanted)
+        self.put_in(alloc, &known, wanted)
     }
 }
 

@@ -5,7 +5,7 @@ ghost use Rattle.rbac_pages.specs.RefusedText.{refused_text, line_refusal_senten
 ghost use Rattle.rbac_telling.specs.Tracing.{traced_text, drawn_after};
 
 use line_engine::Taking;
-use rbac_lines::{LineRefusal, read_line};
+use rbac_lines::{LineRefusal, Scratch, read_line};
 use rbac_pages::{Diagram, refused_line_text, refused_text, step_text};
 use rbac_words::{Event, Refusal};
 use rbac_world::World;
@@ -17,6 +17,8 @@ pub(crate) struct Tracing;
 impl Taking for Tracing {
     type Over = World;
 
+    type Scratch = Scratch;
+
     ghost use Rattle.rbac_words.specs.World.{World as WorldValue};
     ghost use Rattle.rbac_telling.specs.Tracing.{TracesLine};
 
@@ -26,14 +28,19 @@ impl Taking for Tracing {
 
     ghost takes = { TracesLine };
 
+    fn scratch(alloc: Global) -> Scratch {
+        Scratch::new(alloc)
+    }
+
     fn take_line(
         world: &mut World,
         alloc: Global,
+        scratch: &mut Scratch,
         number: u64,
         line: &[u8],
         text: &mut Vec<u8>,
     ) -> Result<bool, AllocError> {
-        match read_line(alloc, line) {
+        match read_line(alloc, line, scratch) {
             Ok(event) => {
                 let is_refused = trace(world, alloc, number, &event, text);
                 drop(event);
@@ -106,6 +113,8 @@ pub(crate) struct Drawing;
 impl Taking for Drawing {
     type Over = Drawn;
 
+    type Scratch = Scratch;
+
     ghost use Rattle.rbac_words.specs.World.{World as WorldValue};
     ghost use Rattle.rbac_telling.specs.Tracing.{MovesLine};
 
@@ -115,14 +124,19 @@ impl Taking for Drawing {
 
     ghost takes = { MovesLine };
 
+    fn scratch(alloc: Global) -> Scratch {
+        Scratch::new(alloc)
+    }
+
     fn take_line(
         drawn: &mut Drawn,
         alloc: Global,
+        scratch: &mut Scratch,
         number: u64,
         line: &[u8],
         _text: &mut Vec<u8>,
     ) -> Result<bool, AllocError> {
-        match read_line(alloc, line) {
+        match read_line(alloc, line, scratch) {
             Ok(event) => {
                 let is_refused = draw(&mut drawn.world, &mut drawn.diagram, alloc, number, &event);
                 drop(event);

@@ -1,13 +1,8 @@
 //! The commands of the policy.
-ghost use Rattle.std.specs.Prelude.{◌≡◌, IfOk};
-
-mod cloning;
-
 use crate::name::Name;
 use crate::name_set::NameSet;
 use crate::review::Review;
 use crate::separation::Separation;
-use std::alloc::AllocError;
 
 /// A command of RBAC (ANSI INCITS 359-2004, 6.1 to 6.4), one variant for each that may change a policy or checks access, and one
 /// for all reviews. Those about sets of separation serve both kinds: CreateSsdSet is `CreateSet` of the static kind,
@@ -128,15 +123,5 @@ impl Command {
             }
             _ => {}
         }
-    }
-
-    /// An equal command.
-    ///
-    /// # Errors
-    /// `AllocError` where there is no memory for it.
-    pub fn copy(&self) -> Result<Command, AllocError>
-        ensures { IfOk result (λ copy. copy ≡ self.now) }
-    {
-        self.clone()
     }
 }

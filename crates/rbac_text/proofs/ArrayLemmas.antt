@@ -2,9 +2,9 @@
 use Rattle.std.proofs.Common.{◌≡◌, ◌&&◌, ◌+◌, ◌<◌, ◌≤◌, ℕ, List, [], ◌∷◌, map, drop, get_or, length, fold, Bool, true, false, ◌||◌, None, Some, Ok, Err, is_some, option_map, option_and_then, unwrap_or, if◌then◌else◌, refl, sym, ap, ◌∙◌}
 use Rattle.std.specs.List.{list_all}
 use Rattle.std.proofs.lemmas.List.{at_drop_more, at_drop_all}
-use Rattle.serde_json.specs.declared.value.Value.{Value}
+use Rattle.lent_json.specs.Data.{Lent}
 use Rattle.serde_json.specs.Find.{as_object, as_str}
-use Rattle.serde_json.specs.View.{view, items_view}
+use Rattle.lent_json.specs.Data.{meaning, items}
 use Rattle.std.specs.List.Sorted.{IsStrictlySortedBy}
 use Rattle.std.specs.Ordering.{eq_by_cmp}
 use Rattle.sorted_keys.specs.Keys.{has, with_key, set_of}
@@ -54,8 +54,8 @@ added_all names =
 -- ---- The elements of an array
 
 -- the text of an element
-abbrev pub text_of : Value → List ℕ
-text_of value = unwrap_or (as_str (view value)) []
+abbrev pub text_of : Lent → List ℕ
+text_of value = unwrap_or (as_str (meaning value)) []
 
 -- a set and the texts that are left to add to it as names
 abbrev pub names_from : List Name → List (List ℕ) → Reading (List Name)
@@ -67,7 +67,7 @@ first_added set text texts true = refl
 first_added set text texts false = refl
 
 -- the next element is read as a name and added, or refused
-pub names_from_next : (set : List Name) (array : List Value) (i : ℕ) (value : Value) (text : List ℕ) (answer : Reading Name)
+pub names_from_next : (set : List Name) (array : List Lent) (i : ℕ) (value : Lent) (text : List ℕ) (answer : Reading Name)
     → i < length array → value ≡ get_or array i value → text ≡ text_of value → name_of text ≡ answer
     → names_from set (map text_of (drop i array)) ≡ (answer >>= λ name. names_from (with_key name_cmp name set) (map text_of (drop (i + 1) array)))
 names_from_next set array i value text answer within here is read =
@@ -79,28 +79,28 @@ names_from_next set array i value text answer within here is read =
     ∙ ap (λ r. r >>= λ name. names_from (with_key name_cmp name set) later) read
 
 -- after the last element the set is read
-pub names_from_end : (set : List Name) (array : List Value) (i : ℕ) → length array ≤ i → names_from set (map text_of (drop i array)) ≡ Ok set
+pub names_from_end : (set : List Name) (array : List Lent) (i : ℕ) → length array ≤ i → names_from set (map text_of (drop i array)) ≡ Ok set
 names_from_end set array i h = at_drop_all (λ values. names_from set (map text_of values)) array i h
 
 -- an array has texts if each element is one
-pub texts_of_array : (array : List Value) → texts_of (items_view array) ≡ (if list_all (λ value. is_some (as_str (view value))) array then Some (map text_of array) else None)
+pub texts_of_array : (array : List Lent) → texts_of (items array) ≡ (if list_all (λ value. is_some (as_str (meaning value))) array then Some (map text_of array) else None)
 texts_of_array [] = refl
 texts_of_array (value ∷ array) =
-    ap (λ rest. option_and_then (λ text. option_map (λ later. text ∷ later) rest) (as_str (view value))) (texts_of_array array)
-    ∙ of_kind_more (as_str (view value)) (list_all (λ v. is_some (as_str (view v))) array) (map text_of array) []
+    ap (λ rest. option_and_then (λ text. option_map (λ later. text ∷ later) rest) (as_str (meaning value))) (texts_of_array array)
+    ∙ of_kind_more (as_str (meaning value)) (list_all (λ v. is_some (as_str (meaning v))) array) (map text_of array) []
 
 -- an array with another element is refused
-pub names_of_others : (array : List Value) → false ≡ list_all (λ value. is_some (as_str (view value))) array → names_of (items_view array) ≡ Err WrongKind
+pub names_of_others : (array : List Lent) → false ≡ list_all (λ value. is_some (as_str (meaning value))) array → names_of (items array) ≡ Err WrongKind
 names_of_others array others = rw (texts_of_array array, ← others)
 
 -- an array of texts is read from its first element on
-pub names_of_texts : (array : List Value) → true ≡ list_all (λ value. is_some (as_str (view value))) array → names_of (items_view array) ≡ names_from [] (map text_of array)
+pub names_of_texts : (array : List Lent) → true ≡ list_all (λ value. is_some (as_str (meaning value))) array → names_of (items array) ≡ names_from [] (map text_of array)
 names_of_texts array texts =
     rw (texts_of_array array, ← texts) (ap (λ set. if list_all is_name (map text_of array) then Ok set else Err BadName) (sym (added_all (map text_of array))))
 
 -- ---- Objects
 
 -- whether an array has objects alone, element by element
-pub are_objects_of : (array : List Value) → are_objects (items_view array) ≡ list_all (λ value. is_some (as_object (view value))) array
+pub are_objects_of : (array : List Lent) → are_objects (items array) ≡ list_all (λ value. is_some (as_object (meaning value))) array
 are_objects_of [] = refl
-are_objects_of (value ∷ array) = ap (λ rest. is_some (as_object (view value)) && rest) (are_objects_of array)
+are_objects_of (value ∷ array) = ap (λ rest. is_some (as_object (meaning value)) && rest) (are_objects_of array)

@@ -6,6 +6,7 @@ use Rattle.std.specs.Str.{bytes_eq}
 use Rattle.std.specs.List.{list_all}
 use Rattle.serde_json.specs.Data.{Data, Items, no_items, item, Members, no_members, member}
 use Rattle.serde_json.specs.Find.{get_member, as_str, as_number, as_u64, as_array, as_object}
+pub use Rattle.lent_json.specs.Data.{keys_of}
 use Rattle.sorted_keys.specs.Keys.{set_of}
 use Rattle.rbac_terms.specs.Name.{Name, is_name, name_cmp}
 use Rattle.rbac_text.specs.Keys.{is_one_of}
@@ -107,11 +108,6 @@ objects_in key object = do
   objects_of array
 
 -- ---- The whole object
-
--- the keys of an object
-abbrev pub keys_of : Members → List (List ℕ)
-keys_of no_members = []
-keys_of (member key value rest) = key ∷ keys_of rest
 
 -- ExtraField where there is a key besides these
 abbrev pub only_keys : List (List ℕ) → Members → Reading ⊤

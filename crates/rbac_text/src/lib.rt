@@ -14,6 +14,7 @@ mod writing;
 
 pub use answer::{put_answer, put_subjects};
 pub use law::{what_is_read_is_asked, written_command_is_read};
+pub use lent_json::Scratch;
 pub use lines::{COMMAND_ROOM, client_lines};
 pub use reading::{read_asked, read_client, read_command};
 pub use refusal::LineRefusal;

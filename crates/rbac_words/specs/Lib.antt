@@ -7,6 +7,7 @@ pub mod Limits
 pub mod Message
 pub mod Play
 pub mod Right
+pub mod Shared
 pub mod Stamp
 pub mod Step
 pub mod World

@@ -1,19 +1,20 @@
 //! The commands of one message.
-ghost use Rattle.std.specs.Prelude.{◌≡◌, ◌∷◌, [], length, IfOk};
+ghost use Rattle.std.specs.Prelude.{◌≡◌, ◌<◌, ◌∷◌, [], length, IfOk};
 
+use crate::shared_command::{SharedCommand, Together};
 use rbac_terms::Command;
 use std::alloc::AllocError;
 use std::marker::Model;
 use std::slice;
+use std::sync::Arc;
 
-// One command lies in the value, several in a list.
 #[derive(Drop)]
 enum Kept {
-    One(Command),
-    Several(Vec<Command>),
+    Alone(SharedCommand),
+    All(Arc<Together>),
 }
 
-/// Commands of one caller that are submitted together, in order. A single one takes no memory of its own.
+/// Commands of one caller that are submitted together, in order. Copies share them: a copy is a count and no allocation.
 #[derive(Drop)]
 pub struct Commands {
     kept: Kept,
@@ -22,41 +23,36 @@ pub struct Commands {
 impl Model for Commands {
     ghost use Rattle.std.specs.Prelude.{List};
     ghost use Rattle.rbac_terms.specs.declared.command.Command.{Command as CommandValue};
-    ghost use Rattle.rbac_words.specs.Commands.{commands_in};
+    ghost use Rattle.rbac_words.specs.Commands.{commands_of_message};
 
     ghost Value = { List CommandValue };
 
-    ghost view = { λ commands. commands_in commands.kept };
-}
-
-// An equal list.
-fn copied(commands: &Vec<Command>) -> Result<Vec<Command>, AllocError>
-    ensures { IfOk result (λ copy. copy.items ≡ commands.now.items) }
-{
-    let mut copy = Vec::new(*commands.allocator());
-    for command in commands.as_slice() {
-        copy.push(command.copy()?)?;
-    }
-    Ok(copy)
+    ghost view = { λ commands. commands_of_message commands.kept };
 }
 
 impl Commands {
+    ghost use Rattle.rbac_words.specs.Shared.{command_at};
+
     /// One command. It takes no memory.
-    pub fn one(command: Command) -> Commands
+    pub fn one(command: SharedCommand) -> Commands
         ensures { result ≡ command ∷ [] }
     {
         Commands {
-            kept: Kept::One(command),
+            kept: Kept::Alone(command),
         }
     }
 
-    /// These commands. It takes no memory.
-    pub fn of(commands: Vec<Command>) -> Commands
-        ensures { result ≡ commands.items }
+    /// These commands, to be shared.
+    ///
+    /// # Errors
+    /// `AllocError` where there is no memory for it.
+    pub fn of(commands: Vec<Command>) -> Result<Commands, AllocError>
+        ensures { IfOk result (λ shared. shared ≡ commands.items) }
     {
-        Commands {
-            kept: Kept::Several(commands),
-        }
+        let alloc = *commands.allocator();
+        Ok(Commands {
+            kept: Kept::All(Arc::new(alloc, Together::Several(commands))?),
+        })
     }
 
     /// The commands, in order.
@@ -64,19 +60,37 @@ impl Commands {
         ensures { result.now ≡ self.now }
     {
         match &self.kept {
-            Kept::One(command) => slice::from_ref(command),
-            Kept::Several(commands) => commands.as_slice(),
+            Kept::Alone(command) => slice::from_ref(command.get()),
+            Kept::All(together) => together.as_slice(),
         }
     }
 
-    /// Equal commands.
+    /// The command at a place, counted from 0, which is shared with these.
+    ///
+    /// # Errors
+    /// `AllocError` where there are as many copies as can be counted.
+    pub fn share(&self, place: usize) -> Result<SharedCommand, AllocError>
+        requires { place < length self.now }
+        ensures { IfOk result (λ shared. shared ≡ command_at self.now place) }
+    {
+        match &self.kept {
+            Kept::Alone(command) => command.copy(),
+            Kept::All(together) => SharedCommand::among(together, place),
+        }
+    }
+
+    /// Equal commands, which are shared with these.
+    ///
+    /// # Errors
+    /// `AllocError` where there are as many copies as can be counted.
     pub fn copy(&self) -> Result<Commands, AllocError>
         ensures { IfOk result (λ copy. copy ≡ self.now) }
     {
-        match &self.kept {
-            Kept::One(command) => Ok(Commands::one(command.copy()?)),
-            Kept::Several(commands) => Ok(Commands::of(copied(commands)?)),
-        }
+        let kept = match &self.kept {
+            Kept::Alone(command) => Kept::Alone(command.copy()?),
+            Kept::All(together) => Kept::All(together.clone()?),
+        };
+        Ok(Commands { kept })
     }
 }
 

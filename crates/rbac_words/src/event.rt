@@ -1,8 +1,8 @@
 //! What can happen to a group of members, what comes of it, and why an event is refused.
 
 use crate::commands::Commands;
+use crate::shared_command::SharedCommand;
 use crate::stamp::Stamp;
-use rbac_terms::Command;
 use thiserror::Error;
 
 /// One atomic step on one member.
@@ -13,7 +13,7 @@ pub enum Event {
         at: u32,
         caller: u32,
         serial: u32,
-        command: Command,
+        command: SharedCommand,
     },
     /// A caller of member `at` submits its next commands together.
     SubmitBatch {

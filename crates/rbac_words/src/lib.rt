@@ -8,6 +8,7 @@ pub mod group;
 pub mod limits;
 pub mod message;
 pub mod record;
+pub mod shared_command;
 pub mod stamp;
 
 pub use commands::Commands;
@@ -19,4 +20,5 @@ pub use rbac_terms::{
     Separation, Vocabulary, VocabularyRefusal,
 };
 pub use record::Record;
+pub use shared_command::SharedCommand;
 pub use stamp::Stamp;

@@ -3,8 +3,8 @@ ghost use Rattle.std.specs.Prelude.{◌≡◌, IfOk};
 ghost use Rattle.rbac_words.specs.Message.{stamp_of};
 
 use crate::commands::Commands;
+use crate::shared_command::SharedCommand;
 use crate::stamp::Stamp;
-use rbac_terms::Command;
 use std::alloc::AllocError;
 
 /// A command as it was submitted: when and where, by which caller of that member, and with which serial, the number of that
@@ -14,7 +14,7 @@ pub struct Submission {
     pub stamp: Stamp,
     pub caller: u32,
     pub serial: u32,
-    pub command: Command,
+    pub command: SharedCommand,
 }
 
 /// What a member sends to all others: commands of one caller, or an acknowledgement that it received some (Lamport 1978). The

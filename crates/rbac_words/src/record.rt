@@ -1,8 +1,9 @@
 //! What a member's history keeps of a delivered command.
 ghost use Rattle.std.specs.Prelude.{◌≡◌, IfOk};
 
+use crate::shared_command::SharedCommand;
 use crate::stamp::Stamp;
-use rbac_terms::{Answer, Command};
+use rbac_terms::Answer;
 use std::alloc::AllocError;
 
 /// A delivered command with its answer.
@@ -11,7 +12,7 @@ pub struct Record {
     pub stamp: Stamp,
     pub caller: u32,
     pub serial: u32,
-    pub command: Command,
+    pub command: SharedCommand,
     pub answer: Answer,
 }
 

@@ -6,14 +6,14 @@ ghost use Rattle.rbac_words.specs.Keeping.Members.{member_at};
 ghost use Rattle.rbac_world.specs.Moves.{IsMoved, IsMovedAt, is_sent, submit_of, receipt_of, delivery_of};
 
 use rbac_member::Member;
-use rbac_words::{Command, Commands, Message, Outcome, Refusal};
+use rbac_words::{Commands, Message, Outcome, Refusal, SharedCommand};
 use std::alloc::{AllocError, Global};
 
 pub(crate) fn submit(
     member: &mut Member,
     caller: u32,
     serial: u32,
-    command: &Command,
+    command: &SharedCommand,
 ) -> Result<Outcome, Refusal>
     ensures { IsMoved (submit_of member.old caller serial (command.now ∷ [])) member.old result member.new }
 {

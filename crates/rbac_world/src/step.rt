@@ -8,7 +8,7 @@ ghost use Rattle.rbac_world.specs.Moves.{IsGroupStep};
 
 use crate::moves;
 use rbac_member::Member;
-use rbac_words::{Command, Commands, Event, Outcome, Refusal};
+use rbac_words::{Commands, Event, Outcome, Refusal, SharedCommand};
 use std::alloc::Global;
 
 // The place of the member of this number.
@@ -27,7 +27,7 @@ fn submit(
     at: u32,
     caller: u32,
     serial: u32,
-    command: &Command,
+    command: &SharedCommand,
 ) -> Result<Outcome, Refusal>
     ensures { (group : GroupValue) (vocabulary : VocabularyValue) → AreMembers group vocabulary members.old → IsGroupStep group vocabulary members.old (event.Submit at caller serial command.now) result members.new }
 {

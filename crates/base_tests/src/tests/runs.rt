@@ -20,15 +20,20 @@ struct Lengths;
 impl Taking for Lengths {
     type Over = Seen;
 
+    type Scratch = ();
+
     ghost State = { ⊤ };
 
     ghost state = { λ _. tt };
 
     ghost takes = { λ _ _ _ _ _ _. ⊤ };
 
+    fn scratch(_alloc: Global) {}
+
     fn take_line(
         Seen { lines }: &mut Seen,
         _alloc: Global,
+        _scratch: &mut (),
         number: u64,
         line: &[u8],
         text: &mut Vec<u8>,

@@ -1,6 +1,6 @@
 //! The address of a member, or of none.
 ghost use Rattle.std.specs.Prelude.{◌≡◌, Option, Some, None, is_some, true, false};
-ghost use Rattle.rbac_embedded_member.specs.declared.kept.KeptMember.{KeptMember as Kept};
+ghost use Rattle.rbac_embedded_member.specs.Place.{KeptMember as Kept};
 
 use loose_box::Loose;
 use rbac_embedded_member::KeptMember;

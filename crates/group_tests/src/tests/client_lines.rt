@@ -1,6 +1,6 @@
 //! What `rbac_lines` reads client lines as, and why others are refused.
 
-use rbac_lines::{LineRefusal, read_client};
+use rbac_lines::{LineRefusal, Scratch, read_client};
 use rbac_words::Command;
 use std::alloc::Global;
 use std::process::Abort;
@@ -16,7 +16,7 @@ fn adds_ann(asked: &(u32, Command)) -> bool {
 #[test]
 fn a_command_of_a_member(rt: HostRuntime) {
     let line = br#"{"command":{"user":"ann","name":"AddUser"},"at":4}"#;
-    let Ok(asked) = read_client(rt.alloc(), line) else {
+    let Ok(asked) = read_client(rt.alloc(), line, &mut Scratch::new(rt.alloc())) else {
         panic!(rt);
     };
     assert!(rt; adds_ann(&asked));
@@ -25,7 +25,7 @@ fn a_command_of_a_member(rt: HostRuntime) {
 
 /// The line is refused so.
 fn expect_refused(rt: &impl Abort, alloc: Global, line: &[u8], refusal: LineRefusal) {
-    assert!(rt; read_client(alloc, line).err() == Some(refusal));
+    assert!(rt; read_client(alloc, line, &mut Scratch::new(alloc)).err() == Some(refusal));
 }
 
 #[test]

@@ -7,18 +7,23 @@ ghost use Rattle.rbac_holdback.specs.Holdback.{CanBeHeld, CanAllBeHeld};
 
 use crate::tests::stamps::{placed, stamp};
 use rbac_holdback::{Held, HeldQueue, Holdback, ListHeld};
-use rbac_words::{Command, Name, Stamp};
+use rbac_words::{Command, Name, SharedCommand, Stamp};
 use std::alloc::Global;
 use std::process::Abort;
 
-fn command(rt: &impl Abort, alloc: Global) -> Command {
-    Command::AddUser {
-        user: Name::read(alloc, b"ann").expect(rt, "a name"),
-    }
+fn command(rt: &impl Abort, alloc: Global) -> SharedCommand {
+    let user = Name::read(alloc, b"ann").expect(rt, "a name");
+    SharedCommand::new(alloc, Command::AddUser { user }).expect(rt, "memory")
 }
 
 // Holds a command with this stamp.
-fn put<Q: HeldQueue>(rt: &impl Abort, queue: &mut Q, clock: u64, member: u32, command: Command)
+fn put<Q: HeldQueue>(
+    rt: &impl Abort,
+    queue: &mut Q,
+    clock: u64,
+    member: u32,
+    command: SharedCommand,
+)
     requires { CanBeHeld (Q.content queue.old) (record { stamp = stamp_of clock member; caller = 7; serial = 0; command = command }) }
     ensures members { (Q.content queue.new).members ≡ (Q.content queue.old).members }
     ensures held { (Q.content queue.new).held ≡ insert_by_stamp submitted_at (record { stamp = stamp_of clock member; caller = 7; serial = 0; command = command }) (Q.content queue.old).held }
@@ -46,7 +51,7 @@ fn put_two<Q: HeldQueue>(
     queue: &mut Q,
     clock: u64,
     member: u32,
-    commands: (Command, Command),
+    commands: (SharedCommand, SharedCommand),
 )
     requires { CanAllBeHeld (Q.content queue.old) (record { stamp = stamp_of clock member; caller = 7; serial = 0; command = commands.0 } ∷ record { stamp = record { clock = clock; member = member; place = 1 }; caller = 7; serial = 1; command = commands.1 } ∷ []) }
     ensures members { (Q.content queue.new).members ≡ (Q.content queue.old).members }

@@ -5,7 +5,9 @@
 use crate::tests::shown::Shown;
 use crate::tests::stamps::{placed, stamp};
 use rbac_member::{FoundRefusal, Member, ReceiveRefusal, SubmitRefusal};
-use rbac_words::{Answer, Command, Commands, Denial, Group, Message, Name, Stamp, Vocabulary};
+use rbac_words::{
+    Answer, Command, Commands, Denial, Group, Message, Name, SharedCommand, Stamp, Vocabulary,
+};
 use std::alloc::Global;
 use std::process::Abort;
 
@@ -15,13 +17,17 @@ pub(crate) fn add_user(rt: &impl Abort, alloc: Global) -> Command {
     }
 }
 
+pub(crate) fn shared_user(rt: &impl Abort, alloc: Global) -> SharedCommand {
+    SharedCommand::new(alloc, add_user(rt, alloc)).expect(rt, "memory")
+}
+
 // A command of caller 0 as another member sends it.
 pub(crate) fn call(rt: &impl Abort, alloc: Global, stamp: Stamp, serial: u32) -> Message {
     Message::Batch {
         stamp,
         caller: 0,
         serial,
-        commands: Commands::one(add_user(rt, alloc)),
+        commands: Commands::one(shared_user(rt, alloc)),
     }
 }
 
@@ -40,7 +46,7 @@ fn batch(rt: &impl Abort, alloc: Global, stamp: Stamp, serial: u32, count: usize
         stamp,
         caller: 0,
         serial,
-        commands: Commands::of(users(rt, alloc, count)),
+        commands: Commands::of(users(rt, alloc, count)).expect(rt, "memory"),
     }
 }
 
@@ -81,6 +87,7 @@ pub(crate) fn expect_submit(
 ) {
     let before = Shown::of(rt, alloc, member);
     let answer = member.submit(0, serial, add_user(rt, alloc));
+    let answer = answer.map(|submission| submission.stamp);
     before.expect_left(rt, alloc, member, answer.is_err());
     assert_eq!(rt; answer, wanted);
 }
@@ -174,7 +181,7 @@ fn submits_in_turn(rt: HostRuntime) {
 fn submits_a_copy(rt: HostRuntime) {
     let alloc = rt.alloc();
     let mut member = first_of(&rt, alloc, 1, 0, 5);
-    let command = add_user(&rt, alloc);
+    let command = shared_user(&rt, alloc);
     let copied = member.submit_copy(7, 0, &command);
     drop(command);
     assert_eq!(rt; copied, Ok(stamp(1, 1)));
@@ -414,7 +421,7 @@ fn refuses_what_is_no_batch(rt: HostRuntime) {
 fn submits_copies_of_a_batch(rt: HostRuntime) {
     let alloc = rt.alloc();
     let mut member = first_of(&rt, alloc, 1, 0, 5);
-    let commands = Commands::of(users(&rt, alloc, 2));
+    let commands = Commands::of(users(&rt, alloc, 2)).expect(&rt, "memory");
     let first = member.submit_batch_copy(0, 0, &commands);
     let before = Shown::of(&rt, alloc, &mut member);
     let again = member.submit_batch_copy(0, 1, &commands);

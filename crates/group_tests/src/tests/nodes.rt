@@ -59,6 +59,7 @@ fn expect_submit<G: GroupName>(
     let role = Name::read(alloc, b"r").expect(rt, "a name");
     let caller = node.new_caller().expect(rt, "a caller");
     let answer = node.submit(caller, 0, Command::AddRole { role });
+    let answer = answer.map(|submission| submission.stamp);
     assert_eq!(rt; (caller, answer), (number, Ok(wanted)));
 }
 

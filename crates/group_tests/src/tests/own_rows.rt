@@ -2,7 +2,7 @@
 //! exactly where it is not refused.
 
 use crate::tests::members::{
-    add_user, call, expect_ack, expect_delivery, expect_receipt, expect_submit, first_of,
+    call, expect_ack, expect_delivery, expect_receipt, expect_submit, first_of, shared_user,
 };
 use crate::tests::shown::Shown;
 use crate::tests::stamps::stamp;
@@ -96,7 +96,7 @@ fn refuses_what_is_not_next_of_its_row(rt: HostRuntime) {
         stamp: stamp(3, 1),
         caller: 0,
         serial: 0,
-        commands: Commands::of(Vec::new(alloc)),
+        commands: Commands::of(Vec::new(alloc)).expect(&rt, "memory"),
     };
     let bad_batch = Err(OwnRefusal::BadBatch);
     expect_taken(&rt, alloc, &mut member, 1, none, bad_batch);
@@ -118,7 +118,7 @@ fn acts_by_its_row(rt: HostRuntime) {
     expect_receipt(&rt, alloc, &mut member, (2, 1), brought, Ok(None));
     assert_eq!(rt; member.clock(), 3);
     // A submit by the row.
-    let next = member.next_batch(0, 0, Commands::one(add_user(&rt, alloc)));
+    let next = member.next_batch(0, 0, Commands::one(shared_user(&rt, alloc)));
     let next = next.expect(&rt, "a message");
     assert_eq!(rt; next.stamp(), stamp(4, 1));
     expect_taken(&rt, alloc, &mut member, 2, next, Ok(()));

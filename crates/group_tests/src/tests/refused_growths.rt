@@ -5,9 +5,11 @@ use crate::tests::sample::{DAY, DAY_TOLD, sample_world};
 use crate::tests::shown::Shown;
 use crate::tests::stamps::stamp;
 use rbac_founding::{Founding, FoundingRefusal, read_founding};
-use rbac_lines::{LineRefusal, RunFault, Summary, read_client, read_line, run, watch};
+use rbac_lines::{LineRefusal, RunFault, Scratch, Summary, read_client, read_line, run, watch};
 use rbac_member::{Member, ReceiveRefusal, SubmitRefusal};
-use rbac_words::{Answer, Command, Commands, Group, Message, Name, Stamp, Vocabulary};
+use rbac_words::{
+    Answer, Command, Commands, Group, Message, Name, SharedCommand, Stamp, Vocabulary,
+};
 use rbac_world::{Event, Outcome, Refusal, Stopped, World, play};
 use std::alloc::Global;
 use std::process::Abort;
@@ -38,22 +40,30 @@ fn submitted(rt: &impl Abort, alloc: Global, member: &mut Member, serial: u32) -
     let answer = member.submit(0, serial, add_user(rt, alloc, "ann"));
     before.expect_left(rt, alloc, member, answer.is_err());
     match answer {
-        Ok(stamp) => stamp,
+        Ok(submission) => submission.stamp,
         Err(refusal) => {
             assert_eq!(rt; refusal, SubmitRefusal::NoMemory);
             let again = member.submit(0, serial, add_user(rt, alloc, "ann"));
-            again.expect(rt, "memory")
+            again.expect(rt, "memory").stamp
         }
     }
 }
 
-// The same of a submit that copies its command.
+// A command that is shared.
+fn shared(rt: &impl Abort, alloc: Global, user: &str) -> SharedCommand {
+    match SharedCommand::new(alloc, add_user(rt, alloc, user)) {
+        Ok(shared) => shared,
+        Err(_) => SharedCommand::new(alloc, add_user(rt, alloc, user)).expect(rt, "memory"),
+    }
+}
+
+// The same of a submit of a command that is shared.
 fn submitted_copy(
     rt: &impl Abort,
     alloc: Global,
     member: &mut Member,
     serial: u32,
-    command: &Command,
+    command: &SharedCommand,
 ) -> Stamp {
     let before = Shown::of(rt, alloc, member);
     let answer = member.submit_copy(0, serial, command);
@@ -105,7 +115,7 @@ fn take_of_second(rt: &impl Abort, alloc: Global, member: &mut Member) {
         stamp: stamp(2, 2),
         caller: 0,
         serial: 0,
-        commands: Commands::one(add_user(rt, alloc, "bob")),
+        commands: Commands::one(shared(rt, alloc, "bob")),
     };
     let acknowledged = received(rt, alloc, member, 1, &message);
     drop(message);
@@ -120,7 +130,7 @@ fn take_of_second(rt: &impl Abort, alloc: Global, member: &mut Member) {
 fn a_member_that_is_asked_again(rt: HostRuntime) {
     let alloc = rt.alloc();
     let mut member = first_of_two(&rt, alloc);
-    let command = add_user(&rt, alloc, "ann");
+    let command = shared(&rt, alloc, "ann");
     let copied = submitted_copy(&rt, alloc, &mut member, 0, &command);
     drop(command);
     assert_eq!(rt; copied, stamp(1, 1));
@@ -144,6 +154,14 @@ fn three(rt: &impl Abort, alloc: Global) -> Vec<Command> {
     commands
 }
 
+// These, to be shared.
+fn three_shared(rt: &impl Abort, alloc: Global) -> Commands {
+    match Commands::of(three(rt, alloc)) {
+        Ok(shared) => shared,
+        Err(_) => Commands::of(three(rt, alloc)).expect(rt, "memory"),
+    }
+}
+
 // A refused submit of three commands leaves the member as it was, and is made again.
 fn submitted_batch(rt: &impl Abort, alloc: Global, member: &mut Member) -> Stamp {
     let before = Shown::of(rt, alloc, member);
@@ -159,9 +177,9 @@ fn submitted_batch(rt: &impl Abort, alloc: Global, member: &mut Member) -> Stamp
     }
 }
 
-// The same of a submit that copies its commands.
+// The same of a submit of commands that are shared.
 fn submitted_batch_copy(rt: &impl Abort, alloc: Global, member: &mut Member) -> Stamp {
-    let commands = Commands::of(three(rt, alloc));
+    let commands = three_shared(rt, alloc);
     let before = Shown::of(rt, alloc, member);
     let answer = member.submit_batch_copy(1, 0, &commands);
     before.expect_left(rt, alloc, member, answer.is_err());
@@ -183,7 +201,7 @@ fn take_batch_of_second(rt: &impl Abort, alloc: Global, member: &mut Member) {
         stamp: stamp(3, 2),
         caller: 0,
         serial: 0,
-        commands: Commands::of(three(rt, alloc)),
+        commands: three_shared(rt, alloc),
     };
     let acknowledged = received(rt, alloc, member, 1, &message);
     drop(message);
@@ -223,7 +241,7 @@ fn submit(rt: &impl Abort, alloc: Global, at: u32) -> Event {
         at,
         caller: 0,
         serial: 0,
-        command: add_user(rt, alloc, "ann"),
+        command: shared(rt, alloc, "ann"),
     }
 }
 
@@ -309,9 +327,9 @@ fn a_day_that_is_gone_on_with(rt: HostRuntime) {
 }
 
 fn event(rt: &impl Abort, alloc: Global, line: &str) -> Event {
-    let event = match read_line(alloc, line.as_bytes()) {
+    let event = match read_line(alloc, line.as_bytes(), &mut Scratch::new(alloc)) {
         Ok(event) => Ok(event),
-        Err(_) => read_line(alloc, line.as_bytes()),
+        Err(_) => read_line(alloc, line.as_bytes(), &mut Scratch::new(alloc)),
     };
     event.ok().expect(rt, "an event")
 }
@@ -393,24 +411,24 @@ const LINE: &[u8] =
 
 // Why a line is refused, read again where a growth is.
 fn line_refusal(alloc: Global, line: &[u8]) -> Option<LineRefusal> {
-    match read_line(alloc, line) {
+    match read_line(alloc, line, &mut Scratch::new(alloc)) {
         Ok(event) => {
             drop(event);
             None
         }
-        Err(LineRefusal::NoMemory) => read_line(alloc, line).err(),
+        Err(LineRefusal::NoMemory) => read_line(alloc, line, &mut Scratch::new(alloc)).err(),
         Err(refusal) => Some(refusal),
     }
 }
 
 // The same of a client's line.
 fn client_refusal(alloc: Global, line: &[u8]) -> Option<LineRefusal> {
-    match read_client(alloc, line) {
+    match read_client(alloc, line, &mut Scratch::new(alloc)) {
         Ok(asked) => {
             drop(asked);
             None
         }
-        Err(LineRefusal::NoMemory) => read_client(alloc, line).err(),
+        Err(LineRefusal::NoMemory) => read_client(alloc, line, &mut Scratch::new(alloc)).err(),
         Err(refusal) => Some(refusal),
     }
 }

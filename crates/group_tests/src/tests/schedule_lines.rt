@@ -1,9 +1,16 @@
 //! What `rbac_lines` reads lines of a schedule as, and bytes that a golden can't have. Why lines are refused is played by the goldens.
 
-use rbac_lines::{LineRefusal, read_line};
+use rbac_lines::{LineRefusal, Scratch, read_line};
 use rbac_words::{Command, Event};
 use std::alloc::Global;
 use std::process::Abort;
+
+fn adds_ann(command: &Command) -> bool {
+    match command {
+        Command::AddUser { user } => user.as_bytes() == b"ann".as_slice(),
+        _ => false,
+    }
+}
 
 /// Whether it is this submit.
 fn submits_ann(event: &Event) -> bool {
@@ -12,8 +19,8 @@ fn submits_ann(event: &Event) -> bool {
             at: 4,
             caller: 5,
             serial: 6,
-            command: Command::AddUser { user },
-        } => user.as_bytes() == b"ann".as_slice(),
+            command,
+        } => adds_ann(command.get()),
         _ => false,
     }
 }
@@ -22,7 +29,7 @@ fn submits_ann(event: &Event) -> bool {
 fn a_submit(rt: HostRuntime) {
     let line =
         br#"{"command":{"user":"ann","name":"AddUser"},"serial":6,"caller":5,"at":4,"do":"submit"}"#;
-    let Ok(event) = read_line(rt.alloc(), line) else {
+    let Ok(event) = read_line(rt.alloc(), line, &mut Scratch::new(rt.alloc())) else {
         panic!(rt);
     };
     assert!(rt; submits_ann(&event));
@@ -62,7 +69,7 @@ fn is_batch_of_two(event: &Event) -> bool {
 fn a_batch(rt: HostRuntime) {
     let line =
         br#"{"commands":[{"role":"a","name":"AddRole"},{"name":"AddRole","role":"b"}],"serial":6,"caller":5,"at":4,"do":"batch"}"#;
-    let Ok(event) = read_line(rt.alloc(), line) else {
+    let Ok(event) = read_line(rt.alloc(), line, &mut Scratch::new(rt.alloc())) else {
         panic!(rt);
     };
     assert!(rt; is_batch_of_two(&event));
@@ -71,7 +78,7 @@ fn a_batch(rt: HostRuntime) {
 
 /// Whether the line is refused as no JSON.
 fn is_no_json(alloc: Global, line: &[u8]) -> bool {
-    read_line(alloc, line).err() == Some(LineRefusal::NotJson)
+    read_line(alloc, line, &mut Scratch::new(alloc)).err() == Some(LineRefusal::NotJson)
 }
 
 /// So many arrays, one in another.

@@ -3,7 +3,7 @@
 use crate::tests::stamps::stamp;
 use rbac_decide::Policy;
 use rbac_member::{Member, ReceiveRefusal, SubmitRefusal};
-use rbac_words::{Command, Commands, Message, Name, Record};
+use rbac_words::{Command, Commands, Message, Name, Record, SharedCommand};
 use std::alloc::Global;
 use std::process::Abort;
 
@@ -30,9 +30,17 @@ fn add_ann(rt: &impl Abort, alloc: Global) -> Command {
     Command::AddUser { user }
 }
 
+// That command, to be shared.
+fn ann_shared(rt: &impl Abort, alloc: Global) -> SharedCommand {
+    match SharedCommand::new(alloc, add_ann(rt, alloc)) {
+        Ok(shared) => shared,
+        Err(_) => SharedCommand::new(alloc, add_ann(rt, alloc)).expect(rt, "memory"),
+    }
+}
+
 // What a member answers to its caller 0 at the last serial there is: the next one, where no other refusal comes first.
 fn own_next(rt: &impl Abort, alloc: Global, member: &mut Member) -> SubmitRefusal {
-    let command = add_ann(rt, alloc);
+    let command = ann_shared(rt, alloc);
     let answer = member.submit_copy(0, u32::MAX, &command);
     drop(command);
     answer.err().expect(rt, "a refusal")
@@ -44,7 +52,7 @@ fn their_next(rt: &impl Abort, alloc: Global, member: &mut Member) -> ReceiveRef
         stamp: stamp(1_000_000, 2),
         caller: 0,
         serial: u32::MAX,
-        commands: Commands::one(add_ann(rt, alloc)),
+        commands: Commands::one(ann_shared(rt, alloc)),
     };
     let number = member.read(2).saturating_add(1);
     let answer = member.receive(2, number, &message);
@@ -135,7 +143,7 @@ fn is_same_record(record: &Record, other: &Record) -> bool {
     record.stamp == other.stamp
         && record.caller == other.caller
         && record.serial == other.serial
-        && record.command == other.command
+        && record.command.get() == other.command.get()
         && record.answer.same(&other.answer)
 }
 

@@ -1,7 +1,7 @@
 //! The limit of users, reached at each of two members of the sample founding. What whole schedules answer is played by the goldens.
 
 use crate::tests::sample::sample_world;
-use rbac_words::{Answer, Command, Denial, Name};
+use rbac_words::{Answer, Command, Denial, Name, SharedCommand};
 use rbac_world::{Event, World};
 use std::alloc::Global;
 use std::process::Abort;
@@ -26,7 +26,7 @@ fn add_numbered_user(rt: &impl Abort, alloc: Global, world: &mut World, number: 
         at: 1,
         caller: 0,
         serial: number.saturating_sub(1),
-        command: add_user(rt, alloc, user.as_str()),
+        command: SharedCommand::new(alloc, add_user(rt, alloc, user.as_str())).expect(rt, "memory"),
     };
     drop(user);
     step(rt, alloc, world, event);

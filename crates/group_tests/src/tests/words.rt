@@ -5,6 +5,7 @@
 use crate::tests::stamps::{placed, stamp};
 use rbac_words::{
     Answer, Command, Commands, Denial, Group, GroupRefusal, Message, Name, Record, Review,
+    SharedCommand,
 };
 use sorted_keys::Same;
 use std::alloc::Global;
@@ -76,40 +77,27 @@ fn is_grant(command: &Command) -> bool {
     is_called(operation, "read") && is_called(object, "ledger") && is_called(role, "clerk")
 }
 
-fn expect_grant_copied(rt: &impl Abort, command: Command) {
+fn shared_grant(rt: &impl Abort, alloc: Global) -> SharedCommand {
+    SharedCommand::new(alloc, grant(rt, alloc)).expect(rt, "memory")
+}
+
+fn expect_grant_copied(rt: &impl Abort, command: SharedCommand) {
     let copy = command.copy().expect(rt, "memory");
-    assert!(rt; is_grant(&copy));
+    assert!(rt; is_grant(copy.get()));
     drop(copy);
     drop(command);
 }
 
 #[test]
 fn a_command_is_copied(rt: HostRuntime) {
-    expect_grant_copied(&rt, grant(&rt, rt.alloc()));
-}
-
-fn expect_review_copied(rt: &impl Abort, review: Review) {
-    let copy = review.copy().expect(rt, "memory");
-    let is_of_clerks = match &copy {
-        Review::AssignedUsers { role } => is_called(role, "clerk"),
-        _ => false,
-    };
-    assert!(rt; is_of_clerks);
-    drop(copy);
-    drop(review);
-}
-
-#[test]
-fn a_review_is_copied(rt: HostRuntime) {
-    let role = name(&rt, rt.alloc(), "clerk");
-    expect_review_copied(&rt, Review::AssignedUsers { role });
+    expect_grant_copied(&rt, shared_grant(&rt, rt.alloc()));
 }
 
 fn expect_record_copied(rt: &impl Abort, record: Record) {
     let copy = record.copy().expect(rt, "memory");
     assert_eq!(rt; (copy.stamp, copy.caller, copy.serial), (stamp(7, 2), 3, 4));
     assert!(rt; copy.answer.same(&Answer::Denied(Denial::NoRole)));
-    assert!(rt; is_grant(&copy.command));
+    assert!(rt; is_grant(copy.command.get()));
     drop(copy);
     drop(record);
 }
@@ -120,7 +108,7 @@ fn a_record_is_copied(rt: HostRuntime) {
         stamp: stamp(7, 2),
         caller: 3,
         serial: 4,
-        command: grant(&rt, rt.alloc()),
+        command: shared_grant(&rt, rt.alloc()),
         answer: Answer::Denied(Denial::NoRole),
     };
     expect_record_copied(&rt, record);
@@ -158,7 +146,7 @@ fn a_message_is_copied(rt: HostRuntime) {
         stamp: stamp(7, 2),
         caller: 3,
         serial: 4,
-        commands: Commands::one(grant(&rt, rt.alloc())),
+        commands: Commands::one(shared_grant(&rt, rt.alloc())),
     };
     expect_message_copied(&rt, message);
 }
@@ -173,7 +161,7 @@ fn a_message_of_several_commands_is_copied(rt: HostRuntime) {
         stamp: stamp(7, 2),
         caller: 3,
         serial: 4,
-        commands: Commands::of(commands),
+        commands: Commands::of(commands).expect(&rt, "memory"),
     };
     expect_message_copied(&rt, message);
 }

@@ -2,7 +2,7 @@
 use crate::tests::records::expect_record;
 use crate::tests::sample::sample_world;
 use crate::tests::stamps::stamp;
-use rbac_words::{Answer, Command, Denial, Group, Name, Vocabulary};
+use rbac_words::{Answer, Command, Denial, Group, Name, SharedCommand, Vocabulary};
 use rbac_world::{Event, Outcome, Refusal, World, play};
 use std::alloc::Global;
 use std::process::Abort;
@@ -13,27 +13,29 @@ fn founded(rt: &impl Abort, alloc: Global, members: u32, sent_limit: u32) -> Wor
     World::found(alloc, group, vocabulary.expect(rt, "a vocabulary")).expect(rt, "a world")
 }
 
+fn shared(rt: &impl Abort, alloc: Global, command: Command) -> SharedCommand {
+    SharedCommand::new(alloc, command).expect(rt, "memory")
+}
+
 // Caller 0 of a member adds a role.
 fn submit(rt: &impl Abort, alloc: Global, at: u32, serial: u32) -> Event {
+    let role = Name::read(alloc, b"r").expect(rt, "a name");
     Event::Submit {
         at,
         caller: 0,
         serial,
-        command: Command::AddRole {
-            role: Name::read(alloc, b"r").expect(rt, "a name"),
-        },
+        command: shared(rt, alloc, Command::AddRole { role }),
     }
 }
 
 // Caller 0 of a member adds ann, by its first command.
 fn add_ann(rt: &impl Abort, alloc: Global, at: u32) -> Event {
+    let user = Name::read(alloc, b"ann").expect(rt, "a name");
     Event::Submit {
         at,
         caller: 0,
         serial: 0,
-        command: Command::AddUser {
-            user: Name::read(alloc, b"ann").expect(rt, "a name"),
-        },
+        command: shared(rt, alloc, Command::AddUser { user }),
     }
 }
 

@@ -8,7 +8,7 @@ ghost use Rattle.rbac_member.specs.Serials.{counted, counted_of};
 
 use rbac_holdback::{Held, HeldQueue, Holdback};
 use rbac_words::limits::MOST_COMMANDS;
-use rbac_words::{Command, Message, Stamp};
+use rbac_words::{Commands, Message, SharedCommand, Stamp};
 use sorted_keys::SortedMap;
 use std::alloc::{AllocError, Global};
 
@@ -35,46 +35,46 @@ fn is_handed_back<T: Drop>(answer: Result<(), T>) -> bool
     answer.is_err()
 }
 
-// Copies of commands as they are held.
-fn copied(
+// Commands as they are held.
+fn shared(
     alloc: Global,
     stamp: Stamp,
     caller: u32,
     serial: u32,
-    commands: &[Command],
+    commands: &Commands,
 ) -> Result<Vec<Held>, AllocError>
     requires first { stamp.place ≡ 0 }
     requires batch { is_no_batch serial (length commands.now) ≡ false }
     ensures { IfOk result (λ held. held.items ≡ in_turn stamp caller serial commands.now) }
 {
     let mut held = Vec::new(alloc);
-    for (place, command) in commands.iter().enumerate() {
+    for place in 0..commands.as_slice().len() {
+        let command = commands.share(place)?;
         let place = place as u32;
         let item = Held {
             stamp: Stamp { place, ..stamp },
             caller,
             serial: serial + place,
-            command: command.copy()?,
+            command,
         };
         held.push(item)?;
     }
     Ok(held)
 }
 
-// Holds a copy of a single command, which takes no list of its own.
-fn hold_copy(
+// Holds a single command, which takes no list.
+fn hold_one(
     held: &mut Holdback,
     stamp: Stamp,
     caller: u32,
     serial: u32,
-    command: &Command,
+    command: SharedCommand,
 ) -> Result<(), AllocError>
-    requires fit { CanAllBeHeld held.old (in_turn stamp caller serial (command.now ∷ [])) }
-    ensures held { OnOk result (held.new.held ≡ insert_all submitted_at (in_turn stamp caller serial (command.now ∷ [])) held.old.held) }
+    requires fit { CanAllBeHeld held.old (in_turn stamp caller serial (command ∷ [])) }
+    ensures held { OnOk result (held.new.held ≡ insert_all submitted_at (in_turn stamp caller serial (command ∷ [])) held.old.held) }
     ensures members { held.new.members ≡ held.old.members }
     ensures held_unchanged { OnErr result (held.new.held ≡ held.old.held) }
 {
-    let command = command.copy()?;
     let item = Held {
         stamp,
         caller,
@@ -87,14 +87,14 @@ fn hold_copy(
     Ok(())
 }
 
-// Holds copies of several commands, all or none.
-fn hold_copies(
+// Holds several commands, all or none.
+fn hold_all(
     alloc: Global,
     held: &mut Holdback,
     stamp: Stamp,
     caller: u32,
     serial: u32,
-    commands: &[Command],
+    commands: &Commands,
 ) -> Result<(), AllocError>
     requires first { stamp.place ≡ 0 }
     requires batch { is_no_batch serial (length commands.now) ≡ false }
@@ -103,17 +103,17 @@ fn hold_copies(
     ensures members { held.new.members ≡ held.old.members }
     ensures held_unchanged { OnErr result (held.new.held ≡ held.old.held) }
 {
-    if commands.len() == 1 {
-        return hold_copy(held, stamp, caller, serial, &commands[0]);
+    if commands.as_slice().len() == 1 {
+        return hold_one(held, stamp, caller, serial, commands.share(0)?);
     }
-    let copies = copied(alloc, stamp, caller, serial, commands)?;
-    if is_handed_back(held.put_all(copies)) {
+    let all = shared(alloc, stamp, caller, serial, commands)?;
+    if is_handed_back(held.put_all(all)) {
         return Err(AllocError);
     }
     Ok(())
 }
 
-// Holds copies of the commands of a message, where it has some, and counts them for their caller.
+// Holds the commands of a message, where it has some, and counts them for their caller.
 pub(crate) fn hold(
     alloc: Global,
     serials: &mut SortedMap<(u32, u32), u64>,
@@ -137,12 +137,11 @@ pub(crate) fn hold(
             serial,
             commands,
         } => {
-            let commands = commands.as_slice();
             serials.reserve(1)?;
-            hold_copies(alloc, held, *stamp, *caller, *serial, commands)?;
+            hold_all(alloc, held, *stamp, *caller, *serial, commands)?;
             serials.put(
                 (stamp.member, *caller),
-                u64::from(*serial) + commands.len() as u64,
+                u64::from(*serial) + commands.as_slice().len() as u64,
             );
             Ok(())
         }

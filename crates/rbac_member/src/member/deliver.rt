@@ -66,7 +66,7 @@ impl Member {
         };
         // All memory is taken before anything changes.
         self.history.reserve(1)?;
-        let answer = self.policy.apply(alloc, &next.command)?;
+        let answer = self.policy.apply(alloc, next.command.get())?;
         let place = self.history.len();
         take_over(&mut self.held, &mut self.history, answer);
         Ok(Some(place))

@@ -11,7 +11,7 @@ use crate::refusal::SubmitRefusal;
 use rbac_holdback::Holdback;
 use rbac_links::Outbox;
 use rbac_words::limits::LAST_CLOCK;
-use rbac_words::{Command, Commands, Message, Stamp};
+use rbac_words::{Command, Commands, Message, SharedCommand, Stamp, Submission};
 use sorted_keys::SortedMap;
 use std::alloc::{AllocError, Global};
 
@@ -53,7 +53,7 @@ pub(crate) fn send(
 }
 
 impl Member {
-    ghost use Rattle.rbac_words.specs.Keeping.Member.{batch, submitted, node_of};
+    ghost use Rattle.rbac_words.specs.Keeping.Member.{batch, submission, submitted, node_of};
     ghost use Rattle.rbac_words.specs.World.{stamp, submit_refusal};
     ghost use Rattle.rbac_member.specs.Calls.{submit_refused, rule_of};
 
@@ -66,14 +66,27 @@ impl Member {
         caller: u32,
         serial: u32,
         command: Command,
-    ) -> Result<Stamp, SubmitRefusal>
-        ensures stamp { IfOk result (λ s. s ≡ stamp (self.old.clock + 1) self.old.number) }
+    ) -> Result<Submission, SubmitRefusal>
+        ensures submission { IfOk result (λ s. s ≡ submission self.old caller serial command) }
         ensures submitted { OnOk result (self.new ≡ submitted self.old caller serial (command ∷ [])) }
         ensures accepted { OnOk result (submit_refusal self.old.group (node_of self.old) caller serial 1 ≡ None) }
         ensures first_refusal { IfErr result (λ refusal. submit_refusal self.old.group (node_of self.old) caller serial 1 ≡ rule_of (submit_refused refusal)) }
         ensures unchanged { OnErr result (self.new ≡ self.old) }
     {
-        self.send_batch(caller, serial, Commands::one(command))
+        let stamp = match self.next_stamp(caller, serial, 1) {
+            Ok(next) => next,
+            Err(refusal) => return Err(refusal),
+        };
+        let alloc = *self.history.allocator();
+        match self.share_and_send(alloc, stamp, caller, serial, command) {
+            Ok(command) => Ok(Submission {
+                stamp,
+                caller,
+                serial,
+                command,
+            }),
+            Err(AllocError) => Err(SubmitRefusal::NoMemory),
+        }
     }
 
     /// Sends a caller's next commands to all members in one message, and holds them. The first has the serial, the others those after
@@ -93,10 +106,17 @@ impl Member {
         ensures first_refusal { IfErr result (λ refusal. submit_refusal self.old.group (node_of self.old) caller serial (length commands.items) ≡ rule_of (submit_refused refusal)) }
         ensures unchanged { OnErr result (self.new ≡ self.old) }
     {
-        self.send_batch(caller, serial, Commands::of(commands))
+        let next = match self.next_stamp(caller, serial, commands.len()) {
+            Ok(next) => next,
+            Err(refusal) => return Err(refusal),
+        };
+        match self.share_and_send_all(next, caller, serial, commands) {
+            Ok(()) => Ok(next),
+            Err(AllocError) => Err(SubmitRefusal::NoMemory),
+        }
     }
 
-    /// Submits a copy of a command, which is made only where nothing but memory stands in its way.
+    /// Submits a command that is shared.
     ///
     /// # Errors
     /// As `submit`.
@@ -104,7 +124,7 @@ impl Member {
         &mut self,
         caller: u32,
         serial: u32,
-        command: &Command,
+        command: &SharedCommand,
     ) -> Result<Stamp, SubmitRefusal>
         ensures stamp { IfOk result (λ s. s ≡ stamp (self.old.clock + 1) self.old.number) }
         ensures submitted { OnOk result (self.new ≡ submitted self.old caller serial (command.now ∷ [])) }
@@ -113,17 +133,13 @@ impl Member {
         ensures unchanged { OnErr result (self.new ≡ self.old) }
     {
         let next = self.next_stamp(caller, serial, 1)?;
-        let copy = match command.copy() {
-            Ok(copy) => copy,
-            Err(AllocError) => return Err(SubmitRefusal::NoMemory),
-        };
-        match self.send_next(next, caller, serial, Commands::one(copy)) {
+        match self.send_copy(next, caller, serial, command) {
             Ok(()) => Ok(next),
             Err(AllocError) => Err(SubmitRefusal::NoMemory),
         }
     }
 
-    /// Submits copies of commands, which are made only where nothing but memory stands in their way.
+    /// Submits commands that are shared.
     ///
     /// # Errors
     /// As `submit_batch`.
@@ -177,27 +193,56 @@ impl Member {
         })
     }
 
-    // Sends a caller's next commands.
-    fn send_batch(
+    // Sends a command with the next stamp, which nothing but memory stands in the way of; it is shared from then on.
+    fn share_and_send(
         &mut self,
+        alloc: Global,
+        next: Stamp,
         caller: u32,
         serial: u32,
-        commands: Commands,
-    ) -> Result<Stamp, SubmitRefusal>
-        ensures stamp { IfOk result (λ s. s ≡ stamp (self.old.clock + 1) self.old.number) }
-        ensures submitted { OnOk result (self.new ≡ submitted self.old caller serial commands) }
-        ensures accepted { OnOk result (submit_refusal self.old.group (node_of self.old) caller serial (length commands) ≡ None) }
-        ensures first_refusal { IfErr result (λ refusal. submit_refusal self.old.group (node_of self.old) caller serial (length commands) ≡ rule_of (submit_refused refusal)) }
+        command: Command,
+    ) -> Result<SharedCommand, AllocError>
+        requires accepted { submit_refusal self.old.group (node_of self.old) caller serial 1 ≡ None }
+        requires next { next ≡ stamp (self.old.clock + 1) self.old.number }
+        ensures shared { IfOk result (λ shared. shared ≡ command) }
+        ensures submitted { OnOk result (self.new ≡ submitted self.old caller serial (command ∷ [])) }
         ensures unchanged { OnErr result (self.new ≡ self.old) }
     {
-        let next = match self.next_stamp(caller, serial, commands.as_slice().len()) {
-            Ok(next) => next,
-            Err(refusal) => return Err(refusal),
-        };
-        match self.send_next(next, caller, serial, commands) {
-            Ok(()) => Ok(next),
-            Err(AllocError) => Err(SubmitRefusal::NoMemory),
-        }
+        let shared = SharedCommand::new(alloc, command)?;
+        self.send_copy(next, caller, serial, &shared)?;
+        Ok(shared)
+    }
+
+    // Sends a command that is shared, with the next stamp, which nothing but memory stands in the way of.
+    fn send_copy(
+        &mut self,
+        next: Stamp,
+        caller: u32,
+        serial: u32,
+        command: &SharedCommand,
+    ) -> Result<(), AllocError>
+        requires accepted { submit_refusal self.old.group (node_of self.old) caller serial 1 ≡ None }
+        requires next { next ≡ stamp (self.old.clock + 1) self.old.number }
+        ensures submitted { OnOk result (self.new ≡ submitted self.old caller serial (command.now ∷ [])) }
+        ensures unchanged { OnErr result (self.new ≡ self.old) }
+    {
+        self.send_next(next, caller, serial, Commands::one(command.copy()?))
+    }
+
+    // Sends commands with the next stamp, which nothing but memory stands in the way of.
+    fn share_and_send_all(
+        &mut self,
+        next: Stamp,
+        caller: u32,
+        serial: u32,
+        commands: Vec<Command>,
+    ) -> Result<(), AllocError>
+        requires accepted { submit_refusal self.old.group (node_of self.old) caller serial (length commands.items) ≡ None }
+        requires next { next ≡ stamp (self.old.clock + 1) self.old.number }
+        ensures submitted { OnOk result (self.new ≡ submitted self.old caller serial commands.items) }
+        ensures unchanged { OnErr result (self.new ≡ self.old) }
+    {
+        self.send_next(next, caller, serial, Commands::of(commands)?)
     }
 
     // The stamp of so many next commands of a caller, where nothing stands in their way.

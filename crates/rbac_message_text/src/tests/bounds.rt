@@ -1,7 +1,7 @@
 //! The longest text, and the largest numbers.
 
 use super::reading::acknowledges;
-use crate::{LineRefusal, read_commands, read_message};
+use crate::{LineRefusal, Scratch, read_commands, read_message};
 use rbac_words::Stamp;
 use std::alloc::Global;
 use std::process::Abort;
@@ -15,7 +15,7 @@ fn padded(rt: &impl Abort, alloc: Global, text: &[u8], length: usize) -> Vec<u8>
 }
 
 fn expect_acknowledgement(rt: &impl Abort, alloc: Global, text: &[u8], stamp: Stamp) {
-    let Ok(message) = read_message(alloc, text) else {
+    let Ok(message) = read_message(alloc, text, &mut Scratch::new(alloc)) else {
         panic!(rt);
     };
     assert!(rt; acknowledges(&message, stamp));
@@ -27,26 +27,27 @@ fn a_mebibyte_and_no_more(rt: HostRuntime) {
     let mut text = padded(&rt, rt.alloc(), br#"{"stamp":[7,1]}"#, 1_048_576);
     expect_acknowledgement(&rt, rt.alloc(), text.as_slice(), Stamp::at(7, 1));
     text.push(b' ').expect(&rt, "memory");
-    let refusal = read_message(rt.alloc(), text.as_slice()).err();
+    let refusal = read_message(rt.alloc(), text.as_slice(), &mut Scratch::new(rt.alloc())).err();
     assert_eq!(rt; refusal, Some(LineRefusal::TooLong));
 }
 
 #[test]
 fn a_mebibyte_of_commands_and_no_more(rt: HostRuntime) {
     let mut text = padded(&rt, rt.alloc(), b"[]", 1_048_576);
-    let Ok(commands) = read_commands(rt.alloc(), text.as_slice()) else {
+    let Ok(commands) = read_commands(rt.alloc(), text.as_slice(), &mut Scratch::new(rt.alloc()))
+    else {
         panic!(rt);
     };
     drop(commands);
     text.push(b' ').expect(&rt, "memory");
-    let refusal = read_commands(rt.alloc(), text.as_slice()).err();
+    let refusal = read_commands(rt.alloc(), text.as_slice(), &mut Scratch::new(rt.alloc())).err();
     assert_eq!(rt; refusal, Some(LineRefusal::TooLong));
 }
 
 #[test]
 fn too_long_comes_before_no_json(rt: HostRuntime) {
     let text = padded(&rt, rt.alloc(), b"[", 1_048_577);
-    let refusal = read_message(rt.alloc(), text.as_slice()).err();
+    let refusal = read_message(rt.alloc(), text.as_slice(), &mut Scratch::new(rt.alloc())).err();
     assert_eq!(rt; refusal, Some(LineRefusal::TooLong));
 }
 

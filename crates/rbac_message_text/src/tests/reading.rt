@@ -1,6 +1,7 @@
 //! Texts that are read, their keys in any order and with blanks.
 
-use crate::{message_of, read_commands, read_message};
+use crate::{Scratch, message_of, read_commands, read_message};
+use lent_json::as_object;
 use rbac_text::reading::fields::object_in;
 use rbac_text::reading::value_of;
 use rbac_words::{Command, Commands, Message, Stamp};
@@ -46,7 +47,7 @@ fn expect_commands(rt: &impl Abort, commands: Commands) {
 fn a_batch(rt: HostRuntime) {
     let text = br#" {"stamp": [6, 3], "serial": 5, "commands":
         [{"user": "ann", "name": "AddUser"}, {"name": "AddRole", "role": "payer"}], "caller": 4} "#;
-    let Ok(message) = read_message(rt.alloc(), text) else {
+    let Ok(message) = read_message(rt.alloc(), text, &mut Scratch::new(rt.alloc())) else {
         panic!(rt);
     };
     assert!(rt; is_batch_of_two(&message));
@@ -55,7 +56,11 @@ fn a_batch(rt: HostRuntime) {
 
 #[test]
 fn an_acknowledgement(rt: HostRuntime) {
-    let Ok(message) = read_message(rt.alloc(), br#"{"stamp":[7,1]}"#) else {
+    let Ok(message) = read_message(
+        rt.alloc(),
+        br#"{"stamp":[7,1]}"#,
+        &mut Scratch::new(rt.alloc()),
+    ) else {
         panic!(rt);
     };
     assert!(rt; acknowledges(&message, Stamp::at(7, 1)));
@@ -65,11 +70,11 @@ fn an_acknowledgement(rt: HostRuntime) {
 #[test]
 fn commands_by_themselves(rt: HostRuntime) {
     let text = br#"[{"name":"AddUser","user":"ann"},{"name":"AddRole","role":"payer"}]"#;
-    let Ok(commands) = read_commands(rt.alloc(), text) else {
+    let Ok(commands) = read_commands(rt.alloc(), text, &mut Scratch::new(rt.alloc())) else {
         panic!(rt);
     };
     expect_commands(&rt, commands);
-    let Ok(none) = read_commands(rt.alloc(), b"[]") else {
+    let Ok(none) = read_commands(rt.alloc(), b"[]", &mut Scratch::new(rt.alloc())) else {
         panic!(rt);
     };
     assert!(rt; none.as_slice().is_empty());
@@ -78,10 +83,12 @@ fn commands_by_themselves(rt: HostRuntime) {
 
 #[test]
 fn a_message_inside_an_object(rt: HostRuntime) {
-    let Ok(value) = value_of(rt.alloc(), br#"{"from":1,"message":{"stamp":[7,1]}}"#) else {
+    let line = br#"{"from":1,"message":{"stamp":[7,1]}}"#;
+    let mut scratch = Scratch::new(rt.alloc());
+    let Ok(value) = value_of(rt.alloc(), line, &mut scratch) else {
         panic!(rt);
     };
-    let outer = value.as_object().expect(&rt, "an object");
+    let outer = as_object(&value).expect(&rt, "an object");
     let object = object_in(outer, "message").expect(&rt, "an object at the key");
     let Ok(message) = message_of(rt.alloc(), object) else {
         panic!(rt);

@@ -1,6 +1,6 @@
 //! Texts that are refused, and for which of several reasons.
 
-use crate::{LineRefusal, read_commands, read_message};
+use crate::{LineRefusal, Scratch, read_commands, read_message};
 use std::alloc::Global;
 use std::process::Abort;
 
@@ -94,7 +94,10 @@ const NO_STAMPS: [&[u8]; 9] = [
 ];
 
 fn expect_refusal(rt: &impl Abort, alloc: Global, text: &[u8], refusal: LineRefusal) {
-    assert_eq!(rt; read_message(alloc, text).err(), Some(refusal));
+    assert_eq!(rt;
+        read_message(alloc, text, &mut Scratch::new(alloc)).err(),
+        Some(refusal)
+    );
 }
 
 #[test]
@@ -107,7 +110,10 @@ fn messages_are_refused_for_the_first_reason(rt: HostRuntime) {
 #[test]
 fn commands_are_refused_for_the_first_reason(rt: HostRuntime) {
     for (text, refusal) in REFUSED_COMMANDS {
-        assert_eq!(rt; read_commands(rt.alloc(), text).err(), Some(refusal));
+        assert_eq!(rt;
+            read_commands(rt.alloc(), text, &mut Scratch::new(rt.alloc())).err(),
+            Some(refusal)
+        );
     }
 }
 

@@ -1,8 +1,10 @@
 //! Texts that are written, and that what is read of them is what was written.
 
 use super::reading::{acknowledges, is_batch_of_two};
-use crate::{put_acknowledgement, put_batch, put_message, put_record, put_stamp, read_message};
-use rbac_words::{Answer, Command, Commands, Message, Name, Record, Stamp};
+use crate::{
+    Scratch, put_acknowledgement, put_batch, put_message, put_record, put_stamp, read_message,
+};
+use rbac_words::{Answer, Command, Commands, Message, Name, Record, SharedCommand, Stamp};
 use std::alloc::Global;
 use std::process::Abort;
 
@@ -37,7 +39,7 @@ fn batch_of_two(rt: &impl Abort, alloc: Global) -> Message {
         stamp: Stamp::at(6, 3),
         caller: 4,
         serial: 5,
-        commands: Commands::of(commands),
+        commands: Commands::of(commands).expect(rt, "memory"),
     }
 }
 
@@ -47,7 +49,7 @@ fn a_batch_and_back(rt: HostRuntime) {
     let mut text = Vec::new(rt.alloc());
     put_message(&mut text, &message).expect(&rt, "memory");
     assert_eq!(rt; text.as_slice(), BATCH);
-    let Ok(back) = read_message(rt.alloc(), text.as_slice()) else {
+    let Ok(back) = read_message(rt.alloc(), text.as_slice(), &mut Scratch::new(rt.alloc())) else {
         panic!(rt);
     };
     assert!(rt; is_batch_of_two(&back));
@@ -68,7 +70,7 @@ fn an_acknowledgement_and_back(rt: HostRuntime) {
     let mut text = Vec::new(rt.alloc());
     put_acknowledgement(&mut text, stamp).expect(&rt, "memory");
     assert_eq!(rt; text.as_slice(), ACKNOWLEDGEMENT);
-    let Ok(back) = read_message(rt.alloc(), text.as_slice()) else {
+    let Ok(back) = read_message(rt.alloc(), text.as_slice(), &mut Scratch::new(rt.alloc())) else {
         panic!(rt);
     };
     assert!(rt; acknowledges(&back, stamp));
@@ -89,7 +91,7 @@ fn a_record_behind_other_texts(rt: HostRuntime) {
         stamp,
         caller: 4,
         serial: 5,
-        command: add_ann(&rt, rt.alloc()),
+        command: SharedCommand::new(rt.alloc(), add_ann(&rt, rt.alloc())).expect(&rt, "memory"),
         answer: Answer::Done,
     };
     let mut text = Vec::new(rt.alloc());

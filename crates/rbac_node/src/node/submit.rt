@@ -4,12 +4,12 @@ ghost use Rattle.std.specs.Prelude.{ℕ, ◌≡◌, ◌<◌, ◌+◌, ◌∷◌,
 use crate::group_name::GroupName;
 use crate::node::Node;
 use rbac_member::SubmitRefusal;
-use rbac_words::{Command, Stamp};
+use rbac_words::{Command, Submission};
 use std::alloc::{AllocError, Global};
 
 impl<G: GroupName> Node<G> {
-    ghost use Rattle.rbac_words.specs.Keeping.Member.{submitted, node_of, due_at, deliver_due};
-    ghost use Rattle.rbac_words.specs.World.{stamp, submit_refusal, place_of};
+    ghost use Rattle.rbac_words.specs.Keeping.Member.{submission, submitted, node_of, due_at, deliver_due};
+    ghost use Rattle.rbac_words.specs.World.{submit_refusal, place_of};
     ghost use Rattle.rbac_member.specs.Calls.{submit_refused, rule_of};
     ghost use Rattle.rbac_node.specs.Node.{with_own_member, AreDeliveries};
 
@@ -22,36 +22,15 @@ impl<G: GroupName> Node<G> {
         caller: u32,
         serial: u32,
         command: Command,
-    ) -> Result<Stamp, SubmitRefusal>
+    ) -> Result<Submission, SubmitRefusal>
         requires { caller < self.old.next_caller }
-        ensures stamp { IfOk result (λ s. s ≡ stamp (self.old.member.clock + 1) self.old.member.number) }
+        ensures submission { IfOk result (λ s. s ≡ submission self.old.member caller serial command) }
         ensures submitted { OnOk result (self.new ≡ with_own_member self.old (submitted self.old.member caller serial (command ∷ []))) }
         ensures accepted { OnOk result (submit_refusal self.old.member.group (node_of self.old.member) caller serial 1 ≡ None) }
         ensures first_refusal { IfErr result (λ refusal. submit_refusal self.old.member.group (node_of self.old.member) caller serial 1 ≡ rule_of (submit_refused refusal)) }
         ensures unchanged { OnErr result (self.new ≡ self.old) }
     {
         self.member.submit(caller, serial, command)
-    }
-
-    /// One submit of a copy of a command, which is made only where nothing but memory stands in its way. The caller's number is
-    /// one that this node gave.
-    ///
-    /// # Errors
-    /// The first refusal of `Member::submit`. Nothing has changed.
-    pub fn submit_copy(
-        &mut self,
-        caller: u32,
-        serial: u32,
-        command: &Command,
-    ) -> Result<Stamp, SubmitRefusal>
-        requires { caller < self.old.next_caller }
-        ensures stamp { IfOk result (λ s. s ≡ stamp (self.old.member.clock + 1) self.old.member.number) }
-        ensures submitted { OnOk result (self.new ≡ with_own_member self.old (submitted self.old.member caller serial (command.now ∷ []))) }
-        ensures accepted { OnOk result (submit_refusal self.old.member.group (node_of self.old.member) caller serial 1 ≡ None) }
-        ensures first_refusal { IfErr result (λ refusal. submit_refusal self.old.member.group (node_of self.old.member) caller serial 1 ≡ rule_of (submit_refused refusal)) }
-        ensures unchanged { OnErr result (self.new ≡ self.old) }
-    {
-        self.member.submit_copy(caller, serial, command)
     }
 
     /// One delivery of its member.

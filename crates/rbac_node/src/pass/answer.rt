@@ -17,7 +17,7 @@ fn is_answer_to(delivered: &Record, call: &Submission) -> bool
     delivered.stamp == call.stamp
         && delivered.caller == call.caller
         && delivered.serial == call.serial
-        && is_same(&delivered.command, &call.command)
+        && is_same(delivered.command.get(), call.command.get())
 }
 
 // Where the record of a command stands in a history, from one place on and before another.

@@ -17,7 +17,7 @@ use rbac_lines::RunFault;
 use rbac_pages::{Explanation, Verdict, graph, page, who, why};
 use rbac_telling::Served;
 use rbac_terms::{Command, Name, NameRefusal};
-use rbac_text::{LineRefusal, read_command};
+use rbac_text::{LineRefusal, Scratch, read_command};
 use std::alloc::{AllocError, Global};
 use std::fs;
 use std::io::{Read, Write};
@@ -52,7 +52,7 @@ fn name_of<'w>(alloc: Global, word: &'w str) -> Result<Name, Fault<'w>>
 fn command_of<'w>(alloc: Global, word: &'w str) -> Result<Command, Fault<'w>>
     ensures { IfOk result (λ asked. command word.now ≡ Ok asked) }
 {
-    match read_command(alloc, word.as_bytes()) {
+    match read_command(alloc, word.as_bytes(), &mut Scratch::new(alloc)) {
         Ok(command) => Ok(command),
         Err(LineRefusal::NoMemory) => Err(Fault::Run(RunFault::NoMemory)),
         Err(refusal) => Err(Fault::Command(refusal)),

@@ -6,7 +6,7 @@ use super::{
     expect_refusal, expect_stopped, founded, founding_of, new_pass, roles_of_ann, submitted,
 };
 use crate::{GroupName, NoGate, Node, Pass, PumpEnd, Rows, Service, ServiceRefusal, Wake};
-use rbac_words::{Answer, Command, Message, NameSet, Record, Stamp};
+use rbac_words::{Answer, Command, Message, NameSet, Record, SharedCommand, Stamp};
 use std::alloc::Global;
 use std::marker::Brand;
 use std::process::Abort;
@@ -61,7 +61,7 @@ fn publish_second<G: GroupName, R: Wait + Abort>(
 fn expect_first<G: GroupName>(rt: &impl Abort, service: &Service<G, NoGate, Lost>, at: u32) {
     let record = service.published(at, 0).expect(rt, "a record");
     assert_eq!(rt; (record.caller, record.serial), (0, 0));
-    assert!(rt; is_ann_added(&record.command));
+    assert!(rt; is_ann_added(record.command.get()));
 }
 
 // Strangers have published nothing, and nothing stands beyond a row.
@@ -103,7 +103,7 @@ fn forged(rt: &impl Abort, alloc: Global) -> Record {
         stamp: Stamp::at(7, 1),
         caller: 0,
         serial: 0,
-        command: add_ann(rt, alloc),
+        command: SharedCommand::new(alloc, add_ann(rt, alloc)).expect(rt, "memory"),
         answer: Answer::Granted,
     }
 }

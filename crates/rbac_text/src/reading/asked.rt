@@ -1,6 +1,6 @@
 //! Client lines and commands by themselves, where there is one policy.
 ghost use Rattle.std.specs.Prelude.{◌≡◌, ◌≢◌, IfOk, IfErr, Ok, Err};
-ghost use Rattle.serde_json.specs.View.{members_view};
+ghost use Rattle.lent_json.specs.Data.{members};
 ghost use Rattle.rbac_text.specs.Fields.{Reads};
 ghost use Rattle.rbac_text.specs.Asked.{asked, asked_of, is_client_line};
 
@@ -9,6 +9,7 @@ use crate::reading::commands::command_of;
 use crate::reading::fields::{Object, Reading};
 use crate::reading::value_of;
 use crate::refusal::LineRefusal;
+use lent_json::{Scratch, as_object, get};
 use rbac_terms::Command;
 use std::alloc::Global;
 
@@ -19,18 +20,18 @@ use std::alloc::Global;
 /// `TooLong`, `NotJson` and `NotObject` of the text as a whole, then what a client line or a command is refused for, and `NoMemory`
 /// where memory ends at any of the checks.
 #[tactic(auto, unfolding(crate::specs::Asked::asked))]
-pub fn read_asked(alloc: Global, text: &[u8]) -> Result<Command, LineRefusal>
+pub fn read_asked(alloc: Global, text: &[u8], scratch: &mut Scratch) -> Result<Command, LineRefusal>
     ensures command_read { IfOk result (λ command. asked text.now ≡ Ok command) }
     ensures first_refusal { IfErr result (λ refusal. refusal ≢ LineRefusal.NoMemory → asked text.now ≡ Err refusal) }
 {
-    let value = value_of(alloc, text)?;
-    let object = value.as_object().ok_or(LineRefusal::NotObject)?;
+    let value = value_of(alloc, text, scratch)?;
+    let object = as_object(&value).ok_or(LineRefusal::NotObject)?;
     asked_of(alloc, object)
 }
 
 /// The command of a client line's object, or the command that an object is.
-fn asked_of(alloc: Global, object: &Object) -> Reading<Command>
-    ensures { Reads (asked_of (members_view object.now.entries)) result }
+fn asked_of(alloc: Global, object: &Object<'_>) -> Reading<Command>
+    ensures { Reads (asked_of (members object.now)) result }
 {
     if is_client_line(object) {
         let (_at, command) = client_of(alloc, object)?;
@@ -40,8 +41,8 @@ fn asked_of(alloc: Global, object: &Object) -> Reading<Command>
 }
 
 /// Whether an object has the key `command`.
-fn is_client_line(object: &Object) -> bool
-    ensures { result ≡ is_client_line (members_view object.now.entries) }
+fn is_client_line(object: &Object<'_>) -> bool
+    ensures { result ≡ is_client_line (members object.now) }
 {
-    object.get("command").is_some()
+    get(object, "command").is_some()
 }

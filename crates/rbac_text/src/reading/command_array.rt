@@ -1,6 +1,6 @@
 //! The commands of an array.
 ghost use Rattle.std.specs.Prelude.{◌≡◌, ◌++◌, ◌∷◌, [], IfErr, OnOk};
-ghost use Rattle.serde_json.specs.View.{view, items_view};
+ghost use Rattle.lent_json.specs.Data.{items, meaning};
 ghost use Rattle.rbac_text.specs.Steps.{seen};
 ghost use Rattle.rbac_text.specs.Fields.{Reads};
 ghost use Rattle.rbac_text.specs.CommandArray.{command_in, commands_of};
@@ -8,15 +8,15 @@ ghost use Rattle.rbac_text.specs.CommandArray.{command_in, commands_of};
 use crate::reading::commands::command_of;
 use crate::reading::fields::Reading;
 use crate::refusal::LineRefusal;
+use lent_json::{Value, as_object};
 use rbac_terms::Command;
-use serde_json::Value;
 use std::alloc::Global;
 
 /// The command that an element of an array stands for.
-fn command_in(alloc: Global, value: &Value) -> Reading<Command>
-    ensures { Reads (command_in (view value.now)) result }
+fn command_in(alloc: Global, value: &Value<'_>) -> Reading<Command>
+    ensures { Reads (command_in (meaning value.now)) result }
 {
-    let fields = value.as_object().ok_or(LineRefusal::WrongKind)?;
+    let fields = as_object(value).ok_or(LineRefusal::WrongKind)?;
     command_of(alloc, fields)
 }
 
@@ -38,8 +38,8 @@ fn add(commands: &mut Vec<Command>, command: Command) -> Reading<()>
 ///
 /// # Errors
 /// `WrongKind` of an element that is no object, what `command_of` refuses an object for, and `NoMemory` where memory ends.
-pub fn commands_of(alloc: Global, array: &[Value]) -> Reading<Vec<Command>>
-    ensures { Reads (commands_of (items_view array.now)) (seen (λ commands. commands.items) result) }
+pub fn commands_of(alloc: Global, array: &[Value<'_>]) -> Reading<Vec<Command>>
+    ensures { Reads (commands_of (items array.now)) (seen (λ commands. commands.items) result) }
 {
     let mut commands = Vec::new(alloc);
     for value in array {

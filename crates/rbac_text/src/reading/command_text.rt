@@ -5,6 +5,7 @@ ghost use Rattle.rbac_text.specs.ReadCommand.{command};
 use crate::reading::commands::command_of;
 use crate::reading::value_of;
 use crate::refusal::LineRefusal;
+use lent_json::{Scratch, as_object};
 use rbac_terms::Command;
 use std::alloc::Global;
 
@@ -15,11 +16,15 @@ use std::alloc::Global;
 /// `TooLong`, `NotJson` and `NotObject` of the text as a whole, then `MissingField`, `WrongKind`, `UnknownWord`, `BadName` and
 /// `ExtraField` of its object, and `NoMemory` where memory ends at any of the checks.
 #[tactic(auto, unfolding(crate::specs::ReadCommand::command))]
-pub fn read_command(alloc: Global, text: &[u8]) -> Result<Command, LineRefusal>
+pub fn read_command(
+    alloc: Global,
+    text: &[u8],
+    scratch: &mut Scratch,
+) -> Result<Command, LineRefusal>
     ensures command_read { IfOk result (λ asked. command text.now ≡ Ok asked) }
     ensures first_refusal { IfErr result (λ refusal. refusal ≢ LineRefusal.NoMemory → command text.now ≡ Err refusal) }
 {
-    let value = value_of(alloc, text)?;
-    let object = value.as_object().ok_or(LineRefusal::NotObject)?;
+    let value = value_of(alloc, text, scratch)?;
+    let object = as_object(&value).ok_or(LineRefusal::NotObject)?;
     command_of(alloc, object)
 }

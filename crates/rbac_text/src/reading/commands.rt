@@ -1,6 +1,6 @@
 //! The command that an object stands for: its fields are taken from left to right, and there is no other key.
 ghost use Rattle.std.specs.Prelude.{◌∷◌, []};
-ghost use Rattle.serde_json.specs.View.{members_view};
+ghost use Rattle.lent_json.specs.Data.{members};
 ghost use Rattle.rbac_text.specs.Steps.{seen};
 ghost use Rattle.rbac_text.specs.Fields.{Reads};
 ghost use Rattle.rbac_text.specs.Command.{a_name, command_of, object_key, operation_key, role_key, user_key, whole_of};
@@ -20,8 +20,8 @@ use std::alloc::Global;
 ///
 /// # Errors
 /// `MissingField`, `WrongKind`, `UnknownWord`, `BadName` and `ExtraField` of the object, and `NoMemory` where memory ends.
-pub fn command_of(alloc: Global, fields: &Object) -> Reading<Command>
-    ensures { Reads (command_of (members_view fields.now.entries)) result }
+pub fn command_of(alloc: Global, fields: &Object<'_>) -> Reading<Command>
+    ensures { Reads (command_of (members fields.now)) result }
 {
     match text_in(fields, "name")? {
         "AddUser" => one_user(alloc, fields).map(|user| Command::AddUser { user }),
@@ -57,8 +57,8 @@ pub fn command_of(alloc: Global, fields: &Object) -> Reading<Command>
 }
 
 /// The name at this key, where there is no other key but the command's name.
-fn one_name(alloc: Global, fields: &Object, key: &str) -> Reading<Name>
-    ensures { Reads (whole_of ((key.now, a_name) ∷ []) (members_view fields.now.entries)) (seen (λ name. (name, tt)) result) }
+fn one_name(alloc: Global, fields: &Object<'_>, key: &str) -> Reading<Name>
+    ensures { Reads (whole_of ((key.now, a_name) ∷ []) (members fields.now)) (seen (λ name. (name, tt)) result) }
 {
     let name = name_in(alloc, fields, key)?;
     only_keys(fields, &["name", key])?;
@@ -66,22 +66,22 @@ fn one_name(alloc: Global, fields: &Object, key: &str) -> Reading<Name>
 }
 
 /// The user, and no other key.
-fn one_user(alloc: Global, fields: &Object) -> Reading<Name>
-    ensures { Reads (whole_of (user_key ∷ []) (members_view fields.now.entries)) (seen (λ name. (name, tt)) result) }
+fn one_user(alloc: Global, fields: &Object<'_>) -> Reading<Name>
+    ensures { Reads (whole_of (user_key ∷ []) (members fields.now)) (seen (λ name. (name, tt)) result) }
 {
     one_name(alloc, fields, "user")
 }
 
 /// The role, and no other key.
-fn one_role(alloc: Global, fields: &Object) -> Reading<Name>
-    ensures { Reads (whole_of (role_key ∷ []) (members_view fields.now.entries)) (seen (λ name. (name, tt)) result) }
+fn one_role(alloc: Global, fields: &Object<'_>) -> Reading<Name>
+    ensures { Reads (whole_of (role_key ∷ []) (members fields.now)) (seen (λ name. (name, tt)) result) }
 {
     one_name(alloc, fields, "role")
 }
 
 /// The names at these two keys, and no other key.
-fn two_names(alloc: Global, fields: &Object, first: &str, second: &str) -> Reading<(Name, Name)>
-    ensures { Reads (whole_of ((first.now, a_name) ∷ (second.now, a_name) ∷ []) (members_view fields.now.entries)) (seen (λ names. (names.0, (names.1, tt))) result) }
+fn two_names(alloc: Global, fields: &Object<'_>, first: &str, second: &str) -> Reading<(Name, Name)>
+    ensures { Reads (whole_of ((first.now, a_name) ∷ (second.now, a_name) ∷ []) (members fields.now)) (seen (λ names. (names.0, (names.1, tt))) result) }
 {
     let one = name_in(alloc, fields, first)?;
     let two = name_in(alloc, fields, second)?;
@@ -90,8 +90,8 @@ fn two_names(alloc: Global, fields: &Object, first: &str, second: &str) -> Readi
 }
 
 /// A user and a role, and no other key.
-fn user_and_role(alloc: Global, fields: &Object) -> Reading<(Name, Name)>
-    ensures { Reads (whole_of (user_key ∷ role_key ∷ []) (members_view fields.now.entries)) (seen (λ names. (names.0, (names.1, tt))) result) }
+fn user_and_role(alloc: Global, fields: &Object<'_>) -> Reading<(Name, Name)>
+    ensures { Reads (whole_of (user_key ∷ role_key ∷ []) (members fields.now)) (seen (λ names. (names.0, (names.1, tt))) result) }
 {
     two_names(alloc, fields, "user", "role")
 }
@@ -99,12 +99,12 @@ fn user_and_role(alloc: Global, fields: &Object) -> Reading<(Name, Name)>
 /// The names at these three keys, and no other key.
 fn three_names(
     alloc: Global,
-    fields: &Object,
+    fields: &Object<'_>,
     first: &str,
     second: &str,
     third: &str,
 ) -> Reading<(Name, Name, Name)>
-    ensures { Reads (whole_of ((first.now, a_name) ∷ (second.now, a_name) ∷ (third.now, a_name) ∷ []) (members_view fields.now.entries)) (seen (λ names. (names.0, (names.1, (names.2, tt)))) result) }
+    ensures { Reads (whole_of ((first.now, a_name) ∷ (second.now, a_name) ∷ (third.now, a_name) ∷ []) (members fields.now)) (seen (λ names. (names.0, (names.1, (names.2, tt)))) result) }
 {
     let one = name_in(alloc, fields, first)?;
     let two = name_in(alloc, fields, second)?;
@@ -114,8 +114,8 @@ fn three_names(
 }
 
 /// The operation and the object of a permission, and a role.
-fn permission_of_role(alloc: Global, fields: &Object) -> Reading<(Name, Name, Name)>
-    ensures { Reads (whole_of (operation_key ∷ object_key ∷ role_key ∷ []) (members_view fields.now.entries)) (seen (λ names. (names.0, (names.1, (names.2, tt)))) result) }
+fn permission_of_role(alloc: Global, fields: &Object<'_>) -> Reading<(Name, Name, Name)>
+    ensures { Reads (whole_of (operation_key ∷ object_key ∷ role_key ∷ []) (members fields.now)) (seen (λ names. (names.0, (names.1, (names.2, tt)))) result) }
 {
     three_names(alloc, fields, "operation", "object", "role")
 }

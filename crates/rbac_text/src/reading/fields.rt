@@ -1,23 +1,20 @@
 //! The fields of a JSON object, each read as what it has to be: refused as MissingField where its key is not there, as
 //! WrongKind where its value is of another kind, and as BadName where a name is due and the text is none.
-ghost use Rattle.std.specs.Prelude.{◌≡◌, [], map, is_some, ok_or, unwrap_or, string_bytes};
-ghost use Rattle.std.specs.BTreeMap.{keys as entry_keys};
-ghost use Rattle.std.specs.List.{list_all, list_any};
-ghost use Rattle.std.specs.Str.{bytes_eq};
-ghost use Rattle.serde_json.specs.Find.{as_object, as_str};
-ghost use Rattle.serde_json.specs.View.{view, items_view, members_view};
+ghost use Rattle.std.specs.Prelude.{◌≡◌, [], map, is_some, ok_or, unwrap_or};
+ghost use Rattle.std.specs.List.{list_all};
+ghost use Rattle.serde_json.specs.Find as find;
+ghost use Rattle.lent_json.specs.Data.{items, meaning, members};
 ghost use Rattle.rbac_text.specs.Steps.{seen};
 ghost use Rattle.rbac_text.specs.Fields.{Reads, value_in, as_whole, whole_in, text_in, object_in, objects_of, objects_in, name_of, name_in, names_of, names_in, only_keys};
 
-use crate::keys::is_one_of;
 use crate::names::name_or;
 use crate::refusal::LineRefusal;
+use lent_json::{Value, as_array, as_object, as_str, as_u64, get, has_only, is_object, is_string};
 use rbac_terms::{Name, NameSet};
-use serde_json::{Map, Value};
 use std::alloc::Global;
 
 /// A JSON object, whose keys have no order. Where a key was given twice, it has the last value.
-pub type Object = Map<String, Value>;
+pub type Object<'a> = Value<'a>;
 
 /// What is read, or the first refusal.
 pub type Reading<T> = Result<T, LineRefusal>;
@@ -26,21 +23,20 @@ pub type Reading<T> = Result<T, LineRefusal>;
 ///
 /// # Errors
 /// `MissingField` where the key is not there.
-pub fn value_in<'o>(object: &'o Object, key: &str) -> Reading<&'o Value>
-    ensures { seen (λ value. view value.now) result ≡ value_in key.now (members_view object.now.entries) }
+pub fn value_in<'o, 'a>(object: &'o Object<'a>, key: &str) -> Reading<&'o Value<'a>>
+    ensures { seen (λ value. meaning value.now) result ≡ value_in key.now (members object.now) }
 {
-    object.get(key).ok_or(LineRefusal::MissingField)
+    get(object, key).ok_or(LineRefusal::MissingField)
 }
 
 /// The whole number that a value is, up to 4,294,967,295. Any other number is of another kind, 1.0 and negative ones among them.
 ///
 /// # Errors
 /// `WrongKind` where it is of another kind.
-pub fn whole_of(value: &Value) -> Reading<u32>
-    ensures { result ≡ (ok_or (as_whole (view value.now)) LineRefusal.WrongKind) }
+pub fn whole_of(value: &Value<'_>) -> Reading<u32>
+    ensures { result ≡ (ok_or (as_whole (meaning value.now)) LineRefusal.WrongKind) }
 {
-    value
-        .as_u64()
+    as_u64(value)
         .and_then(|number| u32::try_from(number).ok())
         .ok_or(LineRefusal::WrongKind)
 }
@@ -49,8 +45,8 @@ pub fn whole_of(value: &Value) -> Reading<u32>
 ///
 /// # Errors
 /// `MissingField` where the key is not there, `WrongKind` where its value is of another kind.
-pub fn whole_in(object: &Object, key: &str) -> Result<u32, LineRefusal>
-    ensures { result ≡ whole_in key.now (members_view object.now.entries) }
+pub fn whole_in(object: &Object<'_>, key: &str) -> Result<u32, LineRefusal>
+    ensures { result ≡ whole_in key.now (members object.now) }
 {
     let value = value_in(object, key)?;
     whole_of(value)
@@ -60,22 +56,22 @@ pub fn whole_in(object: &Object, key: &str) -> Result<u32, LineRefusal>
 ///
 /// # Errors
 /// `MissingField` where the key is not there, `WrongKind` where its value is no text.
-pub fn text_in<'o>(object: &'o Object, key: &str) -> Reading<&'o str>
-    ensures { seen (λ text. text.now) result ≡ text_in key.now (members_view object.now.entries) }
+pub fn text_in<'a>(object: &Object<'a>, key: &str) -> Reading<&'a str>
+    ensures { seen (λ text. text.now) result ≡ text_in key.now (members object.now) }
 {
     let value = value_in(object, key)?;
-    value.as_str().ok_or(LineRefusal::WrongKind)
+    as_str(value).ok_or(LineRefusal::WrongKind)
 }
 
 /// The object at a key.
 ///
 /// # Errors
 /// `MissingField` where the key is not there, `WrongKind` where its value is no object.
-pub fn object_in<'o>(object: &'o Object, key: &str) -> Reading<&'o Object>
-    ensures { seen (λ inner. members_view inner.now.entries) result ≡ object_in key.now (members_view object.now.entries) }
+pub fn object_in<'o, 'a>(object: &'o Object<'a>, key: &str) -> Reading<&'o Object<'a>>
+    ensures { seen (λ inner. members inner.now) result ≡ object_in key.now (members object.now) }
 {
     let value = value_in(object, key)?;
-    value.as_object().ok_or(LineRefusal::WrongKind)
+    as_object(value).ok_or(LineRefusal::WrongKind)
 }
 
 /// The name that a text is.
@@ -86,30 +82,30 @@ fn name_of(alloc: Global, text: &str) -> Reading<Name>
 }
 
 /// The name at a key.
-pub(crate) fn name_in(alloc: Global, object: &Object, key: &str) -> Reading<Name>
-    ensures { Reads (name_in key.now (members_view object.now.entries)) result }
+pub(crate) fn name_in(alloc: Global, object: &Object<'_>, key: &str) -> Reading<Name>
+    ensures { Reads (name_in key.now (members object.now)) result }
 {
     let text = text_in(object, key)?;
     name_of(alloc, text)
 }
 
-fn are_texts(array: &[Value]) -> bool
-    ensures { result ≡ list_all (λ value. is_some (as_str (view value))) array.now }
+fn are_texts(array: &[Value<'_>]) -> bool
+    ensures { result ≡ list_all (λ value. is_some (find.as_str (meaning value))) array.now }
 {
-    array.iter().all(|value| value.is_string())
+    array.iter().all(|value| is_string(value))
 }
 
 /// A value's text, or an empty one where it is no text.
-fn text_of(value: &Value) -> &str
-    ensures { result.now ≡ unwrap_or (as_str (view value.now)) [] }
+fn text_of<'a>(value: &Value<'a>) -> &'a str
+    ensures { result.now ≡ unwrap_or (find.as_str (meaning value.now)) [] }
 {
-    value.as_str().unwrap_or("")
+    as_str(value).unwrap_or("")
 }
 
 /// The set of the names in an array. An element that is no text is refused before any text that is no name, so that
 /// the array is looked through before the first name is read. A name given twice counts once.
-fn names_of(alloc: Global, array: &[Value]) -> Reading<NameSet>
-    ensures { Reads (names_of (items_view array.now)) result }
+fn names_of(alloc: Global, array: &[Value<'_>]) -> Reading<NameSet>
+    ensures { Reads (names_of (items array.now)) result }
 {
     if !are_texts(array) {
         return Err(LineRefusal::WrongKind);
@@ -123,26 +119,26 @@ fn names_of(alloc: Global, array: &[Value]) -> Reading<NameSet>
 }
 
 /// The set of the names at a key.
-pub(crate) fn names_in(alloc: Global, object: &Object, key: &str) -> Reading<NameSet>
-    ensures { Reads (names_in key.now (members_view object.now.entries)) result }
+pub(crate) fn names_in(alloc: Global, object: &Object<'_>, key: &str) -> Reading<NameSet>
+    ensures { Reads (names_in key.now (members object.now)) result }
 {
     let value = value_in(object, key)?;
-    let array = value.as_array().ok_or(LineRefusal::WrongKind)?;
+    let array = as_array(value).ok_or(LineRefusal::WrongKind)?;
     names_of(alloc, array)
 }
 
-fn are_objects(array: &[Value]) -> bool
-    ensures { result ≡ list_all (λ value. is_some (as_object (view value))) array.now }
+fn are_objects(array: &[Value<'_>]) -> bool
+    ensures { result ≡ list_all (λ value. is_some (find.as_object (meaning value))) array.now }
 {
-    array.iter().all(|value| value.is_object())
+    array.iter().all(|value| is_object(value))
 }
 
 /// The array, if each of its elements is an object.
 ///
 /// # Errors
 /// `WrongKind` where an element is no object.
-pub fn objects_of(array: &[Value]) -> Reading<&[Value]>
-    ensures { seen (λ kept. items_view kept.now) result ≡ objects_of (items_view array.now) }
+pub fn objects_of<'o, 'a>(array: &'o [Value<'a>]) -> Reading<&'o [Value<'a>]>
+    ensures { seen (λ kept. items kept.now) result ≡ objects_of (items array.now) }
 {
     if !are_objects(array) {
         return Err(LineRefusal::WrongKind);
@@ -154,26 +150,20 @@ pub fn objects_of(array: &[Value]) -> Reading<&[Value]>
 ///
 /// # Errors
 /// `MissingField` where the key is not there, `WrongKind` where its value is no array or an element is no object.
-pub fn objects_in<'o>(object: &'o Object, key: &str) -> Reading<&'o [Value]>
-    ensures { seen (λ array. items_view array.now) result ≡ objects_in key.now (members_view object.now.entries) }
+pub fn objects_in<'o, 'a>(object: &'o Object<'a>, key: &str) -> Reading<&'o [Value<'a>]>
+    ensures { seen (λ array. items array.now) result ≡ objects_in key.now (members object.now) }
 {
     let value = value_in(object, key)?;
-    let array = value.as_array().ok_or(LineRefusal::WrongKind)?;
+    let array = as_array(value).ok_or(LineRefusal::WrongKind)?;
     objects_of(array)
-}
-
-fn has_only(object: &Object, keys: &[&str]) -> bool
-    ensures { result ≡ list_all (λ key. list_any (λ known. bytes_eq (string_bytes key) known.now) keys.now) (entry_keys object.now) }
-{
-    object.keys().all(|key| is_one_of(keys, key.as_str()))
 }
 
 /// Refuses an object that has a key besides these.
 ///
 /// # Errors
 /// `ExtraField` where there is one.
-pub fn only_keys(object: &Object, keys: &[&str]) -> Reading<()>
-    ensures { result ≡ only_keys (map (λ key. key.now) keys.now) (members_view object.now.entries) }
+pub fn only_keys(object: &Object<'_>, keys: &[&str]) -> Reading<()>
+    ensures { result ≡ only_keys (map (λ key. key.now) keys.now) (members object.now) }
 {
     if has_only(object, keys) {
         Ok(())

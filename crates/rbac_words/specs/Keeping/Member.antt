@@ -68,6 +68,10 @@ known v = commands_of v.history ++ v.held
 abbrev pub batch : Member → ℕ → ℕ → List Command → Message
 batch v caller serial commands = Batch (stamp (v.clock + 1) v.number) caller serial commands
 
+-- a command as it is submitted next, alone in its message
+abbrev pub submission : Member → ℕ → ℕ → Command → Submission
+submission v caller serial command = record { stamp = stamp (v.clock + 1) v.number; caller = caller; serial = serial; command = command }
+
 -- the clock rises by one, and the commands are sent with that stamp and held; their stamps are above all that is held
 abbrev pub submitted : Member → ℕ → ℕ → List Command → Member
 submitted v caller serial commands = record v {

@@ -1,6 +1,6 @@
 //! The commands about the role hierarchy.
 ghost use Rattle.std.specs.Prelude.{◌∷◌, []};
-ghost use Rattle.serde_json.specs.View.{members_view};
+ghost use Rattle.lent_json.specs.Data.{members};
 ghost use Rattle.rbac_text.specs.Steps.{seen};
 ghost use Rattle.rbac_text.specs.Fields.{Reads};
 ghost use Rattle.rbac_text.specs.Command.{ascendant_key, descendant_key, hierarchy_command, whole_of};
@@ -13,8 +13,8 @@ use std::alloc::Global;
 
 /// Reads a command object of this name, where it is about the hierarchy or one of those that follow.
 #[tactic(auto, unfolding(crate::specs::Command::hierarchy_command))]
-pub(crate) fn hierarchy_command(alloc: Global, fields: &Object, name: &str) -> Reading<Command>
-    ensures { Reads (hierarchy_command name.now (members_view fields.now.entries)) result }
+pub(crate) fn hierarchy_command(alloc: Global, fields: &Object<'_>, name: &str) -> Reading<Command>
+    ensures { Reads (hierarchy_command name.now (members fields.now)) result }
 {
     match name {
         "AddInheritance" => {
@@ -50,8 +50,8 @@ pub(crate) fn hierarchy_command(alloc: Global, fields: &Object, name: &str) -> R
 }
 
 /// An ascendant and a descendant, and no other key.
-fn two_roles(alloc: Global, fields: &Object) -> Reading<(Name, Name)>
-    ensures { Reads (whole_of (ascendant_key ∷ descendant_key ∷ []) (members_view fields.now.entries)) (seen (λ names. (names.0, (names.1, tt))) result) }
+fn two_roles(alloc: Global, fields: &Object<'_>) -> Reading<(Name, Name)>
+    ensures { Reads (whole_of (ascendant_key ∷ descendant_key ∷ []) (members fields.now)) (seen (λ names. (names.0, (names.1, tt))) result) }
 {
     two_names(alloc, fields, "ascendant", "descendant")
 }

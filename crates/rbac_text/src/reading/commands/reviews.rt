@@ -1,5 +1,5 @@
 //! The reviews. Those about sets of separation serve both kinds.
-ghost use Rattle.serde_json.specs.View.{members_view};
+ghost use Rattle.lent_json.specs.Data.{members};
 ghost use Rattle.rbac_text.specs.Fields.{Reads};
 ghost use Rattle.rbac_text.specs.Command.{by_row, of_row, review_command, review_rows, role_set_cardinality, role_set_roles, role_sets, set_review};
 
@@ -11,16 +11,16 @@ use std::alloc::Global;
 
 /// Reads a command object of this name, where it is a review.
 #[tactic(auto, unfolding(crate::specs::Command::review_command))]
-pub(crate) fn review_command(alloc: Global, fields: &Object, name: &str) -> Reading<Command>
-    ensures { Reads (review_command name.now (members_view fields.now.entries)) result }
+pub(crate) fn review_command(alloc: Global, fields: &Object<'_>, name: &str) -> Reading<Command>
+    ensures { Reads (review_command name.now (members fields.now)) result }
 {
     let review = review_of(alloc, fields, name)?;
     Ok(Command::Review(review))
 }
 
 #[tactic(auto, unfolding(crate::specs::Command::set_review))]
-fn review_of(alloc: Global, fields: &Object, name: &str) -> Reading<Review>
-    ensures { Reads (by_row review_rows set_review name.now (members_view fields.now.entries)) result }
+fn review_of(alloc: Global, fields: &Object<'_>, name: &str) -> Reading<Review>
+    ensures { Reads (by_row review_rows set_review name.now (members fields.now)) result }
 {
     match name {
         "AssignedUsers" => one_role(alloc, fields).map(|role| Review::AssignedUsers { role }),
@@ -53,21 +53,21 @@ fn review_of(alloc: Global, fields: &Object, name: &str) -> Reading<Review>
     }
 }
 
-fn role_sets(fields: &Object, kind: Separation) -> Reading<Review>
-    ensures { Reads (of_row (role_sets kind) (members_view fields.now.entries)) result }
+fn role_sets(fields: &Object<'_>, kind: Separation) -> Reading<Review>
+    ensures { Reads (of_row (role_sets kind) (members fields.now)) result }
 {
     only_keys(fields, &["name"])?;
     Ok(Review::RoleSets { kind })
 }
 
-fn role_set_roles(alloc: Global, fields: &Object, kind: Separation) -> Reading<Review>
-    ensures { Reads (of_row (role_set_roles kind) (members_view fields.now.entries)) result }
+fn role_set_roles(alloc: Global, fields: &Object<'_>, kind: Separation) -> Reading<Review>
+    ensures { Reads (of_row (role_set_roles kind) (members fields.now)) result }
 {
     one_name(alloc, fields, "set").map(|set| Review::RoleSetRoles { kind, set })
 }
 
-fn role_set_cardinality(alloc: Global, fields: &Object, kind: Separation) -> Reading<Review>
-    ensures { Reads (of_row (role_set_cardinality kind) (members_view fields.now.entries)) result }
+fn role_set_cardinality(alloc: Global, fields: &Object<'_>, kind: Separation) -> Reading<Review>
+    ensures { Reads (of_row (role_set_cardinality kind) (members fields.now)) result }
 {
     one_name(alloc, fields, "set").map(|set| Review::RoleSetCardinality { kind, set })
 }

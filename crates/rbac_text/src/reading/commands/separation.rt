@@ -1,5 +1,5 @@
 //! The commands about sets of separation, each for both kinds.
-ghost use Rattle.serde_json.specs.View.{members_view};
+ghost use Rattle.lent_json.specs.Data.{members};
 ghost use Rattle.rbac_text.specs.Fields.{Reads};
 ghost use Rattle.rbac_text.specs.Command.{add_role_member, create_set, delete_role_member, delete_set, of_row, separation_command, set_cardinality};
 
@@ -11,8 +11,8 @@ use std::alloc::Global;
 
 /// Reads a command object of this name, where it changes a set of separation or is a review.
 #[tactic(auto, unfolding(crate::specs::Command::separation_command))]
-pub(crate) fn separation_command(alloc: Global, fields: &Object, name: &str) -> Reading<Command>
-    ensures { Reads (separation_command name.now (members_view fields.now.entries)) result }
+pub(crate) fn separation_command(alloc: Global, fields: &Object<'_>, name: &str) -> Reading<Command>
+    ensures { Reads (separation_command name.now (members fields.now)) result }
 {
     match name {
         "CreateSsdSet" => create_set(alloc, fields, Separation::Static),
@@ -29,8 +29,8 @@ pub(crate) fn separation_command(alloc: Global, fields: &Object, name: &str) -> 
     }
 }
 
-fn create_set(alloc: Global, fields: &Object, kind: Separation) -> Reading<Command>
-    ensures { Reads (of_row (create_set kind) (members_view fields.now.entries)) result }
+fn create_set(alloc: Global, fields: &Object<'_>, kind: Separation) -> Reading<Command>
+    ensures { Reads (of_row (create_set kind) (members fields.now)) result }
 {
     let set = name_in(alloc, fields, "set")?;
     let roles = names_in(alloc, fields, "roles")?;
@@ -44,28 +44,28 @@ fn create_set(alloc: Global, fields: &Object, kind: Separation) -> Reading<Comma
     })
 }
 
-fn delete_set(alloc: Global, fields: &Object, kind: Separation) -> Reading<Command>
-    ensures { Reads (of_row (delete_set kind) (members_view fields.now.entries)) result }
+fn delete_set(alloc: Global, fields: &Object<'_>, kind: Separation) -> Reading<Command>
+    ensures { Reads (of_row (delete_set kind) (members fields.now)) result }
 {
     one_name(alloc, fields, "set").map(|set| Command::DeleteSet { kind, set })
 }
 
-fn add_role_member(alloc: Global, fields: &Object, kind: Separation) -> Reading<Command>
-    ensures { Reads (of_row (add_role_member kind) (members_view fields.now.entries)) result }
+fn add_role_member(alloc: Global, fields: &Object<'_>, kind: Separation) -> Reading<Command>
+    ensures { Reads (of_row (add_role_member kind) (members fields.now)) result }
 {
     let (set, role) = two_names(alloc, fields, "set", "role")?;
     Ok(Command::AddRoleMember { kind, set, role })
 }
 
-fn delete_role_member(alloc: Global, fields: &Object, kind: Separation) -> Reading<Command>
-    ensures { Reads (of_row (delete_role_member kind) (members_view fields.now.entries)) result }
+fn delete_role_member(alloc: Global, fields: &Object<'_>, kind: Separation) -> Reading<Command>
+    ensures { Reads (of_row (delete_role_member kind) (members fields.now)) result }
 {
     let (set, role) = two_names(alloc, fields, "set", "role")?;
     Ok(Command::DeleteRoleMember { kind, set, role })
 }
 
-fn set_cardinality(alloc: Global, fields: &Object, kind: Separation) -> Reading<Command>
-    ensures { Reads (of_row (set_cardinality kind) (members_view fields.now.entries)) result }
+fn set_cardinality(alloc: Global, fields: &Object<'_>, kind: Separation) -> Reading<Command>
+    ensures { Reads (of_row (set_cardinality kind) (members fields.now)) result }
 {
     let set = name_in(alloc, fields, "set")?;
     let n = whole_in(fields, "n")?;

@@ -1,5 +1,5 @@
 //! The commands about sessions.
-ghost use Rattle.serde_json.specs.View.{members_view};
+ghost use Rattle.lent_json.specs.Data.{members};
 ghost use Rattle.rbac_text.specs.Fields.{Reads};
 ghost use Rattle.rbac_text.specs.Command.{check_access, create_session, of_row, session_command};
 
@@ -11,8 +11,8 @@ use std::alloc::Global;
 
 /// Reads a command object of this name, where it is about sessions or one of those that follow.
 #[tactic(auto, unfolding(crate::specs::Command::session_command))]
-pub(crate) fn session_command(alloc: Global, fields: &Object, name: &str) -> Reading<Command>
-    ensures { Reads (session_command name.now (members_view fields.now.entries)) result }
+pub(crate) fn session_command(alloc: Global, fields: &Object<'_>, name: &str) -> Reading<Command>
+    ensures { Reads (session_command name.now (members fields.now)) result }
 {
     match name {
         "CreateSession" => create_session(alloc, fields),
@@ -41,8 +41,8 @@ pub(crate) fn session_command(alloc: Global, fields: &Object, name: &str) -> Rea
     }
 }
 
-fn create_session(alloc: Global, fields: &Object) -> Reading<Command>
-    ensures { Reads (of_row create_session (members_view fields.now.entries)) result }
+fn create_session(alloc: Global, fields: &Object<'_>) -> Reading<Command>
+    ensures { Reads (of_row create_session (members fields.now)) result }
 {
     let user = name_in(alloc, fields, "user")?;
     let session = name_in(alloc, fields, "session")?;
@@ -55,8 +55,8 @@ fn create_session(alloc: Global, fields: &Object) -> Reading<Command>
     })
 }
 
-fn check_access(alloc: Global, fields: &Object) -> Reading<Command>
-    ensures { Reads (of_row check_access (members_view fields.now.entries)) result }
+fn check_access(alloc: Global, fields: &Object<'_>) -> Reading<Command>
+    ensures { Reads (of_row check_access (members fields.now)) result }
 {
     let (session, operation, object) = three_names(
         alloc,

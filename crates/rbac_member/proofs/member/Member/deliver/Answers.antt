@@ -1,4 +1,6 @@
 use Rattle.std.proofs.Common.{refl, sym, subst, ap, is_some, ◌∙◌}
+use Rattle.rbac_terms.specs.Effect.{effect, reply}
+use Rattle.rbac_terms.specs.declared.command.Command.{Command}
 use Rattle.rbac_words.specs.Keeping.Member.{Member, IsMember, known, deliver_due, due_at}
 use Rattle.rbac_order.proofs.MemberLemmas.{keeps_delivered, known_delivered}
 use Rattle.rbac_member.specs.Inside.{member_of}
@@ -13,7 +15,7 @@ invariant_of-self-2 c =
     let rest = c.take_over.new.held.held in
     let now = delivered_is v c.apply.new.self c.take_over.new.history.items c.reserve.new.self.items rest c.in-Some.next.now c.in_ok-answer.answer over
     c.in_ok-reserve.ensures.items (same_first v.held rest c.in-Some.next.now over.first c.in-Some.ensures.least over.held_before)
-    c.in_ok-answer.ensures.effect c.in_ok-answer.ensures.reply refl in
+    (c.in_ok-answer.ensures.effect ∙ ap (λ (x : Command). effect x v.policy) c.get.ensures) (c.in_ok-answer.ensures.reply ∙ ap (λ (x : Command). reply x v.policy) c.get.ensures) refl in
     let due = due_first v over.first rest over.held_before (ap (λ (m : Member). is_some (due_at m)) c.self.view_is ∙ sym c.if-not-is_due.ensures) in
     record {
       counted = subst (λ (m : Member). AreCounted c.self.inside.serials.content (known m)) (sym now)
@@ -32,6 +34,6 @@ returns-clause-delivered c =
     let due = due_first v over.first rest over.held_before (ap (λ (m : Member). is_some (due_at m)) c.self.view_is ∙ sym c.if-not-is_due.ensures) in
     delivered_is v c.apply.new.self c.take_over.new.history.items c.reserve.new.self.items rest c.in-Some.next.now c.in_ok-answer.answer over
     c.in_ok-reserve.ensures.items (same_first v.held rest c.in-Some.next.now over.first c.in-Some.ensures.least over.held_before)
-    c.in_ok-answer.ensures.effect c.in_ok-answer.ensures.reply refl
+    (c.in_ok-answer.ensures.effect ∙ ap (λ (x : Command). effect x v.policy) c.get.ensures) (c.in_ok-answer.ensures.reply ∙ ap (λ (x : Command). reply x v.policy) c.get.ensures) refl
     ∙ sym (ap (deliver_due v) due.1)
     ∙ ap (λ (m : Member). deliver_due m (due_at m)) c.self.view_is

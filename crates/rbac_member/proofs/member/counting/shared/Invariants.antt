@@ -1,7 +1,7 @@
 use Rattle.std.proofs.Common.{◌≡◌, ◌+◌, ◌++◌, drop}
 use Rattle.rbac_words.specs.Message.{in_turn}
 use Rattle.rbac_words.specs.declared.stamp.Stamp.{Stamp}
-use Rattle.rbac_member.proofs.member.counting.copied.Given as goal
+use Rattle.rbac_member.proofs.member.counting.shared.Given as goal
 
 -- the commands so far, and those that follow them at the next place
 abbrev pub invariant-loop-place : goal.invariant-loop-place

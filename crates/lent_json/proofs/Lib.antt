@@ -1,0 +1,4 @@
+mod Found
+mod InRange
+mod KeyLemmas
+mod WholeTexts
