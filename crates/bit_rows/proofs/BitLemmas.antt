@@ -22,7 +22,7 @@ any_default (x ∷ xs) zero d e lt = refl
 any_default (x ∷ xs) (suc i) d e lt = any_default xs i d e (omega arith)
 
 -- a word of zero has no bit set
-zero_word : (words : List ℕ) (j : ℕ) → get_or words (j / 64) 0 ≡ 0 → has_bit words j ≡ false
+pub zero_word : (words : List ℕ) (j : ℕ) → get_or words (j / 64) 0 ≡ 0 → has_bit words j ≡ false
 unfolding has_bit
 zero_word words j is = ap (λ w. nat_eq (bit_at w (j % 64)) 1) is ∙ ap (λ n. nat_eq n 1) (bit_at-zero (j % 64))
 

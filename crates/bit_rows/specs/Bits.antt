@@ -6,6 +6,10 @@ use Rattle.std.specs.Int.{bit_at}
 unfoldable pub has_bit : List ℕ → ℕ → Bool
 has_bit words j = nat_eq (bit_at (get_or words (j / 64) 0) (j % 64)) 1
 
+-- whether no bit of a word is set
+abbrev pub is_clear : List ℕ → ℕ → Bool
+is_clear words k = nat_eq (get_or words k 0) 0
+
 -- whether the bit j of the row i is set
 abbrev pub bit : List (List ℕ) → ℕ → ℕ → Bool
 bit rows i j = has_bit (get_or rows i []) j

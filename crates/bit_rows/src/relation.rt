@@ -1,6 +1,6 @@
 //! A relation on numbers.
-ghost use Rattle.std.specs.Prelude.{◌≡◌, ◌<◌, ◌≤◌, ◌+◌, ◌-◌, ◌||◌, ◌&&◌, ℕ, Bool, IsTrue, true, false, nat_eq, IfOk, OnOk, OnErr, if◌then◌else◌};
-ghost use Rattle.bit_rows.specs.Bits.{AreBelow, AreJoined, count, moved, related};
+ghost use Rattle.std.specs.Prelude.{◌≡◌, ◌<◌, ◌≤◌, ◌+◌, ◌-◌, ◌/◌, ◌||◌, ◌&&◌, ℕ, Bool, IsTrue, true, false, nat_eq, [], get_or, IfOk, OnOk, OnErr, if◌then◌else◌};
+ghost use Rattle.bit_rows.specs.Bits.{AreBelow, AreJoined, count, is_clear, moved, related};
 
 use crate::row::BitRow;
 use crate::rows::{add_spare, join_above, join_until_closed, move_bits, reset_above, widen_both};
@@ -59,6 +59,14 @@ impl Relation {
         ensures { result ≡ related self.now first second }
     {
         first < self.rows.len() && self.rows[first].has(second)
+    }
+
+    /// Whether a number is related to none of the 64 numbers of a word: those that are this word when divided by 64.
+    pub fn is_clear(&self, first: usize, word: usize) -> bool
+        ensures definition { result ≡ is_clear (get_or self.now.rows first []) word }
+        ensures unrelated { result ≡ true → (j : ℕ) → j / 64 ≡ word → related self.now first j ≡ false }
+    {
+        first >= self.rows.len() || self.rows[first].is_clear(word)
     }
 
     /// Makes room for so many more numbers.

@@ -1,6 +1,6 @@
 //! A row of bits.
 ghost use Rattle.std.specs.Prelude.{◌≡◌, ◌<◌, ◌≤◌, ◌+◌, ◌*◌, ◌||◌, ℕ, [], true, false, nat_eq, length, IfOk, OnOk, OnErr, if◌then◌else◌};
-ghost use Rattle.bit_rows.specs.Bits.{has_bit};
+ghost use Rattle.bit_rows.specs.Bits.{has_bit, is_clear};
 ghost use Rattle.bit_rows.specs.Room.{unset};
 
 use std::alloc::{AllocError, Global};
@@ -51,6 +51,13 @@ impl BitRow {
         ensures { result ≡ has_bit self.now bit }
     {
         bit / 64 < self.words.len() && (self.words[bit / 64] >> (bit % 64)) & 1 == 1
+    }
+
+    /// Whether no bit of a word is set. A word past the last has none.
+    pub(crate) fn is_clear(&self, word: usize) -> bool
+        ensures { result ≡ is_clear self.now word }
+    {
+        word >= self.words.len() || self.words[word] == 0
     }
 
     // Sets a bit.

@@ -1,25 +1,14 @@
 -- What a command that is not denied answers and leaves.
-use Rattle.std.proofs.Common.{◌≡◌, false, true≢false, Option, Some, None, refl, sym, ap, ◌∙◌, subst}
+use Rattle.std.proofs.Common.{◌≡◌, Option, Some, None, sym, ap, ◌∙◌, subst}
 use Rattle.rbac_terms.specs.State.{State}
 use Rattle.rbac_terms.specs.Rows.{first_denial}
 use Rattle.rbac_terms.specs.Sound.{IsSound, BringsASet}
 use Rattle.rbac_terms.specs.Change.{change}
-use Rattle.rbac_terms.specs.Effect.{effect, effect_unless, answer, reply, reply_unless}
+use Rattle.rbac_terms.specs.Effect.{effect, effect_unless, reply, reply_unless}
 use Rattle.rbac_terms.specs.declared.command.Command.{Command}
-use Rattle.rbac_terms.specs.declared.command.Command.TheVariants.{CheckAccess, Review as ReviewCommand}
-use Rattle.rbac_terms.specs.declared.answer.Answer.TheVariants.{Done, Denied}
+use Rattle.rbac_terms.specs.declared.answer.Answer.TheVariants.{Denied}
 use Rattle.rbac_terms.specs.declared.answer.Denial.{Denial}
 use Rattle.rbac_rules.proofs.SoundLemmas.{sound_effect}
-use Rattle.rbac_decide.specs.Asking.{is_question}
-
--- a command that asks nothing is answered that it is done
-change-answer : (c : Command) (s : State) → is_question c ≡ false → Done ≡ answer c s
-change-answer (CheckAccess session operation object) s e = absurd (true≢false e)
-change-answer (ReviewCommand review) s e = absurd (true≢false e)
-change-answer c s e = refl
-
-pub change-reply : (c : Command) (s : State) → is_question c ≡ false → first_denial c s ≡ None → Done ≡ reply c s
-change-reply c s asks none = change-answer c s asks ∙ ap (λ (o : Option Denial). reply_unless o c s) (sym none)
 
 -- what is inside is changed
 pub changed : (c : Command) (s inside new : State) → first_denial c s ≡ None → inside ≡ s → new ≡ change c inside → new ≡ effect c s

@@ -178,6 +178,9 @@ module _ (a d : Name) (s : State) (is_a : has name_cmp a s.roles ≡ true) (is_d
     both : (is_authorized s user a ≡ true) × (breaks_with s d user ≡ true)
     both = and_parts _ _ (some_first breaking_below s.users user some).0
 
+    pub pair_breaks : breaks_with s d user ≡ true
+    pair_breaks = both.1
+
     pub pair_violated : is_violated Static (change (AddInheritance a d) s) ≡ breaks_with s d user
     pair_violated = declared_violated a d s is_a is_d h ∙ (some_first breaking_below s.users user some).1 ∙ sym both.1
 

@@ -1,5 +1,5 @@
 -- What the counts of a policy become by each command.
-use Rattle.std.proofs.Common.{ℕ, ◌+◌, ◌<◌, List, [], ◌∷◌, length, get_or, drop, count_by, nat_le, Bool, true, false, not, cond, ◌||◌, ◌&&◌, ◌≡◌, Option, Some, None, refl, sym, ap, ◌∙◌, add-one, arith}
+use Rattle.std.proofs.Common.{ℕ, ◌+◌, ◌<◌, List, [], ◌∷◌, length, get_or, drop, count_by, Bool, true, false, not, cond, ◌||◌, ◌&&◌, ◌≡◌, Option, Some, None, refl, sym, ap, ◌∙◌, add-one, arith}
 use Rattle.std.proofs.lemmas.Bool.{or_left, or_right, false≢true}
 use Rattle.std.proofs.lemmas.List.Sums.{sum_by-cons}
 use Rattle.std.proofs.Math.Seq.{drop-cons}
@@ -12,10 +12,9 @@ use Rattle.std.specs.FinMap.Entries.{find}
 use Rattle.sorted_keys.specs.Keys.{has, by_key}
 use Rattle.sorted_keys.proofs.Order.{IsBelowAll, greater}
 use Rattle.rbac_terms.specs.Name.{Name, name_cmp}
-use Rattle.rbac_terms.specs.Separation.{RoleSet, is_broken_by}
+use Rattle.rbac_terms.specs.Separation.{RoleSet}
 use Rattle.sorted_keys.proofs.Ties.{ties_itself}
 use Rattle.rbac_terms.proofs.NameLemmas.{names_total}
-use Rattle.rbac_separation.specs.Counts.{is_over}
 use Rattle.rbac_decide.specs.Counting.{count_in}
 
 -- ---- Counting
@@ -68,16 +67,6 @@ count_split f a (x ∷ xs) =
     step true false = refl
     step false true = refl
     step false false = refl
-
--- a set is over with what is fresh where it is broken with what passes besides
-module _ (numbers : Name → ℕ) (f a : Name → Bool) (fresh : List Name) (told : (r : Name) → has name_cmp r fresh ≡ (f r && not (a r))) where
-  over_one : (e : Name × RoleSet) → numbers e.0 ≡ count_by a e.1.roles → is_over (numbers e.0) fresh e.1 ≡ is_broken_by (λ r. f r || a r) e.1
-  over_one e is = ap (nat_le e.1.cardinality) ((λ i. is i + count_by (λ r. told r i) e.1.roles) ∙ sym (count_split f a e.1.roles))
-
-  -- the sets that are over are those that are broken
-  pub over_any : (sets : List (Name × RoleSet)) → Each (λ e. numbers e.0 ≡ count_by a e.1.roles) sets → list_any (λ e. is_over (numbers e.0) fresh e.1) sets ≡ list_any (λ e. is_broken_by (λ r. f r || a r) e.1) sets
-  over_any [] all = refl
-  over_any (e ∷ es) all = λ i. over_one e all.0 i || over_any es all.1 i
 
 -- ---- Entries in order
 

@@ -1,9 +1,7 @@
 -- What the roles that a user newly becomes authorized for break, with the counts that are kept.
-use Rattle.std.proofs.Common.{ℕ, List, [], ◌∷◌, length, nat_le, count_by, Bool, true, false, not, ◌||◌, ◌&&◌, ◌≡◌, Option, Some, refl, sym, ap, ◌∙◌, arith}
+use Rattle.std.proofs.Common.{List, [], ◌∷◌, nat_le, count_by, Bool, true, false, ◌||◌, ◌&&◌, ◌≡◌, refl, sym, ap, ◌∙◌, arith}
 use Rattle.std.proofs.lemmas.Bool.{or_left, or_right, and_parts, false≢true, leb-true, le-leb}
-use Rattle.std.proofs.lemmas.List.{nil_from_length}
 use Rattle.std.specs.List.{list_any, AllByRecursion as Each}
-use Rattle.std.specs.FinMap.Entries.{find}
 use Rattle.std.specs.Ordering.{eq_by_cmp}
 use Rattle.sorted_keys.specs.Keys.{has, with_key}
 use Rattle.sorted_keys.proofs.Members.{has-with_key}
@@ -13,15 +11,12 @@ use Rattle.rbac_terms.specs.Separation.{RoleSet, is_broken_by, is_constrained}
 use Rattle.rbac_terms.specs.Inheritance.{juniors}
 use Rattle.rbac_terms.specs.Authorization.{inherits_in, is_authorized}
 use Rattle.rbac_terms.specs.Sound.{IsSound, IsRoleSet}
-use Rattle.sorted_keys.proofs.Ties.{one_key, ties_itself}
+use Rattle.sorted_keys.proofs.Ties.{one_key}
 use Rattle.rbac_terms.proofs.NameLemmas.{names_total, names_exact}
-use Rattle.sorted_keys.proofs.Lists.{Each-weaker}
 use Rattle.rbac_hierarchy.proofs.JuniorLemmas.{has_juniors}
-use Rattle.rbac_rules.proofs.SoundSeparation.{is_false, none_passes}
-use Rattle.rbac_separation.specs.Counts.{is_over}
-use Rattle.rbac_decide.specs.Breaking.{breaks_with, breaks_below, is_constrained_junior}
-use Rattle.rbac_decide.specs.Counting.{count_in, authorized_count, touches}
-use Rattle.rbac_decide.proofs.CountingLemmas.{count_same, count_none, no_count, and_none, over_any, found_each}
+use Rattle.rbac_rules.proofs.SoundSeparation.{is_false}
+use Rattle.rbac_decide.specs.Breaking.{breaks_with, is_constrained_junior}
+use Rattle.rbac_decide.proofs.CountingLemmas.{count_same, count_none}
 use Rattle.rbac_decide.proofs.CountingSteps.{stranger}
 use Rattle.rbac_decide.proofs.SeparationLemmas.{unbroken}
 
@@ -37,22 +32,6 @@ module _ (whole : List (Name × RoleSet)) where
       → Each (λ e. (r : Name) → has name_cmp r e.1.roles ≡ true → is_constrained r whole ≡ true) sets → list_any (λ e. is_broken_by p e.1) sets ≡ list_any (λ e. is_broken_by q e.1) sets
   breaks_alike p q same [] all = refl
   breaks_alike p q same (e ∷ es) all = λ i. nat_le e.1.cardinality (count_same p q e.1.roles (λ r m. same r (all.0 r m)) i) || breaks_alike p q same es all.1 i
-
--- of sets whose counts are below their numbers only those with a fresh role can be over
-tried_alone : (numbers : Name → ℕ) (fresh : List Name) (sets : List (Name × RoleSet)) → Each (λ e. nat_le e.1.cardinality (numbers e.0) ≡ false) sets
-    → list_any (λ e. touches fresh (Some e.1) && is_over (numbers e.0) fresh e.1) sets ≡ list_any (λ e. is_over (numbers e.0) fresh e.1) sets
-tried_alone numbers fresh [] small = refl
-tried_alone numbers fresh (e ∷ es) small = λ i. one (touches fresh (Some e.1)) refl i || tried_alone numbers fresh es small.1 i
-  where
-    one : (b : Bool) → touches fresh (Some e.1) ≡ b → (b && is_over (numbers e.0) fresh e.1) ≡ is_over (numbers e.0) fresh e.1
-    one true t = refl
-    one false t = sym (ap (nat_le e.1.cardinality) (and_none (numbers e.0) (count_by (λ r. has name_cmp r fresh) e.1.roles) (no_count (λ r. has name_cmp r fresh) e.1.roles t)) ∙ small.0)
-
-small_counts : (s : State) (user : Name) (sets : List (Name × RoleSet)) → Each (λ e. find name_cmp e.0 s.static_sets ≡ Some e.1) sets → Each (λ e. is_broken_by (is_authorized s user) e.1 ≡ false) sets
-    → Each (λ e. nat_le e.1.cardinality (authorized_count s e.0 user) ≡ false) sets
-small_counts s user [] found unbroken = tt
-small_counts s user (e ∷ es) found unbroken =
-    (ap (λ (o : Option RoleSet). nat_le e.1.cardinality (count_in (is_authorized s user) o)) found.0 ∙ unbroken.0, small_counts s user es found.1 unbroken.1)
 
 -- who is authorized for nothing breaks no set
 breaks_nothing : (test : Name → Bool) → ((r : Name) → test r ≡ false) → (roles : List Name) (sets : List (Name × RoleSet)) → Each (λ e. IsRoleSet roles e.1) sets → list_any (λ e. is_broken_by test e.1) sets ≡ false
@@ -87,52 +66,10 @@ module _ (s : State) (role user : Name) where
       and_true true = refl
       and_true false = refl
 
-  -- a count over with those of them that the user is not authorized for is a set broken with what the role inherits besides, and of
-  -- sets without one of them none is
-  pub breaks_touched : IsSound s → (below fresh : List Name) → ((r : Name) → has name_cmp r below ≡ is_constrained_junior s role r)
-      → ((r : Name) → has name_cmp r fresh ≡ (has name_cmp r below && not (is_authorized s user r)))
-      → list_any (λ e. touches fresh (Some e.1) && is_over (authorized_count s e.0 user) fresh e.1) s.static_sets ≡ breaks_with s role user
-  breaks_touched h below fresh are told =
-      let found = found_each names_total s.static_sets h.separation.static_sets.in_order in
-      tried_alone (λ set. authorized_count s set user) fresh s.static_sets
-      (small_counts s user s.static_sets found (none_passes (λ (e : Name × RoleSet). is_broken_by (is_authorized s user) e.1) s.static_sets (nobody_breaks s h user)))
-      ∙ over_any (λ set. authorized_count s set user) (is_constrained_junior s role) (is_authorized s user) fresh (λ r. told r ∙ ap (λ b. b && not (is_authorized s user r)) (are r)) s.static_sets
-      (Each-weaker (λ (e : Name × RoleSet). find name_cmp e.0 s.static_sets ≡ Some e.1) (λ (e : Name × RoleSet). authorized_count s e.0 user ≡ count_by (is_authorized s user) e.1.roles) s.static_sets
-      (λ e found. ap (count_in (is_authorized s user)) found) found)
-      ∙ constrained_alike
-
-  -- where it inherits none, a user of a sound policy breaks no set
-  breaks_none : IsSound s → ((r : Name) → is_constrained_junior s role r ≡ false) → has name_cmp user s.users ≡ true → breaks_with s role user ≡ false
-  breaks_none h none is =
-      sym constrained_alike
-      ∙ ap (λ t. list_any (λ e. is_broken_by t e.1) s.static_sets) (λ i r. none r i || is_authorized s user r)
-      ∙ unbroken s h user is
-
-pub breaks_none_below : (s : State) → IsSound s → (a d : Name) → ((r : Name) → is_constrained_junior s d r ≡ false) → breaks_below s a d ≡ false
-breaks_none_below s h a d none = go s.users (λ user m. m)
-  where
-    nothing : (b c : Bool) → c ≡ false → (b && c) ≡ false
-    nothing true c e = e
-    nothing false c e = refl
-
-    go : (users : List Name) → ((user : Name) → has name_cmp user users ≡ true → has name_cmp user s.users ≡ true) → list_any (λ user. is_authorized s user a && breaks_with s d user) users ≡ false
-    go [] are = refl
-    go (x ∷ xs) are = λ i.
-        nothing (is_authorized s x a) (breaks_with s d x) (breaks_none s d x h none (are x (or_left _ _ (ties_itself names_total x)))) i
-        || go xs (λ user m. are user (or_right _ _ m)) i
-
 -- what is gathered of the roles of static sets that a role inherits
 pub gathered : (s : State) (role : Name) (below kept : List Name) → below ≡ juniors s.roles s.declared role → ((r : Name) → has name_cmp r kept ≡ (has name_cmp r below && is_constrained r s.static_sets))
     → (r : Name) → has name_cmp r kept ≡ is_constrained_junior s role r
 gathered s role below kept are told r = told r ∙ ap (λ b. b && is_constrained r s.static_sets) (ap (has name_cmp r) are ∙ has_juniors s.roles s.declared role r)
-
--- where there is no static set no role is in one
-pub none_constrained : (s : State) → length s.static_sets ≡ 0 → (role r : Name) → is_constrained_junior s role r ≡ false
-none_constrained s none role r = ap (λ (sets : List (Name × RoleSet)). inherits_in s role r && is_constrained r sets) (nil_from_length s.static_sets none) ∙ go (inherits_in s role r)
-  where
-    go : (b : Bool) → (b && false) ≡ false
-    go true = refl
-    go false = refl
 
 -- ---- The loop that gathers the names that pass a test
 

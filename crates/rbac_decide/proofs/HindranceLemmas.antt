@@ -1,5 +1,5 @@
 -- What stands in the way of a command, and what denies it.
-use Rattle.std.proofs.Common.{ℕ, ◌≡◌, Bool, true, false, not, cond, List, [], ◌∷◌, ◌&&◌, Option, Some, None, Result, Ok, Err, IfOk, refl, ap, ◌∙◌}
+use Rattle.std.proofs.Common.{ℕ, ◌≡◌, Bool, true, false, not, cond, List, [], ◌∷◌, ◌&&◌, Option, Some, None, Result, Ok, Err, refl, ap, ◌∙◌}
 use Rattle.std.specs.List.{list_all, find as first_where}
 use Rattle.std.specs.Option.{option_map}
 use Rattle.rbac_terms.specs.Name.{Name}
@@ -81,7 +81,3 @@ addition_names Dynamic set role s = refl
 pub cardinality_names : (kind : Separation) (set : Name) (n : ℕ) (s : State) → named (SetCardinality kind set n) s (violation kind) ≡ breach_of kind (change (SetCardinality kind set n) s)
 cardinality_names Static set n s = refl
 cardinality_names Dynamic set n s = refl
-
-pub if_both : {X E : Type 0} {P P' Q : X → Type 0} (r : Result X E) → ((x : X) → P x → P' x → Q x) → IfOk r P → IfOk r P' → IfOk r Q
-if_both (Ok x) f h h' = f x h h'
-if_both (Err e) f h h' = tt

@@ -6,9 +6,10 @@ pub mod CountingLemmas
 pub mod CountingSteps
 pub mod EndingLemmas
 pub mod FreshLemmas
+pub mod GainLemmas
+pub mod GainSteps
 pub mod HindranceLemmas
 pub mod PlanningLemmas
 pub mod SeparationLemmas
 pub mod TablesLemmas
-pub mod ToldLemmas
 pub mod TouchedLemmas

@@ -1,5 +1,5 @@
 -- What separation of duty asks of the state after a change, asked of the state before it.
-use Rattle.std.proofs.Common.{List, [], ◌∷◌, Bool, true, false, not, cond, ◌||◌, ◌&&◌, ◌≡◌, Option, Some, None, is_some, Result, Ok, Err, IfOk, refl, sym, ap, ◌∙◌, subst, ⊎_elim}
+use Rattle.std.proofs.Common.{List, [], ◌∷◌, Bool, true, false, not, cond, ◌||◌, ◌&&◌, ◌≡◌, Option, Some, None, is_some, refl, sym, ap, ◌∙◌, subst, ⊎_elim}
 use Rattle.std.proofs.lemmas.Bool.{or_cases, or_left, or_right, and_parts, and_from, false≢true}
 use Rattle.std.specs.declared.cmp.Ordering.{Ordering}
 use Rattle.std.specs.declared.cmp.Ordering.TheVariants.{Less, Equal, Greater}
@@ -43,11 +43,6 @@ over_tells roles (e ∷ es) = go (is_broken roles e.1) (over_tells roles es)
     go : (b : Bool) → is_some (first_broken roles es) ≡ list_any (λ x. is_broken roles x.1) es → is_some (cond b (Some e.0) (first_broken roles es)) ≡ (b || list_any (λ x. is_broken roles x.1) es)
     go true rest = refl
     go false rest = rest
-
--- what a test of a result says, it says of an equal
-pub if_same : {A E X : Type 0} (r : Result A E) (x y : X) (f : A → X) → y ≡ x → IfOk r (λ a. f a ≡ x) → IfOk r (λ a. f a ≡ y)
-if_same (Ok a) x y f e h = h ∙ sym e
-if_same (Err b) x y f e h = tt
 
 -- ---- One entry of a map
 
@@ -142,12 +137,6 @@ module _ (kind : Separation) (set : Name) (f : RoleSet → RoleSet) (s : State) 
   found : find name_cmp set (sets_of kind s) ≡ Some old
   unfolding old
   found = there.1
-
-  pub updated_violated : is_violated kind (with_sets kind (updated name_cmp set f (sets_of kind s)) s) ≡ found_and (λ x. breaks_set kind s (f x)) (find name_cmp set (sets_of kind s))
-  updated_violated =
-      ap (λ sets. is_violated kind (with_sets kind sets s)) (put_found name_cmp set f (sets_of kind s) old found)
-      ∙ put_violated kind set (f old) s h
-      ∙ sym (ap (found_and (λ x. breaks_set kind s (f x))) found)
 
   pub updated_sized : is_badly_sized kind (with_sets kind (updated name_cmp set f (sets_of kind s)) s) ≡ not (found_and (λ x. is_well_sized (f x)) (find name_cmp set (sets_of kind s)))
   updated_sized =

@@ -1,8 +1,7 @@
 -- Sets that have one of some roles, each with such roles alone: what is told of roles among those is told by them.
-use Rattle.std.proofs.Common.{ℕ, ◌+◌, ◌<◌, List, [], ◌∷◌, ◌++◌, length, get_or, drop, append_assoc, map, filter, count_by, nat_le, Bool, true, false, cond, ◌||◌, ◌&&◌, ◌≡◌, Some, refl, sym, ap, ◌∙◌, arith}
+use Rattle.std.proofs.Common.{ℕ, ◌+◌, ◌<◌, List, [], ◌∷◌, ◌++◌, length, get_or, drop, append_assoc, map, filter, Bool, true, false, cond, ◌||◌, ◌&&◌, ◌≡◌, Some, refl, sym, ap, ◌∙◌}
 use Rattle.std.proofs.lemmas.Bool.{or_left, or_right, false≢true}
 use Rattle.std.proofs.lemmas.List.Kept.{IsStrictlySortedBy-filter}
-use Rattle.std.proofs.lemmas.List.Sums.{sum_by-cons}
 use Rattle.std.specs.List.{list_any, AllByRecursion as Each}
 use Rattle.std.specs.List.Sorted.{IsStrictlySortedBy}
 use Rattle.sorted_keys.specs.Keys.{has}
@@ -13,36 +12,13 @@ use Rattle.sorted_keys.proofs.Ties.{one_key, ties_itself, ties_flip}
 use Rattle.rbac_terms.specs.Name.{Name, name_cmp}
 use Rattle.rbac_terms.specs.Separation.{RoleSet, is_constrained}
 use Rattle.rbac_terms.proofs.NameLemmas.{names_total, names_exact}
-use Rattle.rbac_separation.specs.Counts.{is_over}
-use Rattle.rbac_decide.specs.Counting.{touches, cut_to, touched_sets, gains}
+use Rattle.rbac_decide.specs.Counting.{touches, cut_to, touched_sets}
 use Rattle.rbac_decide.proofs.CountingLemmas.{dropped}
 use Rattle.rbac_decide.proofs.FreshLemmas.{both_swapped, each_constrained}
-use Rattle.rbac_decide.proofs.ToldLemmas.{given, has_some, neither}
 
 -- ---- Roles that pass a test, among those that pass another
 
 module _ (test p : Name → Bool) (inside : (r : Name) → test r ≡ true → p r ≡ true) where
-  any_cut : (roles : List Name) → list_any test (filter p roles) ≡ list_any test roles
-  any_cut [] = refl
-  any_cut (x ∷ xs) = go (p x) (test x) refl refl (any_cut xs)
-    where
-      go : (b t : Bool) → p x ≡ b → test x ≡ t → list_any test (filter p xs) ≡ list_any test xs → list_any test (cond b (x ∷ filter p xs) (filter p xs)) ≡ (t || list_any test xs)
-      go true t is passes rest = λ i. passes i || rest i
-      go false true is passes rest = absurd (false≢true (sym is ∙ inside x passes))
-      go false false is passes rest = rest
-
-  count_cut : (roles : List Name) → count_by test (filter p roles) ≡ count_by test roles
-  count_cut [] = refl
-  count_cut (x ∷ xs) = go (p x) (test x) refl refl (count_cut xs) ∙ sym (sum_by-cons (λ y. cond (test y) 1 0) x xs)
-    where
-      no_more : (n : ℕ) → n ≡ 0 + n
-      no_more n = omega arith
-
-      go : (b t : Bool) → p x ≡ b → test x ≡ t → count_by test (filter p xs) ≡ count_by test xs → count_by test (cond b (x ∷ filter p xs) (filter p xs)) ≡ cond {A = ℕ} t 1 0 + count_by test xs
-      go true t is passes rest = sum_by-cons (λ y. cond (test y) 1 0) x (filter p xs) ∙ (λ i. cond {A = ℕ} (passes i) 1 0 + rest i)
-      go false true is passes rest = absurd (false≢true (sym is ∙ inside x passes))
-      go false false is passes rest = rest ∙ no_more (count_by test xs)
-
   none_among : (roles : List Name) → list_any p roles ≡ false → list_any test roles ≡ false
   none_among [] none = refl
   none_among (x ∷ xs) none = go (test x) (p x) refl refl none (none_among xs)
@@ -154,59 +130,6 @@ module _ (below : List Name) where
       (Each-weaker (λ (e : Name × RoleSet). (r : Name) → has name_cmp r e.1.roles ≡ true → is_constrained r sets ≡ true) (λ (e : Name × RoleSet). (r : Name) → has name_cmp r e.1.roles ≡ true → has name_cmp r below ≡ has name_cmp r constrained) sets
       (λ e constrained_by r m. sym (are r ∙ ap (λ b. b && has name_cmp r below) (constrained_by r m)))
       (each_constrained sets sets (λ r m. m)))
-
-  module _ (test : Name → Bool) (inside : (r : Name) → test r ≡ true → has name_cmp r below ≡ true) (numbers : Name → ℕ) (user : Name) where
-    -- what is told of the sets is told of those alone
-    pub same_gains : (sets : List (Name × RoleSet)) → gains numbers test user (touched_sets below sets) ≡ gains numbers test user sets
-    same_gains [] = refl
-    same_gains (e ∷ es) = go (is_touched e) refl (same_gains es)
-      where
-        few : List (Name × RoleSet)
-        few = filter (has_some numbers test user) (touched_sets below es)
-
-        rest : List (Name × RoleSet)
-        rest = filter (has_some numbers test user) es
-
-        two : (s : Bool) → map (given numbers test user) few ≡ map (given numbers test user) rest
-            → map (given numbers test user) (cond s (cut e ∷ few) few) ≡ map (given numbers test user) (cond s (e ∷ rest) rest)
-        two true later = λ i. record { set = e.0; user = user; number = numbers e.0 + count_cut test (λ r. has name_cmp r below) inside e.1.roles i } ∷ later i
-        two false later = later
-
-        go : (b : Bool) → is_touched e ≡ b → gains numbers test user (touched_sets below es) ≡ gains numbers test user es
-            → gains numbers test user (map cut (cond b (e ∷ filter is_touched es) (filter is_touched es))) ≡ gains numbers test user (e ∷ es)
-        go true is later =
-            ap (λ s. map (given numbers test user) (cond s (cut e ∷ few) few)) (any_cut test (λ r. has name_cmp r below) inside e.1.roles)
-            ∙ two (has_some numbers test user e) later
-        go false is later =
-            later ∙ sym (ap (λ s. map (given numbers test user) (cond s (e ∷ rest) rest)) (none_among test (λ r. has name_cmp r below) inside e.1.roles is))
-
-  module _ (fresh : List Name) (inside : (r : Name) → has name_cmp r fresh ≡ true → has name_cmp r below ≡ true) (numbers : Name → ℕ) where
-    abbrev over : Name × RoleSet → Bool
-    over e = is_over (numbers e.0) fresh e.1
-
-    same_over : (e : Name × RoleSet) → over (cut e) ≡ over e
-    same_over e = λ i. nat_le e.1.cardinality (numbers e.0 + count_cut (λ r. has name_cmp r fresh) (λ r. has name_cmp r below) inside e.1.roles i)
-
-    -- a set with a fresh role that is over is one of those
-    pub any_over : (sets : List (Name × RoleSet)) → list_any (λ e. touches fresh (Some e.1) && over e) (touched_sets below sets) ≡ list_any (λ e. touches fresh (Some e.1) && over e) sets
-    any_over [] = refl
-    any_over (e ∷ es) = go (is_touched e) refl (any_over es)
-      where
-        go : (b : Bool) → is_touched e ≡ b → list_any (λ e. touches fresh (Some e.1) && over e) (touched_sets below es) ≡ list_any (λ e. touches fresh (Some e.1) && over e) es
-            → list_any (λ e. touches fresh (Some e.1) && over e) (map cut (cond b (e ∷ filter is_touched es) (filter is_touched es))) ≡ list_any (λ e. touches fresh (Some e.1) && over e) (e ∷ es)
-        go true is later = λ i. (any_cut (λ r. has name_cmp r fresh) (λ r. has name_cmp r below) inside e.1.roles i && same_over e i) || later i
-        go false is later =
-            later ∙ sym (ap (λ b. (b && over e) || list_any (λ e. touches fresh (Some e.1) && over e) es) (none_among (λ r. has name_cmp r fresh) (λ r. has name_cmp r below) inside e.1.roles is))
-
-    -- where none of the sets is over, none of those is
-    pub none_over_touched : (sets : List (Name × RoleSet)) → list_any over sets ≡ false → list_any over (touched_sets below sets) ≡ false
-    none_over_touched [] none = refl
-    none_over_touched (e ∷ es) none = go (is_touched e) (neither (over e) (list_any over es) none) (none_over_touched es)
-      where
-        go : (b : Bool) → (over e ≡ false) × (list_any over es ≡ false) → (list_any over es ≡ false → list_any over (touched_sets below es) ≡ false)
-            → list_any over (map cut (cond b (e ∷ filter is_touched es) (filter is_touched es))) ≡ false
-        go true both later = λ i. (same_over e ∙ both.0) i || later both.1 i
-        go false both later = later both.1
 
   -- ---- The loop that gathers them
 

@@ -1,10 +1,10 @@
 -- The counts that a policy keeps: for each static set and each user, of how many of its roles the user has the authorization.
-use Rattle.std.specs.Prelude.{ℕ, ◌+◌, List, [], ◌∷◌, map, Bool, true, false, not, ◌||◌, ◌&&◌, ◌≡◌, Option, Some, None, count_by}
+use Rattle.std.specs.Prelude.{ℕ, List, [], ◌∷◌, map, Bool, true, false, ◌&&◌, ◌≡◌, Option, Some, None, count_by}
 use Rattle.std.specs.FinMap.Entries.{find}
 use Rattle.std.specs.List.{list_any, filter}
 use Rattle.std.specs.Ordering.{eq_by_cmp}
 use Rattle.sorted_keys.specs.Keys.{has}
-use Rattle.rbac_terms.specs.Name.{Name, name_cmp, pair_cmp}
+use Rattle.rbac_terms.specs.Name.{Name, name_cmp}
 use Rattle.rbac_terms.specs.Vocabulary.{Vocabulary}
 use Rattle.rbac_terms.specs.Separation.{RoleSet, is_broken_by}
 use Rattle.rbac_terms.specs.State.{State}
@@ -17,10 +17,9 @@ use Rattle.rbac_terms.specs.declared.separation.Separation.{Separation}
 use Rattle.rbac_terms.specs.declared.separation.Separation.TheVariants.{Static, Dynamic}
 use Rattle.rbac_terms.specs.declared.command.Command.{Command}
 use Rattle.rbac_terms.specs.declared.command.Command.TheVariants.{DeleteUser, DeleteRole, AssignUser, DeassignUser, AddInheritance, DeleteInheritance, CreateSet, DeleteSet, AddRoleMember, DeleteRoleMember}
-use Rattle.rbac_separation.specs.Counts.{Counts, numbers_of, with_numbers, pairs_of, without_set, without_user}
-use Rattle.rbac_separation.specs.declared.count_plan.CountChange.{CountChange}
-use Rattle.rbac_decide.specs.declared.counting.PlannedCounts.{PlannedCounts}
-use Rattle.rbac_decide.specs.declared.counting.PlannedCounts.TheVariants.{Told, Recounted}
+use Rattle.rbac_separation.specs.Numbered.{names_of}
+use Rattle.rbac_separation.specs.declared.count_plan.CountPlan.{CountPlan}
+use Rattle.rbac_separation.specs.Counts.{Counts, CountChange, ArePlaced, numbers_of, with_numbers, without_set, without_user}
 use Rattle.rbac_decide.specs.declared.tables.Tables.{Tables}
 use Rattle.rbac_decide.specs.Tables.{state_of, state_of_roles}
 
@@ -119,35 +118,15 @@ gives_roles (AssignUser user role) = true
 gives_roles (AddInheritance ascendant descendant) = true
 gives_roles c = false
 
--- the user would break a static set with these roles besides
-abbrev pub breaks_besides : Tables → List Name → Name → Bool
-breaks_besides t below user = list_any (λ e. is_broken_by (λ r. has name_cmp r below || authorized_by t user r) e.1) t.static_sets.content
-
--- of those sets that have a role that passes a test, the user's numbers with all such roles besides
-abbrev pub gains : (Name → ℕ) → (Name → Bool) → Name → List (Name × RoleSet) → List CountChange
-gains numbers test user sets = map (λ e. record { set = e.0; user = user; number = numbers e.0 + count_by test e.1.roles }) (filter (λ e. list_any test e.1.roles) sets)
-
--- the user's counts of those static sets that have one of these roles for which it was not authorized
-abbrev pub gains_by : Tables → Counts → List Name → Name → List CountChange
-gains_by t counts below user = gains (λ set. numbers_of counts set user) (λ r. has name_cmp r below && not (authorized_by t user r)) user t.static_sets.content
-
 -- with these numbers the counts are those after the command
-abbrev pub TellsAfter : Command → List CountChange → Counts → Tables → Type 0
-TellsAfter c changes counts t = (v : Vocabulary) (set user : Name) → with_numbers changes (numbers_of counts) set user ≡ authorized_count (change c (state_of t v)) set user
+abbrev pub TellsAfter : Command → List CountChange → State → Type 0
+TellsAfter c changes s = (set user : Name) → with_numbers changes (authorized_count s) set user ≡ authorized_count (change c s) set user
 
--- the counts after the command are told, or it is told which it may change
-abbrev pub IsPlannedBy : PlannedCounts → Command → Counts → Tables → Type 0
-IsPlannedBy (Told changes) c counts t = TellsAfter c changes counts t
-IsPlannedBy (Recounted pairs) c counts t = (gives_roles c ≡ false) × ((set user : Name) → has pair_cmp (set, user) pairs ≡ may_change c t set user)
+-- whether a set and a user are of a plan
+abbrev pub affects : CountPlan → Name → Name → Bool
+affects plan set user = has name_cmp set (names_of plan.sets.items) && has name_cmp user (names_of plan.users.items)
 
--- the sets and users whose counts are planned
-abbrev pub counts_planned : PlannedCounts → List (Name × Name)
-counts_planned (Told changes) = pairs_of changes
-counts_planned (Recounted pairs) = pairs
-
--- the sets of a policy after a command, with the counts from before it and what was planned of them
-pub record IsPrepared (command : Command) (plan : PlannedCounts) (counts : Counts) (after : Tables) : Type 0 where
-  pub before : Tables
-  pub step : IsCommandStep command before after
-  pub counted : AreCountsBy before counts
-  pub planned : IsPlannedBy plan command counts before
+-- a plan has places for the counts of these sets and users
+pub record IsPlanOf (affected : Name → Name → Bool) (counts : Counts) (plan : CountPlan) : Type 0 where
+  pub names : (set user : Name) → affects plan set user ≡ affected set user
+  pub placed : ArePlaced plan.sets.items plan.users.items counts

@@ -1,22 +1,33 @@
--- What a decision gathers.
-use Rattle.std.specs.Prelude.{⊤, ◌≡◌}
-use Rattle.sorted_keys.specs.Keys.{has}
-use Rattle.rbac_terms.specs.Name.{Name, name_cmp}
+-- What a decision gathers, and what is planned of the counts.
+use Rattle.std.specs.Prelude.{⊤, ◌≡◌, Bool, true, false}
 use Rattle.rbac_terms.specs.State.{State}
+use Rattle.rbac_terms.specs.Name.{Name}
 use Rattle.rbac_terms.specs.declared.command.Command.{Command}
 use Rattle.rbac_terms.specs.declared.command.Command.TheVariants.{AssignUser, AddInheritance}
-use Rattle.rbac_decide.specs.Breaking.{is_constrained_junior}
-use Rattle.rbac_decide.specs.Counting.{touched_sets}
-use Rattle.rbac_decide.specs.declared.touched.Constrained.{Constrained}
+use Rattle.rbac_separation.specs.Numbered.{names_of}
+use Rattle.rbac_separation.specs.Counts.{Counts}
+use Rattle.rbac_separation.specs.declared.count_plan.CountPlan.{CountPlan}
+use Rattle.rbac_decide.specs.Counting.{TellsAfter, IsCommandStep, AreCountsBy, may_change, gives_roles, affects}
+use Rattle.rbac_decide.specs.Gains.{changes_gathered}
+use Rattle.rbac_decide.specs.Tables.{state_of}
+use Rattle.rbac_decide.specs.declared.tables.Tables.{Tables}
 use Rattle.rbac_decide.specs.declared.gathered.Ground.{Ground}
-
--- the roles of static sets that a role inherits, and the sets that have one of these, each with such roles alone
-pub record IsBelow (s : State) (role : Name) (below : Constrained) : Type 0 where
-  pub roles : (r : Name) → has name_cmp r below.roles ≡ is_constrained_junior s role r
-  pub sets : below.sets.items ≡ touched_sets below.roles s.static_sets
 
 -- what was gathered to decide a command
 abbrev pub IsGround : Command → State → Ground → Type 0
-IsGround (AssignUser user role) s gathered = IsBelow s role gathered.below
-IsGround (AddInheritance ascendant descendant) s gathered = IsBelow s descendant gathered.below
+IsGround (AssignUser user role) s gathered = TellsAfter (AssignUser user role) (changes_gathered gathered) s
+IsGround (AddInheritance ascendant descendant) s gathered = TellsAfter (AddInheritance ascendant descendant) (changes_gathered gathered) s
 IsGround c s gathered = ⊤
+
+-- the counts that were gathered are planned, or those that the command may change
+abbrev pub IsPlannedBy : Bool → Command → Ground → Tables → CountPlan → Type 0
+IsPlannedBy true c gathered t plan = (names_of plan.sets.items ≡ gathered.sets.items) × (names_of plan.users.items ≡ gathered.users.items)
+IsPlannedBy false c gathered t plan = (set user : Name) → affects plan set user ≡ may_change c t set user
+
+-- the sets of a policy after a command, with the counts from before it, what was gathered, and what was planned of them
+pub record IsPrepared (command : Command) (plan : CountPlan) (gathered : Ground) (counts : Counts) (after : Tables) : Type 0 where
+  pub before : Tables
+  pub step : IsCommandStep command before after
+  pub counted : AreCountsBy before counts
+  pub grounded : IsGround command (state_of before step.vocabulary) gathered
+  pub planned : IsPlannedBy (gives_roles command) command gathered before plan

@@ -1,5 +1,5 @@
 //! Who is authorized for a role, and which roles have a permission, by the sets of a policy.
-ghost use Rattle.std.specs.Prelude.{◌≡◌, ◌&&◌, ◌||◌, not, count_by, IfOk, OnOk};
+ghost use Rattle.std.specs.Prelude.{◌≡◌, ◌&&◌, ◌||◌, not, map, count_by, IfOk, OnOk};
 ghost use Rattle.sorted_keys.specs.Keys.{has};
 ghost use Rattle.rbac_terms.specs.Name.{Name as NameValue, name_cmp};
 ghost use Rattle.std.specs.List.{list_all, list_any, find as first_where};
@@ -126,37 +126,32 @@ pub(crate) fn first_unauthorized<'r>(
     first_not_inherited(hierarchy, sets.assignments_of(user), roles)
 }
 
-// The roles that the role of none of the assignments inherits.
-#[derive(Drop)]
-struct NewTo<'a> {
-    hierarchy: &'a Hierarchy,
-    assignments: &'a [(Name, Name)],
+// Of each of the roles whether the role of none of the assignments inherits it.
+fn not_inherited(
+    alloc: Global,
+    hierarchy: &Hierarchy,
+    assignments: &[(Name, Name)],
+    roles: &[Name],
+) -> Result<Vec<bool>, AllocError>
+    ensures { let h = hierarchy.now.content in IfOk result (λ fresh. fresh.items ≡ map (λ role. not (list_any (λ pair. inherits h.roles h.declared pair.1 role) assignments.now)) roles.now) }
+{
+    roles
+        .iter()
+        .map(|role| !some_inherits(hierarchy, assignments, role))
+        .collect(alloc)
 }
 
-impl KeyTest<Name> for NewTo<'_> {
-    ghost passes = { λ new role. not (list_any (λ pair. inherits new.hierarchy.now.content.roles new.hierarchy.now.content.declared pair.1 role) new.assignments.now) };
-
-    fn test(&self, role: &Name) -> bool {
-        !some_inherits(self.hierarchy, self.assignments, role)
-    }
-}
-
-/// Those of the roles that the user is not authorized for.
+/// Of each of the roles whether the user is not authorized for it. The user's assignments are found once.
 pub(crate) fn fresh_roles(
     alloc: Global,
     sets: &RoleSets,
     hierarchy: &Hierarchy,
     user: &Name,
-    roles: &NameSet,
-) -> Result<NameSet, AllocError>
-    ensures { let s = state_of_roles sets.now.content hierarchy.now.content in IfOk result (λ fresh. (r : NameValue) →
-        has name_cmp r fresh ≡ (has name_cmp r roles.now && not (is_authorized s user.now r))) }
+    roles: &[Name],
+) -> Result<Vec<bool>, AllocError>
+    ensures { let s = state_of_roles sets.now.content hierarchy.now.content in IfOk result (λ fresh. fresh.items ≡ map (λ role. not (is_authorized s user.now role)) roles.now) }
 {
-    let test = NewTo {
-        hierarchy,
-        assignments: sets.assignments_of(user),
-    };
-    names_where(alloc, roles, &test)
+    not_inherited(alloc, hierarchy, sets.assignments_of(user), roles)
 }
 
 // How many of the roles the role of one of the assignments inherits.

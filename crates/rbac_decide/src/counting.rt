@@ -1,34 +1,30 @@
 //! The counts that a policy keeps of its static sets, and what a command makes of them. Where users become authorized for more their
-//! new counts are planned before the change. Of the other commands names and room are planned, and the counts are taken after the
+//! new counts were gathered when it was decided. Of the other commands names and room are planned, and the counts are taken after the
 //! change, from sets that no longer change.
 ghost use Rattle.std.specs.Prelude.{◌≡◌, false, not, count_by, IfOk};
 ghost use Rattle.rbac_terms.specs.Separation.{is_broken_by};
-ghost use Rattle.rbac_separation.specs.Counts.{numbers_of, HasRoomFor};
-ghost use Rattle.rbac_decide.specs.Counting.{authorized_by, count_by_tables, breaks_some, AreCountsBy, IsPrepared, IsPlannedBy, counts_planned, without_static, remaining};
-ghost use Rattle.rbac_terms.specs.Vocabulary.{Vocabulary as VocabularyValue};
-ghost use Rattle.rbac_decide.specs.Ground.{IsGround};
-ghost use Rattle.rbac_decide.specs.Tables.{IsUndenied, state_of};
-ghost use Rattle.rbac_decide.specs.declared.counting.PlannedCounts.TheVariants.{Told, Recounted};
+ghost use Rattle.rbac_separation.specs.Counts.{numbers_of, ArePlaced};
+ghost use Rattle.rbac_decide.specs.Counting.{authorized_by, count_by_tables, breaks_some, gives_roles, AreCountsBy, without_static, remaining};
+ghost use Rattle.rbac_decide.specs.Ground.{IsPlannedBy, IsPrepared};
 
 mod affected;
-mod told;
 
 use crate::authorization::count_authorized;
-use crate::counting::affected::affected_pairs;
-use crate::counting::told::{told_of_assignment, told_of_inheritance};
+use crate::counting::affected::plan_affected;
 use crate::gathered::Ground;
 use crate::tables::Tables;
-use rbac_separation::{CountChange, CountPlan, Counts, Numbering, RecountPlan, RoleSet};
+use rbac_separation::{CountPlan, Counts, Numbering, RoleSet};
 use rbac_terms::{Command, Name, Separation};
 use std::alloc::{AllocError, Global};
 
-/// What is planned of the counts.
-#[derive(Drop)]
-pub(crate) enum PlannedCounts {
-    /// The counts that change, as they are after it.
-    Told { counts: CountPlan },
-    /// The sets and users whose counts may change, numbered, with room for their counts.
-    Recounted { pairs: RecountPlan },
+// Whether users become authorized for more roles by the command, and for none less.
+fn gives_roles(command: &Command) -> bool
+    ensures { result ≡ gives_roles command.now }
+{
+    matches!(
+        command,
+        Command::AssignUser { .. } | Command::AddInheritance { .. }
+    )
 }
 
 // For how many roles of a set the user is authorized: fewer than its number, so that the count fits.
@@ -88,33 +84,8 @@ fn forget(command: &Command, counts: &mut Counts)
     }
 }
 
-// Plans counts that were told.
-fn plan_told(counts: &mut Counts, told: Vec<CountChange>) -> Result<PlannedCounts, AllocError>
-    ensures numbers { numbers_of counts.new ≡ numbers_of counts.old }
-    ensures planned { IfOk result (λ plan. plan ≡ Told told.items) }
-    ensures room { IfOk result (λ plan. HasRoomFor (counts_planned plan) counts.new) }
-{
-    Ok(PlannedCounts::Told {
-        counts: counts.plan(told)?,
-    })
-}
-
-// Plans counts that are taken after the change.
-fn plan_recounted(
-    counts: &mut Counts,
-    pairs: Vec<(Name, Name)>,
-) -> Result<PlannedCounts, AllocError>
-    ensures numbers { numbers_of counts.new ≡ numbers_of counts.old }
-    ensures planned { IfOk result (λ plan. plan ≡ Recounted pairs.items) }
-    ensures room { IfOk result (λ plan. HasRoomFor (counts_planned plan) counts.new) }
-{
-    Ok(PlannedCounts::Recounted {
-        pairs: counts.plan_recount(pairs)?,
-    })
-}
-
 /// Plans what a command that is not denied makes of the counts. The counts stay as they are, also where memory ends. Of a command
-/// that never changes a count an empty list is planned, which takes no memory.
+/// that never changes a count nothing is planned, which takes no memory.
 ///
 /// # Errors
 /// `AllocError` where there is no memory for it.
@@ -124,53 +95,33 @@ pub(crate) fn plan_counts(
     command: &Command,
     gathered: &Ground,
     counts: &mut Counts,
-) -> Result<PlannedCounts, AllocError>
-    requires grounded { (v : VocabularyValue) × IsGround command.now (state_of tables.now v) gathered.now }
-    requires counted { AreCountsBy tables.now counts.old }
-    requires undenied { IsUndenied command.now tables.now }
+) -> Result<CountPlan, AllocError>
     ensures numbers { numbers_of counts.new ≡ numbers_of counts.old }
-    ensures planned { IfOk result (λ plan. IsPlannedBy plan command.now counts.new tables.now) }
-    ensures room { IfOk result (λ plan. HasRoomFor (counts_planned plan) counts.new) }
+    ensures planned { IfOk result (IsPlannedBy (gives_roles command.now) command.now gathered.now tables.now) }
+    ensures placed { IfOk result (λ plan. ArePlaced plan.sets.items plan.users.items counts.new) }
 {
-    match command {
-        Command::AssignUser { user, role } => {
-            let told = told_of_assignment(alloc, tables, counts, user, role, &gathered.below)?;
-            plan_told(counts, told)
-        }
-        Command::AddInheritance {
-            ascendant,
-            descendant,
-        } => {
-            let told = told_of_inheritance(
-                alloc,
-                tables,
-                counts,
-                ascendant,
-                descendant,
-                &gathered.below,
-            )?;
-            plan_told(counts, told)
-        }
-        _ => plan_recounted(counts, affected_pairs(alloc, tables, command)?),
+    if gives_roles(command) {
+        return counts.plan(alloc, &gathered.sets, &gathered.users);
     }
+    plan_affected(alloc, tables, command, counts)
 }
 
 /// Makes the counts right again after a command, by their plan. Takes no memory.
 pub(crate) fn commit_counts(
     tables: &Tables,
     command: &Command,
-    plan: PlannedCounts,
+    plan: CountPlan,
+    gathered: &Ground,
     counts: &mut Counts,
 )
-    requires prepared { IsPrepared command.now plan counts.old tables.now }
-    requires room { HasRoomFor (counts_planned plan) counts.old }
+    requires prepared { IsPrepared command.now plan gathered.now counts.old tables.now }
+    requires placed { ArePlaced plan.sets.items plan.users.items counts.old }
     ensures { AreCountsBy tables.now counts.new }
 {
-    match plan {
-        PlannedCounts::Told { counts: told } => counts.commit(told),
-        PlannedCounts::Recounted { pairs } => {
-            counts.recount(pairs, &AuthorizedCounts { tables });
-            forget(command, counts);
-        }
+    if gives_roles(command) {
+        counts.commit(plan, &gathered.rows);
+        return;
     }
+    counts.renumber(plan, &AuthorizedCounts { tables });
+    forget(command, counts);
 }

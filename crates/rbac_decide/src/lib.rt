@@ -6,6 +6,7 @@ mod both;
 mod breaking;
 mod counting;
 mod ending;
+mod gains;
 mod gathered;
 mod hindrance;
 mod named;

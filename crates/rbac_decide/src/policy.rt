@@ -14,7 +14,6 @@ mod access;
 mod breach;
 mod broken_sets;
 mod deciding;
-mod fresh_roles;
 mod lists;
 mod review;
 mod separation;
@@ -85,7 +84,7 @@ impl Policy {
         let counts = plan_counts(alloc, &self.tables, command, &gathered, &mut self.counts)?;
         let tables = self.tables.plan(alloc, command)?;
         self.tables.commit(command, tables);
-        commit_counts(&self.tables, command, counts, &mut self.counts);
+        commit_counts(&self.tables, command, counts, &gathered, &mut self.counts);
         Ok(Answer::Done)
     }
 

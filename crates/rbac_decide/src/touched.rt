@@ -16,11 +16,32 @@ use rbac_separation::RoleSet;
 use rbac_terms::{Name, NameSet};
 use std::alloc::{AllocError, Global};
 
+// So many names are compared one by one sooner than they are searched.
+const FEW_NAMES: usize = 8;
+
+// Whether the name is one of these.
+fn is_one_of(name: &Name, names: &[Name]) -> bool
+    ensures { result ≡ has name_cmp name.now names.now }
+{
+    names.iter().any(|other| name.cmp(other).is_eq())
+}
+
+// Whether the name is in the set.
+fn is_among(name: &Name, set: &NameSet) -> bool
+    ensures { result ≡ has name_cmp name.now set.now }
+{
+    if set.len() <= FEW_NAMES {
+        is_one_of(name, set.names())
+    } else {
+        set.contains(name)
+    }
+}
+
 // Whether one of the names is in the set.
 fn some_among(names: &[Name], set: &NameSet) -> bool
     ensures { result ≡ list_any (λ r. has name_cmp r set.now) names.now }
 {
-    names.iter().any(|name| set.contains(name))
+    names.iter().any(|name| is_among(name, set))
 }
 
 // Whether one of the names is among the others: each of the fewer is looked for.

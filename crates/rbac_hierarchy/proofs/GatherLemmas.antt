@@ -1,5 +1,6 @@
 -- Names that are gathered in a loop over numbered roles.
-use Rattle.std.proofs.Common.{ℕ, ◌≡◌, ◌<◌, ◌≤◌, ◌+◌, Bool, true, false, ◌||◌, ◌&&◌, List, [], ◌∷◌, length, take, refl, sym, ap, ◌∙◌}
+use Rattle.std.proofs.Common.{ℕ, zero, suc, ◌≡◌, ◌<◌, ◌≤◌, ◌+◌, Bool, true, false, ◌||◌, ◌&&◌, List, [], ◌∷◌, length, take, refl, sym, ap, ◌∙◌, ⊎_elim, arith}
+use Rattle.std.proofs.lemmas.Bool.{cases_lt}
 use Rattle.std.specs.Ordering.{eq_by_cmp}
 use Rattle.std.proofs.lemmas.List.{take_more, take_all}
 use Rattle.sorted_keys.specs.Keys.{has, with_key}
@@ -57,6 +58,24 @@ module _ (names roles : List Name) (p : Name → Bool) (at : ℕ) (lt : at < len
           nothing : (t : Bool) → t ≡ (t || false)
           nothing true = refl
           nothing false = refl
+
+-- so many roles from one on of which none passes
+pub gather_failed_all : (names roles : List Name) (p : Name → Bool) (at k : ℕ) → ((i : ℕ) → at ≤ i → i < at + k → i < length roles → p (role_at roles i) ≡ false)
+    → (more : List Name) (r : Name) → has name_cmp r more ≡ (has name_cmp r names || (p r && has name_cmp r (take at roles)))
+    → has name_cmp r more ≡ (has name_cmp r names || (p r && has name_cmp r (take (at + k) roles)))
+gather_failed_all names roles p at zero fail more r so_far =
+    let same : at ≡ at + 0 = omega arith in
+    so_far ∙ ap (λ (n : ℕ). has name_cmp r names || (p r && has name_cmp r (take n roles))) same
+gather_failed_all names roles p at (suc k) fail more r so_far =
+    let before : has name_cmp r more ≡ (has name_cmp r names || (p r && has name_cmp r (take (at + k) roles)))
+    = gather_failed_all names roles p at k (λ i from below lt. fail i from (omega (arith, below)) lt) more r so_far in
+    let one : at + k + 1 ≡ at + suc k = omega arith in
+    ⊎_elim
+    (λ (lt : at + k < length roles).
+    gather_failed names roles p (at + k) lt (fail (at + k) (omega arith) (omega arith) lt) more r before
+    ∙ ap (λ (n : ℕ). has name_cmp r names || (p r && has name_cmp r (take n roles))) one)
+    (λ (past : length roles ≤ at + k). before ∙ ap (λ (l : List Name). has name_cmp r names || (p r && has name_cmp r l)) (take_all (at + k) roles past ∙ sym (take_all (at + suc k) roles (omega (arith, past)))))
+    (cases_lt (at + k) (length roles))
 
 pub gathered : (roles : List Name) (at : ℕ) (r : Name) → length roles ≤ at → has name_cmp r (take at roles) ≡ has name_cmp r roles
 gathered roles at r past = ap (has name_cmp r) (take_all at roles past)

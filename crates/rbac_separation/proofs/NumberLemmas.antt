@@ -1,6 +1,8 @@
 -- Numbers that names have, and what a name more or less makes of what is kept by them.
-use Rattle.std.proofs.Common.{ℕ, List, ◌≢◌, ◌≡◌, ◌==◌, inl, inr, Bool, true, false, cond, Option, Some, None, is_some, refl, sym, ap, ◌∙◌, true≢false}
-use Rattle.std.proofs.lemmas.Bool.{eq-eqb, cases_eq}
+use Rattle.std.proofs.Common.{ℕ, ◌<◌, ◌≤◌, List, [], ◌∷◌, ◌++◌, length, length-append, get_or, All, ◌≢◌, ◌≡◌, ◌==◌, inl, inr, Bool, true, false, cond, Option, Some, None, is_some, refl, sym, ap, subst, ⊎_elim, ◌∙◌, true≢false, arith}
+use Rattle.std.proofs.lemmas.Bool.{eq-eqb, cases_eq, cases_lt}
+use Rattle.std.proofs.lemmas.List.{get_or_append_left}
+use Rattle.std.proofs.Math.Seq.{get_or-append_seam}
 use Rattle.std.proofs.lemmas.Bool.Decides.{eqb_tells}
 use Rattle.std.specs.Option.{unwrap_or}
 use Rattle.std.specs.Ordering.{eq_by_cmp}
@@ -8,7 +10,7 @@ use Rattle.std.specs.FinMap.Entries.{find, put, find-put}
 use Rattle.slab.specs.Slab.{Slab, get}
 use Rattle.sorted_keys.specs.Keys.{without_key}
 use Rattle.sorted_keys.proofs.Lookups.{find-without_key}
-use Rattle.sorted_keys.proofs.Ties.{one_key, ties_itself}
+use Rattle.sorted_keys.proofs.Ties.{one_key, ties_itself, ties_flip}
 use Rattle.rbac_terms.specs.Name.{Name, name_cmp}
 use Rattle.rbac_terms.proofs.NameLemmas.{names_total, names_exact}
 use Rattle.rbac_separation.specs.Numbered.{IsNumbered, IsMore}
@@ -39,13 +41,31 @@ pub record IsAdded (before after : Name → Option ℕ) (name : Name) (i : ℕ) 
 abbrev pub IsFree : (Name → Option ℕ) → ℕ → Type 0
 IsFree numbers i = (x : Name) → numbers x ≡ Some i → ⊥
 
--- a name that has a number, and keeps it
-pub still_numbered : (es fs : List (Name × ℕ)) (name : Name) → IsMore es fs → is_some (find name_cmp name es) ≡ true → is_some (find name_cmp name fs) ≡ true
-still_numbered es fs name more is = go (find name_cmp name es) refl
+-- names that have their numbers, and names more, and more
+pub more_self : (es : List (Name × ℕ)) → IsMore es es
+more_self es = record {
+  kept = λ x n is. is;
+  fresh = λ x n none is other at. None-not (sym none ∙ is);
+}
+
+pub more_both : (es fs gs : List (Name × ℕ)) → IsMore es fs → IsMore fs gs → IsMore es gs
+more_both es fs gs first second = record {
+  kept = λ x n is. second.kept x n (first.kept x n is);
+  fresh = λ x n none is other at. go x n none is other at (find name_cmp x fs) refl;
+}
   where
-    go : (o : Option ℕ) → find name_cmp name es ≡ o → is_some (find name_cmp name fs) ≡ true
-    go (Some n) e = ap is_some (more.kept name n e)
-    go None e = absurd (true≢false (sym is ∙ ap is_some e))
+    go : (x : Name) (n : ℕ) → find name_cmp x es ≡ None → find name_cmp x gs ≡ Some n → (other : Name) → find name_cmp other es ≡ Some n → (o : Option ℕ) → find name_cmp x fs ≡ o → ⊥
+    go x n none is other at (Some m) e = first.fresh x n none (e ∙ sym (second.kept x m e) ∙ is) other at
+    go x n none is other at None e = second.fresh x n e is other (first.kept other n at)
+
+-- what holds of each still does, and of one more
+pub all_more : {X : Type 0} (P Q : X → Type 0) → ((x : X) → P x → Q x) → (xs : List X) (x : X) → All P xs → Q x → All Q (xs ++ x ∷ [])
+all_more P Q still xs x all here k d lt = ⊎_elim
+    (λ (before : k < length xs). subst Q (sym (get_or_append_left xs (x ∷ []) d k before)) (still _ (all k d before)))
+    (λ (past : length xs ≤ k).
+    let last : k ≡ length xs = omega (arith, length-append xs (x ∷ []), lt, past) in
+    subst Q (sym (ap (λ i. get_or (xs ++ x ∷ []) i d) last ∙ get_or-append_seam xs x [] d)) here)
+    (cases_lt k (length xs))
 
 -- what is read by numbers stays where names get numbers at which nothing is read
 pub more_same : (es fs : List (Name × ℕ)) → IsMore es fs → (read : Option ℕ → ℕ) → read None ≡ 0 → ((n : ℕ) → IsFree (λ x. find name_cmp x es) n → read (Some n) ≡ 0)
@@ -102,13 +122,8 @@ module _ (before after : Name → Option ℕ) (name : Name) (i : ℕ) (found : b
       → (x : Name) → left (after x) ≡ cond (eq_by_cmp name_cmp name x) 0 (read (before x))
   gone_read read left none nothing same x =
       ap left (gone x) ∙ go (eq_by_cmp name_cmp x name) refl
-      ∙ ap (λ b. cond b 0 (read (before x))) (flip (eq_by_cmp name_cmp x name) (eq_by_cmp name_cmp name x) refl refl)
+      ∙ ap (λ b. cond b 0 (read (before x))) (ties_flip names_total names_exact x name)
     where
-      flip : (b c : Bool) → eq_by_cmp name_cmp x name ≡ b → eq_by_cmp name_cmp name x ≡ c → eq_by_cmp name_cmp x name ≡ eq_by_cmp name_cmp name x
-      flip true c e f = e ∙ sym (ap (λ y. eq_by_cmp name_cmp name y) (one_key names_exact x name e) ∙ ties_itself names_total name)
-      flip false true e f = absurd (true≢false (sym (ap (λ y. eq_by_cmp name_cmp x y) (one_key names_exact name x f) ∙ ties_itself names_total x) ∙ e))
-      flip false false e f = e ∙ sym f
-
       apart : (k : ℕ) (c : Bool) → before x ≡ Some k → eq_by_cmp name_cmp x name ≡ false → i == k ≡ c → c ≡ false
       apart k true is e one = absurd (true≢false (sym (own x name i (is ∙ ap (λ n. Some n) (sym (one_number i k one))) found) ∙ e))
       apart k false is e one = refl
@@ -159,9 +174,9 @@ module _ {X : Type 0} (es fs : List (Name × ℕ)) (old new : Slab X) (name : Na
           true≢false (sym (numbered.taken other i (at ∙ ap (λ k. Some k) here)) ∙ ap is_some vacant)
       more x n free is false e other at = None-not (sym free ∙ sym (ap (λ b. cond b (Some i) (find name_cmp x es)) e) ∙ sym (added.numbers x) ∙ is)
 
-  -- and has a number
-  pub fresh_found : find name_cmp name es ≡ None → get old i ≡ None → fs ≡ put name_cmp name i es → is_some (find name_cmp name fs) ≡ true
-  fresh_found none vacant made = ap is_some ((fresh_added none vacant made).numbers name ∙ ap (λ b. cond b (Some i) (find name_cmp name es)) (ties_itself names_total name))
+  -- and has that number
+  pub fresh_found : find name_cmp name es ≡ None → get old i ≡ None → fs ≡ put name_cmp name i es → find name_cmp name fs ≡ Some i
+  fresh_found none vacant made = (fresh_added none vacant made).numbers name ∙ ap (λ b. cond b (Some i) (find name_cmp name es)) (ties_itself names_total name)
 
   -- and all names have numbers of their own
   pub fresh_numbered : find name_cmp name es ≡ None → get old i ≡ None → fs ≡ put name_cmp name i es → is_some (get new i) ≡ true → ((k : ℕ) → k ≢ i → get new k ≡ get old k) → IsNumbered fs new

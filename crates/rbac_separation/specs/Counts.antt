@@ -1,59 +1,43 @@
 -- Numbers kept of sets of roles and users, and what they say of a set.
-use Rattle.std.specs.Prelude.{ℕ, ◌≡◌, ◌≤◌, ◌+◌, List, [], ◌∷◌, length, map, Bool, true, ◌&&◌, ◌==◌, Option, Some, None, is_some, if◌then◌else◌, nat_le, count_by}
-use Rattle.std.specs.List.{list_all}
+use Rattle.std.specs.Prelude.{ℕ, ◌≡◌, ◌<◌, ◌+◌, List, [], ◌∷◌, All, length, map, flat_map, get_or, Bool, ◌&&◌, Option, Some, None, if◌then◌else◌, nat_le, count_by}
+use Rattle.std.specs.List.{zip}
 use Rattle.std.specs.Ordering.{eq_by_cmp}
-use Rattle.std.specs.Option.{unwrap_or}
-use Rattle.std.specs.Map.{lookup}
 use Rattle.std.specs.FinMap.Entries.{find}
 use Rattle.sorted_keys.specs.Keys.{has}
 use Rattle.rbac_terms.specs.Name.{Name, name_cmp}
 use Rattle.rbac_terms.specs.Separation.{RoleSet}
-use Rattle.rbac_separation.specs.declared.count_plan.CountChange.{CountChange}
 
--- the numbers by which sets and users are known, and the counts by these
-pub record Kept : Type 0 where
+-- the place of each set in a row, that of each user among the rows, and the rows of numbers
+pub record Counts : Type 0 where
   pub sets : List (Name × ℕ)
   pub users : List (Name × ℕ)
-  pub numbers : List ((ℕ × ℕ) × ℕ)
+  pub rows : List (List ℕ)
 
--- what is kept of sets and users, and room for so many more counts
-pub record Counts : Type 0 where
-  pub content : Kept
-  pub room : ℕ
+-- the number at a place of a row, 0 past the end of the row and past the last row
+abbrev pub number_in : List (List ℕ) → ℕ → ℕ → ℕ
+number_in rows i j = get_or (get_or rows j []) i 0
 
--- whether two places are one
-abbrev pub pair_eq : ℕ × ℕ → ℕ × ℕ → Bool
-pair_eq x y = x.0 == y.0 && x.1 == y.1
-
--- the place of a set and a user that may have numbers
-abbrev pub place_of : Option ℕ → Option ℕ → Option (ℕ × ℕ)
-place_of None b = None
-place_of (Some i) None = None
-place_of (Some i) (Some j) = Some (i, j)
-
--- what stands at a place, 0 where there is none or nothing
-abbrev pub number_at : Option (ℕ × ℕ) → (ℕ × ℕ → Option ℕ) → ℕ
-number_at None found = 0
-number_at (Some p) found = unwrap_or (found p) 0
+-- what is found at two places that may be none, and 0 where one is none
+abbrev pub found_at : Option ℕ → Option ℕ → (ℕ → ℕ → ℕ) → ℕ
+found_at None b found = 0
+found_at (Some i) None found = 0
+found_at (Some i) (Some j) found = found i j
 
 -- the number of a set and a user, 0 where there is none
 abbrev pub numbers_of : Counts → Name → Name → ℕ
-numbers_of counts set user =
-    number_at (place_of (find name_cmp set counts.content.sets) (find name_cmp user counts.content.users)) (λ p. lookup (pair_eq p) counts.content.numbers)
+numbers_of counts set user = found_at (find name_cmp set counts.sets) (find name_cmp user counts.users) (number_in counts.rows)
 
--- whether the names of a set and a user are numbered
-abbrev pub is_numbered : Counts → Name × Name → Bool
-is_numbered counts pair = is_some (find name_cmp pair.0 counts.content.sets) && is_some (find name_cmp pair.1 counts.content.users)
+-- the number in a row at a place that may be none, and 0 where it is none
+abbrev pub at_place : List ℕ → Option ℕ → ℕ
+at_place row None = 0
+at_place row (Some i) = get_or row i 0
 
--- all these names are numbered, and there is room for a count of each pair
-pub record HasRoomFor (pairs : List (Name × Name)) (counts : Counts) : Type 0 where
-  pub numbered : list_all (is_numbered counts) pairs ≡ true
-  pub room : length pairs ≤ counts.room
+-- nothing stands at a place that no set has, or no user
+pub record IsKept (sets users : List (Name × ℕ)) (rows : List (List ℕ)) : Type 0 where
+  pub of_sets : (i : ℕ) → ((set : Name) → find name_cmp set sets ≡ Some i → ⊥) → (j : ℕ) → number_in rows i j ≡ 0
+  pub of_users : (j : ℕ) → ((user : Name) → find name_cmp user users ≡ Some j → ⊥) → (i : ℕ) → number_in rows i j ≡ 0
 
--- nothing stands at a number that no set has, or no user
-pub record IsKept (sets users : List (Name × ℕ)) (numbers : List ((ℕ × ℕ) × ℕ)) : Type 0 where
-  pub of_sets : (i : ℕ) → ((set : Name) → find name_cmp set sets ≡ Some i → ⊥) → (j : ℕ) → lookup (pair_eq (i, j)) numbers ≡ None
-  pub of_users : (j : ℕ) → ((user : Name) → find name_cmp user users ≡ Some j → ⊥) → (i : ℕ) → lookup (pair_eq (i, j)) numbers ≡ None
+-- ---- Numbers that change
 
 -- 0 for all
 abbrev pub no_numbers : Name → Name → ℕ
@@ -63,14 +47,24 @@ no_numbers s u = 0
 abbrev pub with_number : Name → Name → ℕ → (Name → Name → ℕ) → Name → Name → ℕ
 with_number set user n numbers s u = if eq_by_cmp name_cmp set s && eq_by_cmp name_cmp user u then n else numbers s u
 
+-- a number for a set and a user
+pub record CountChange : Type 0 where
+  pub set : Name
+  pub user : Name
+  pub number : ℕ
+
 -- numbers that are given to sets and users, one after the other
 abbrev pub with_numbers : List CountChange → (Name → Name → ℕ) → Name → Name → ℕ
 with_numbers [] numbers = numbers
 with_numbers (change ∷ changes) numbers = with_numbers changes (with_number change.set change.user change.number numbers)
 
--- the sets and users of these changes
-abbrev pub pairs_of : List CountChange → List (Name × Name)
-pairs_of changes = map (λ change. (change.set, change.user)) changes
+-- a user's numbers of sets
+abbrev pub row_changes : List Name → Name → List ℕ → List CountChange
+row_changes sets user row = map (λ e. record { set = e.0; user = user; number = e.1 }) (zip sets row)
+
+-- the users' numbers of sets
+abbrev pub changes_of : List Name → List Name → List (List ℕ) → List CountChange
+changes_of sets users rows = flat_map (λ e. row_changes sets e.0 e.1) (zip users rows)
 
 -- 0 for a set, with each user
 abbrev pub without_set : Name → (Name → Name → ℕ) → Name → Name → ℕ
@@ -80,6 +74,8 @@ without_set set numbers s u = if eq_by_cmp name_cmp set s then 0 else numbers s 
 abbrev pub without_user : Name → (Name → Name → ℕ) → Name → Name → ℕ
 without_user user numbers s u = if eq_by_cmp name_cmp user u then 0 else numbers s u
 
+-- ---- What the numbers say of a set
+
 -- a number and how many roles of the set are among these come to n or more
 abbrev pub is_over : ℕ → List Name → RoleSet → Bool
 is_over number fresh set = nat_le set.cardinality (number + count_by (λ r. has name_cmp r fresh) set.roles)
@@ -88,3 +84,21 @@ is_over number fresh set = nat_le set.cardinality (number + count_by (λ r. has 
 abbrev pub first_over : (Name → ℕ) → List Name → List (Name × RoleSet) → Option Name
 first_over numbers fresh [] = None
 first_over numbers fresh (e ∷ es) = if is_over (numbers e.0) fresh e.1 then Some e.0 else first_over numbers fresh es
+
+-- ---- Places that are planned
+
+-- a set and a user have these places, and the user's row is so wide
+pub record IsPlaced (set user : Name × ℕ) (counts : Counts) : Type 0 where
+  pub of_set : find name_cmp set.0 counts.sets ≡ Some set.1
+  pub of_user : find name_cmp user.0 counts.users ≡ Some user.1
+  pub within : set.1 < length (get_or counts.rows user.1 [])
+
+-- each set with each user
+abbrev pub ArePlaced : List (Name × ℕ) → List (Name × ℕ) → Counts → Type 0
+ArePlaced sets users counts = All (λ user. All (λ set. IsPlaced set user counts) sets) users
+
+-- both have the same places, and rows of the same widths
+pub record HaveSamePlaces (before after : Counts) : Type 0 where
+  pub sets : after.sets ≡ before.sets
+  pub users : after.users ≡ before.users
+  pub widths : (j : ℕ) → length (get_or after.rows j []) ≡ length (get_or before.rows j [])

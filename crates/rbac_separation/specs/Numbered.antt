@@ -1,9 +1,13 @@
 -- Names with numbers of their own.
-use Rattle.std.specs.Prelude.{ℕ, ◌≡◌, List, true, Some, None, is_some}
+use Rattle.std.specs.Prelude.{ℕ, ◌≡◌, List, map, true, Some, None, is_some}
 use Rattle.std.specs.FinMap.Entries.{find}
 use Rattle.std.specs.Ordering.{eq_by_cmp}
 use Rattle.slab.specs.Slab.{Slab, get}
 use Rattle.rbac_terms.specs.Name.{Name, name_cmp}
+
+-- the names of these
+abbrev pub names_of : {X : Type 0} → List (Name × X) → List Name
+names_of es = map (λ e. e.0) es
 
 -- each name's number is taken, and no other name has it
 pub record IsNumbered {X : Type 0} (names : List (Name × ℕ)) (numbers : Slab X) : Type 0 where

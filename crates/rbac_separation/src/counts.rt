@@ -1,39 +1,55 @@
 //! Numbers kept of sets and users.
-ghost use Rattle.std.specs.Prelude.{◌≡◌, ◌<◌, ◌≤◌, ◌+◌, ◌==◌, not, IsTrue, IfOk, OnOk, OnErr};
+ghost use Rattle.std.specs.Prelude.{◌≡◌, ◌<◌, true, IfOk, IfSome, IfNone, OnOk, OnErr};
 ghost use Rattle.std.specs.Option.{option_copied};
 ghost use Rattle.std.specs.FinMap.Entries.{find};
-ghost use Rattle.rbac_terms.specs.Name.{name_cmp};
-ghost use Rattle.rbac_separation.specs.Counts.{numbers_of, place_of, no_numbers, with_number, without_set, without_user, first_over, is_numbered};
-ghost use Rattle.rbac_separation.specs.Numbered.{IsMore};
+ghost use Rattle.rbac_terms.specs.Name.{Name as NameValue, name_cmp};
+ghost use Rattle.rbac_separation.specs.Counts.{numbers_of, at_place, no_numbers, with_number, without_set, without_user, first_over, IsPlaced, HaveSamePlaces};
 
+use crate::count_plan::Numbering;
 use crate::numbered::Numbered;
 use crate::role_set::RoleSet;
+use crate::row::{Row, forget_place, forget_row, number_at};
 use crate::set_table::SetTable;
-use indexmap::IndexMap;
 use rbac_terms::{Name, NameSet};
 use std::alloc::{AllocError, Global};
 use std::marker::Model;
+use std::slice::from_ref;
 
 /// For each set, by its name, and each user a number, 0 where none was given. Static separation keeps so how many roles of a
 /// set a user is authorized for.
 #[derive(Drop)]
 pub struct Counts {
-    // Names are numbered when a plan is made, or by the first number that is put: those that no number is kept of stand here too.
-    sets: Numbered,
-    users: Numbered,
-    // By the numbers of a set and a user, and none of them is 0. So a look-up by names that are lent wants no names of its own.
-    numbers: IndexMap<(usize, usize), u32>,
+    // Names are numbered when a plan is made: those that no number is kept of stand here too.
+    pub(crate) sets: Numbered,
+    pub(crate) users: Numbered,
+    // By the number of a user its row, and in it by the number of a set theirs. So a change that is planned wants no names.
+    pub(crate) rows: Vec<Row>,
 }
 
 impl Model for Counts {
-    ghost use Rattle.indexmap.specs.IndexMap.{spare};
     ghost use Rattle.rbac_separation.specs.Counts.{Counts as CountsValue, IsKept};
 
     ghost Value = { CountsValue };
 
-    ghost view = { λ c. record { content = record { sets = c.sets.content; users = c.users.content; numbers = c.numbers.entries }; room = spare c.numbers } };
+    ghost view = { λ c. record { sets = c.sets.content; users = c.users.content; rows = c.rows.items } };
 
-    ghost invariant = { λ c. IsKept c.sets.content c.users.content c.numbers.entries };
+    ghost invariant = { λ c. IsKept c.sets.content c.users.content c.rows.items };
+}
+
+// One number for all sets and users.
+#[derive(Drop)]
+struct OneNumber {
+    number: u32,
+}
+
+impl Numbering for OneNumber {
+    ghost number = { λ one _ _. one.number };
+
+    ghost is_numbered = { λ _ _ _. true };
+
+    fn number(&self, _set: &Name, _user: &Name) -> u32 {
+        self.number
+    }
 }
 
 // The name of the first of the sets of which the user's number, and how many of its roles are among these, come to its own number
@@ -62,124 +78,86 @@ impl Counts {
         Counts {
             sets: Numbered::empty(alloc),
             users: Numbered::empty(alloc),
-            numbers: IndexMap::new(alloc),
+            rows: Vec::new(alloc),
         }
     }
 
-    // Where the number of a set and a user is kept, if both names are numbered.
-    #[inline(always)]
-    fn place(&self, set: &Name, user: &Name) -> Option<(usize, usize)>
-        ensures { result ≡ place_of (find name_cmp set.now self.now.content.sets) (find name_cmp user.now self.now.content.users) }
+    /// Where the number of a set stands in each row, if its name is numbered.
+    pub fn place(&self, set: &Name) -> Option<usize>
+        ensures { result ≡ find name_cmp set.now self.now.sets }
     {
-        let set = self.sets.number(set)?;
-        let user = self.users.number(user)?;
-        Some((set, user))
+        self.sets.number(set)
+    }
+
+    /// The row of a user: at the place of each set their number. Takes no memory.
+    pub fn row(&self, user: &Name) -> &[u32]
+        ensures { (set : NameValue) → numbers_of self.now set user.now ≡ at_place result.now (find name_cmp set self.now.sets) }
+    {
+        match self.users.number(user) {
+            Some(row) if row < self.rows.len() => self.rows[row].numbers(),
+            _ => &[],
+        }
     }
 
     /// The number of a set and a user. Takes no memory.
     pub fn get(&self, set: &Name, user: &Name) -> u32
         ensures { result ≡ numbers_of self.now set.now user.now }
     {
-        match self.place(set, user) {
-            Some(place) => match self.numbers.get(&place) {
-                Some(number) => *number,
-                None => 0,
-            },
-            None => 0,
-        }
+        number_at(self.row(user), self.place(set))
     }
 
-    // Takes the number of a set and a user out.
-    fn take_out(&mut self, set: &Name, user: &Name)
-        ensures numbers { numbers_of self.new ≡ with_number set.now user.now 0 (numbers_of self.old) }
-        ensures sets { self.new.content.sets ≡ self.old.content.sets }
-        ensures users { self.new.content.users ≡ self.old.content.users }
-        ensures room { self.old.room ≤ self.new.room }
+    // Where the number of a set and a user is kept, where there is such a place.
+    fn kept_at(&self, set: &Name, user: &Name) -> Option<(usize, usize)>
+        ensures some { IfSome result (λ at. IsPlaced (set.now, at.0) (user.now, at.1) self.now) }
+        ensures none { IfNone result (numbers_of self.now set.now user.now ≡ 0) }
     {
-        if let Some(place) = self.place(set, user) {
-            self.sets.invariants();
-            self.users.invariants();
-            self.numbers.swap_remove(&place);
+        let place = self.sets.number(set)?;
+        let row = self.users.number(user)?;
+        if row < self.rows.len() && place < self.rows[row].numbers().len() {
+            Some((place, row))
+        } else {
+            None
         }
     }
 
-    /// Gives a set and a user a number. A name is copied where it is not numbered yet. 0 takes the number out: that needs no memory,
-    /// nor does another number for the same pair.
+    // Gives a set and a user a number at their place.
+    #[inline(always)]
+    pub(crate) fn put_at(&mut self, set: &Name, place: usize, user: &Name, row: usize, number: u32)
+        requires { IsPlaced (set.now, place) (user.now, row) self.old }
+        ensures numbers { numbers_of self.new ≡ with_number set.now user.now number (numbers_of self.old) }
+        ensures places { HaveSamePlaces self.old self.new }
+    {
+        self.sets.invariants();
+        self.users.invariants();
+        self.rows[row].put(place, number);
+    }
+
+    /// Gives a set and a user a number. 0 takes the number out: that needs no memory, nor does another number for the same pair.
     ///
     /// # Errors
-    /// `AllocError` where there is no memory for it. Nothing has changed.
-    pub fn put(&mut self, set: &Name, user: &Name, number: u32) -> Result<(), AllocError>
+    /// `AllocError` where there is no memory for it. No number has changed.
+    pub fn put(
+        &mut self,
+        alloc: Global,
+        set: &Name,
+        user: &Name,
+        number: u32,
+    ) -> Result<(), AllocError>
         ensures put { OnOk result (numbers_of self.new ≡ with_number set.now user.now number (numbers_of self.old)) }
-        ensures unchanged { OnErr result (self.new.content ≡ self.old.content) }
+        ensures unchanged { OnErr result (numbers_of self.new ≡ numbers_of self.old) }
         ensures absent { OnErr result (numbers_of self.old set.now user.now ≡ 0) }
         ensures above { OnErr result (0 < number) }
     {
-        if number == 0 {
-            self.take_out(set, user);
-            return Ok(());
+        match self.kept_at(set, user) {
+            Some((place, row)) => self.put_at(set, place, user, row, number),
+            None => {
+                if number > 0 {
+                    let plan = self.plan(alloc, from_ref(set), from_ref(user))?;
+                    self.renumber(plan, &OneNumber { number });
+                }
+            }
         }
-        if let Some(place) = self.place(set, user) {
-            self.sets.invariants();
-            self.users.invariants();
-            self.numbers.insert(place, number)?;
-            return Ok(());
-        }
-        self.reserve(1)?;
-        self.number_names(set, user)?;
-        self.put_ready(set, user, number);
         Ok(())
-    }
-
-    /// Numbers the names of a set and a user, and copies only one that was not numbered. The numbers of sets and users stay as they
-    /// are.
-    ///
-    /// # Errors
-    /// `AllocError` where there is no memory for it. Nothing has changed.
-    pub(crate) fn number_names(&mut self, set: &Name, user: &Name) -> Result<(), AllocError>
-        ensures numbers { numbers_of self.new ≡ numbers_of self.old }
-        ensures numbered { OnOk result (IsTrue (is_numbered self.new (set.now, user.now))) }
-        ensures sets { IsMore self.old.content.sets self.new.content.sets }
-        ensures users { IsMore self.old.content.users self.new.content.users }
-        ensures unchanged { OnErr result (self.new.content ≡ self.old.content) }
-        ensures room { self.new.room ≡ self.old.room }
-    {
-        let set = self.sets.to_add(set)?;
-        let user = self.users.to_add(user)?;
-        self.sets.add(set);
-        self.users.add(user);
-        Ok(())
-    }
-
-    /// Makes room for the numbers of so many more pairs, and none for names. The numbers stay as they are, also where memory ends.
-    ///
-    /// # Errors
-    /// `AllocError` where there is no memory for so many more. No number has changed.
-    pub(crate) fn reserve(&mut self, more: usize) -> Result<(), AllocError>
-        ensures numbers { numbers_of self.new ≡ numbers_of self.old }
-        ensures content { self.new.content ≡ self.old.content }
-        ensures room { OnOk result (more ≤ self.new.room) }
-    {
-        self.numbers.reserve(more)
-    }
-
-    /// Gives a set and a user a number, where their names are numbered and there is room. Takes no memory.
-    pub(crate) fn put_ready(&mut self, set: &Name, user: &Name, number: u32)
-        requires numbered { IsTrue (is_numbered self.old (set.now, user.now)) }
-        requires room { 0 < self.old.room }
-        ensures numbers { numbers_of self.new ≡ with_number set.now user.now number (numbers_of self.old) }
-        ensures sets { self.new.content.sets ≡ self.old.content.sets }
-        ensures users { self.new.content.users ≡ self.old.content.users }
-        ensures room { self.old.room ≤ self.new.room + 1 }
-    {
-        if number == 0 {
-            self.take_out(set, user);
-            return;
-        }
-        if let Some(place) = self.place(set, user) {
-            self.sets.invariants();
-            self.users.invariants();
-            self.numbers.insert(place, number).unwrap();
-        }
     }
 
     /// Takes the numbers of a set out. Takes no memory.
@@ -190,11 +168,7 @@ impl Counts {
             return;
         };
         self.sets.invariants();
-        self.numbers.retain(
-            |key: &(usize, usize), number: &mut u32| -> bool
-                ensures { (result ≡ not (gone == key.now.0)) × (number.new ≡ number.old) }
-            { gone != key.0 },
-        );
+        forget_place(&mut self.rows, gone);
         self.sets.remove(set);
     }
 
@@ -206,11 +180,7 @@ impl Counts {
             return;
         };
         self.users.invariants();
-        self.numbers.retain(
-            |key: &(usize, usize), number: &mut u32| -> bool
-                ensures { (result ≡ not (gone == key.now.1)) × (number.new ≡ number.old) }
-            { gone != key.1 },
-        );
+        forget_row(&mut self.rows, gone);
         self.users.remove(user);
     }
 
@@ -232,12 +202,12 @@ impl Counts {
     /// # Errors
     /// `AllocError` where there is no memory for it.
     pub fn copy(&self) -> Result<Counts, AllocError>
-        ensures { IfOk result (λ copy. copy.content ≡ self.now.content) }
+        ensures { IfOk result (λ copy. copy ≡ self.now) }
     {
         Ok(Counts {
             sets: self.sets.copy()?,
             users: self.users.copy()?,
-            numbers: self.numbers.clone()?,
+            rows: self.rows.clone()?,
         })
     }
 }

@@ -5,14 +5,14 @@ mod change;
 mod count_plan;
 mod counts;
 mod numbered;
-mod recount;
 mod role_set;
+mod row;
 mod set_plan;
 mod set_table;
 
-pub use count_plan::{CountChange, CountPlan};
+pub use count_plan::{CountPlan, Numbering};
 pub use counts::Counts;
-pub use recount::{Numbering, RecountPlan};
 pub use role_set::RoleSet;
+pub use row::{Row, number_at};
 pub use set_plan::{SetChange, SetPlan};
 pub use set_table::SetTable;

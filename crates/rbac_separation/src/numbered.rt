@@ -1,9 +1,9 @@
 //! Names that get numbers of their own.
-ghost use Rattle.std.specs.Prelude.{◌≡◌, ◌<◌, ◌≤◌, ℕ, [], true, Some, None, is_some, IfOk, IfSome, IfNone, OnOk, if◌then◌else◌};
+ghost use Rattle.std.specs.Prelude.{◌≡◌, ◌<◌, ◌≤◌, ℕ, [], true, Some, None, All, IfOk, OnOk, if◌then◌else◌};
 ghost use Rattle.std.specs.FinMap.Entries.{find};
 ghost use Rattle.std.specs.Ordering.{eq_by_cmp};
 ghost use Rattle.rbac_terms.specs.Name.{Name as NameValue, name_cmp};
-ghost use Rattle.rbac_separation.specs.Numbered.{IsMore};
+ghost use Rattle.rbac_separation.specs.Numbered.{names_of, IsMore};
 
 use hashed_keys::HashedMap;
 use rbac_terms::Name;
@@ -62,11 +62,8 @@ impl Numbered {
         let _names = &self.names;
     }
 
-    /// Makes room for so many more names.
-    ///
-    /// # Errors
-    /// `AllocError` where there is no memory for them. Each name has its number as before.
-    pub(crate) fn reserve(&mut self, more: usize) -> Result<(), AllocError>
+    // Makes room for so many more names.
+    fn reserve(&mut self, more: usize) -> Result<(), AllocError>
         ensures content { self.new.content ≡ self.old.content }
         ensures room { OnOk result (more ≤ self.new.room) }
     {
@@ -74,45 +71,52 @@ impl Numbered {
         self.numbers.reserve(more)
     }
 
-    /// A copy of a name that has no number yet, with room for it.
-    ///
-    /// # Errors
-    /// `AllocError` where there is no memory for it. Each name has its number as before.
-    pub(crate) fn to_add(&mut self, name: &Name) -> Result<Option<Name>, AllocError>
-        ensures content { self.new.content ≡ self.old.content }
-        ensures numbered { IfOk result (λ added. IfNone added (is_some (find name_cmp name.now self.new.content) ≡ true)) }
-        ensures own { IfOk result (λ added. IfSome added (λ own. own ≡ name.now)) }
-        ensures room { IfOk result (λ added. IfSome added (λ own. 0 < self.new.room)) }
-    {
-        if self.number(name).is_some() {
-            return Ok(None);
-        }
-        self.reserve(1)?;
-        Ok(Some(name.copy()?))
-    }
-
-    // Gives a name a number where it has none. Takes no memory.
-    fn add_ready(&mut self, name: Name)
-        requires { 0 < self.old.room }
+    // Gives a name that has no number one. Takes no memory.
+    fn add_ready(&mut self, name: Name) -> usize
+        requires room { 0 < self.old.room }
+        requires absent { find name_cmp name self.old.content ≡ None }
         ensures more { IsMore self.old.content self.new.content }
-        ensures numbered { is_some (find name_cmp name self.new.content) ≡ true }
+        ensures found { find name_cmp name self.new.content ≡ Some result }
     {
-        if self.number(&name).is_some() {
-            return;
-        }
         let number = self.numbers.insert_reserved(());
         self.names.put(name, number);
+        number
     }
 
-    /// Gives the name that is to be added, if there is one, a number. Takes no memory.
-    pub(crate) fn add(&mut self, added: Option<Name>)
-        requires { IfSome added (λ own. 0 < self.old.room) }
+    // The number of a name, which it is given where it has none.
+    fn number_of(&mut self, name: &Name) -> Result<usize, AllocError>
         ensures more { IsMore self.old.content self.new.content }
-        ensures numbered { IfSome added (λ own. is_some (find name_cmp own self.new.content) ≡ true) }
+        ensures found { IfOk result (λ number. find name_cmp name.now self.new.content ≡ Some number) }
     {
-        if let Some(name) = added {
-            self.add_ready(name);
+        match self.number(name) {
+            Some(number) => Ok(number),
+            None => {
+                self.reserve(1)?;
+                let own = name.copy()?;
+                Ok(self.add_ready(own))
+            }
         }
+    }
+
+    /// The names with their numbers, which those that have none are given.
+    ///
+    /// # Errors
+    /// `AllocError` where there is no memory for it. Each name that had a number has it as before.
+    pub(crate) fn numbered(
+        &mut self,
+        alloc: Global,
+        names: &[Name],
+    ) -> Result<Vec<(Name, usize)>, AllocError>
+        ensures more { IsMore self.old.content self.new.content }
+        ensures names { IfOk result (λ numbered. names_of numbered.items ≡ names.now) }
+        ensures found { IfOk result (λ numbered. All (λ e. find name_cmp e.0 self.new.content ≡ Some e.1) numbered.items) }
+    {
+        let mut numbered = Vec::with_capacity(alloc, names.len())?;
+        for name in names {
+            let number = self.number_of(name)?;
+            numbered.push((name.copy()?, number))?;
+        }
+        Ok(numbered)
     }
 
     /// Takes a name out, and its number may be another's.

@@ -1,15 +1,14 @@
 //! Each public call of `rbac_separation` with ample memory. What is expected was written by hand.
 ghost use Rattle.std.specs.Prelude.{◌≤◌, length};
-ghost use Rattle.rbac_separation.specs.Counts.{pairs_of, HasRoomFor};
+ghost use Rattle.rbac_separation.specs.Counts.{ArePlaced};
 
 use super::named::{assert_names, name, name_set};
-use rbac_separation::{
-    CountChange, CountPlan, Counts, Numbering, RecountPlan, RoleSet, SetChange, SetPlan, SetTable,
-};
+use rbac_separation::{CountPlan, Counts, Numbering, RoleSet, Row, SetChange, SetPlan, SetTable};
 use rbac_terms::Name;
 use sorted_keys::{Duplicate, Same};
 use std::alloc::Global;
 use std::process::Abort;
+use std::slice::from_ref;
 
 fn create(rt: &impl Abort, alloc: Global, sets: &mut SetTable, set: &str, texts: &[&str]) {
     let set = name(rt, alloc, set);
@@ -245,10 +244,34 @@ fn one_set_is_copied_and_compared(rt: HostRuntime) {
     drop(set);
 }
 
+// Plans another number of a set and a user.
+fn plan_pair(
+    rt: &impl Abort,
+    alloc: Global,
+    counts: &mut Counts,
+    set: &str,
+    user: &str,
+) -> CountPlan
+    ensures { ArePlaced result.sets.items result.users.items counts.new }
+{
+    let (set, user) = (name(rt, alloc, set), name(rt, alloc, user));
+    counts
+        .plan(alloc, from_ref(&set), from_ref(&user))
+        .expect(rt, "memory")
+}
+
+fn row(rt: &impl Abort, alloc: Global, numbers: &[u32]) -> Row {
+    let mut row = Row::with_room(alloc, numbers.len()).expect(rt, "memory");
+    for number in numbers {
+        row.push(*number).expect(rt, "memory");
+    }
+    row
+}
+
 fn put(rt: &impl Abort, alloc: Global, counts: &mut Counts, set: &str, user: &str, number: u32) {
     let set = name(rt, alloc, set);
     let user = name(rt, alloc, user);
-    counts.put(&set, &user, number).expect(rt, "memory");
+    counts.put(alloc, &set, &user, number).expect(rt, "memory");
     drop(set);
     drop(user);
 }
@@ -413,55 +436,23 @@ impl Numbering for OneNumber {
     }
 }
 
-fn change(rt: &impl Abort, alloc: Global, set: &str, user: &str, number: u32) -> CountChange {
-    CountChange {
-        set: name(rt, alloc, set),
-        user: name(rt, alloc, user),
-        number,
-    }
+// Plans the numbers of d and e, each with ann and with bob.
+fn plan_numbers(rt: &impl Abort, alloc: Global, counts: &mut Counts) -> CountPlan
+    ensures { ArePlaced result.sets.items result.users.items counts.new }
+{
+    let sets = name_set(rt, alloc, &["d", "e"]);
+    let users = name_set(rt, alloc, &["ann", "bob"]);
+    counts
+        .plan(alloc, sets.names(), users.names())
+        .expect(rt, "memory")
 }
 
-// Plans this number of d and ann.
-fn plan_number(rt: &impl Abort, alloc: Global, counts: &mut Counts, number: u32) -> CountPlan
-    ensures { HasRoomFor (pairs_of result) counts.new }
-{
-    let mut changes = Vec::new(alloc);
-    changes
-        .push(change(rt, alloc, "d", "ann", number))
-        .expect(rt, "memory");
-    counts.plan(changes).expect(rt, "memory")
-}
-
-// Plans the numbers of d and e with ann, and of d with bob.
-fn plan_numbers(
-    rt: &impl Abort,
-    alloc: Global,
-    counts: &mut Counts,
-    wanted: (u32, u32, u32),
-) -> CountPlan
-    ensures { HasRoomFor (pairs_of result) counts.new }
-{
-    let mut changes = Vec::new(alloc);
-    changes
-        .push(change(rt, alloc, "d", "ann", wanted.0))
-        .expect(rt, "memory");
-    changes
-        .push(change(rt, alloc, "e", "ann", wanted.1))
-        .expect(rt, "memory");
-    changes
-        .push(change(rt, alloc, "d", "bob", wanted.2))
-        .expect(rt, "memory");
-    counts.plan(changes).expect(rt, "memory")
-}
-
-// Plans another number of d and ann.
-fn plan_recount(rt: &impl Abort, alloc: Global, counts: &mut Counts) -> RecountPlan
-    ensures { HasRoomFor result counts.new }
-{
-    let mut pairs = Vec::new(alloc);
-    let pair = (name(rt, alloc, "d"), name(rt, alloc, "ann"));
-    pairs.push(pair).expect(rt, "memory");
-    counts.plan_recount(pairs).expect(rt, "memory")
+// The numbers of d and e with ann, and of d with bob, with whom e has none.
+fn rows(rt: &impl Abort, alloc: Global, wanted: (u32, u32, u32)) -> [Row; 2] {
+    [
+        row(rt, alloc, &[wanted.0, wanted.1]),
+        row(rt, alloc, &[wanted.2, 0]),
+    ]
 }
 
 fn number_of_ann(rt: &impl Abort, alloc: Global, counts: &Counts) -> u32 {
@@ -472,12 +463,13 @@ fn number_of_ann(rt: &impl Abort, alloc: Global, counts: &Counts) -> u32 {
 fn a_plan_of_numbers_changes_nothing_until_its_commit(rt: HostRuntime) {
     let alloc = rt.alloc();
     let mut counts = Counts::empty(alloc);
-    let plan = plan_number(&rt, alloc, &mut counts, 2);
+    let plan = plan_pair(&rt, alloc, &mut counts, "d", "ann");
     assert_eq!(rt; number_of_ann(&rt, alloc, &counts), 0);
-    counts.commit(plan);
+    let number = row(&rt, alloc, &[2]);
+    counts.commit(plan, from_ref(&number));
+    drop(number);
     assert_eq!(rt; number_of_ann(&rt, alloc, &counts), 2);
-    let plan = plan_number(&rt, alloc, &mut counts, 0);
-    counts.commit(plan);
+    put(&rt, alloc, &mut counts, "d", "ann", 0);
     assert_eq!(rt; number_of_ann(&rt, alloc, &counts), 0);
     drop(counts);
 }
@@ -486,9 +478,9 @@ fn a_plan_of_numbers_changes_nothing_until_its_commit(rt: HostRuntime) {
 fn a_plan_of_new_names_commits_to_just_its_numbers(rt: HostRuntime) {
     let alloc = rt.alloc();
     let mut counts = Counts::empty(alloc);
-    let plan = plan_numbers(&rt, alloc, &mut counts, (3, 0, 2));
+    let plan = plan_numbers(&rt, alloc, &mut counts);
     assert_numbers(&rt, alloc, &counts, (0, 0, 0));
-    counts.commit(plan);
+    counts.commit(plan, &rows(&rt, alloc, (3, 0, 2)));
     assert_numbers(&rt, alloc, &counts, (3, 0, 2));
     assert_eq!(rt; number(&rt, alloc, &counts, "e", "bob"), 0);
     drop(counts);
@@ -498,7 +490,7 @@ fn a_plan_of_new_names_commits_to_just_its_numbers(rt: HostRuntime) {
 fn a_plan_that_is_dropped_changes_no_number(rt: HostRuntime) {
     let alloc = rt.alloc();
     let mut counts = some_counts(&rt, alloc);
-    drop(plan_numbers(&rt, alloc, &mut counts, (3, 0, 4)));
+    drop(plan_numbers(&rt, alloc, &mut counts));
     assert_numbers(&rt, alloc, &counts, (1, 1, 2));
     drop(counts);
 }
@@ -507,10 +499,10 @@ fn a_plan_that_is_dropped_changes_no_number(rt: HostRuntime) {
 fn two_plans_are_committed_one_after_the_other(rt: HostRuntime) {
     let alloc = rt.alloc();
     let mut counts = Counts::empty(alloc);
-    let plan = plan_numbers(&rt, alloc, &mut counts, (1, 1, 2));
-    counts.commit(plan);
-    let plan = plan_numbers(&rt, alloc, &mut counts, (3, 0, 2));
-    counts.commit(plan);
+    let plan = plan_numbers(&rt, alloc, &mut counts);
+    counts.commit(plan, &rows(&rt, alloc, (1, 1, 2)));
+    let plan = plan_numbers(&rt, alloc, &mut counts);
+    counts.commit(plan, &rows(&rt, alloc, (3, 0, 2)));
     assert_numbers(&rt, alloc, &counts, (3, 0, 2));
     drop(counts);
 }
@@ -519,12 +511,12 @@ fn two_plans_are_committed_one_after_the_other(rt: HostRuntime) {
 fn numbers_are_taken_anew_at_the_commit_of_their_plan(rt: HostRuntime) {
     let alloc = rt.alloc();
     let mut counts = Counts::empty(alloc);
-    let plan = plan_recount(&rt, alloc, &mut counts);
+    let plan = plan_pair(&rt, alloc, &mut counts, "d", "ann");
     assert_eq!(rt; number_of_ann(&rt, alloc, &counts), 0);
-    counts.recount(plan, &OneNumber { number: 2 });
+    counts.renumber(plan, &OneNumber { number: 2 });
     assert_eq!(rt; number_of_ann(&rt, alloc, &counts), 2);
-    let plan = plan_recount(&rt, alloc, &mut counts);
-    counts.recount(plan, &OneNumber { number: 0 });
+    let plan = plan_pair(&rt, alloc, &mut counts, "d", "ann");
+    counts.renumber(plan, &OneNumber { number: 0 });
     assert_eq!(rt; number_of_ann(&rt, alloc, &counts), 0);
     drop(counts);
 }

@@ -1,20 +1,21 @@
-//! The counts that a command may change and that are taken after the change: the pairs of a static set and a user, with names of
-//! their own.
-ghost use Rattle.std.specs.Prelude.{◌≡◌, ◌&&◌, ◌||◌, ◌∷◌, [], false, IfOk, IfSome, IfNone, OnOk, Some};
+//! The counts that a command may change and that are taken after the change: names and room are planned for each of some static sets
+//! with each of some users.
+ghost use Rattle.std.specs.Prelude.{◌≡◌, ◌∷◌, [], false, IfOk, IfSome, IfNone, Some};
 ghost use Rattle.std.specs.List.{list_any};
-ghost use Rattle.std.specs.Ordering.{eq_by_cmp};
 ghost use Rattle.sorted_keys.specs.Keys.{has};
-ghost use Rattle.rbac_terms.specs.Name.{Name as NameValue, name_cmp, pair_cmp};
-ghost use Rattle.rbac_decide.specs.Counting.{authorized_by, authorized_users_by, juniors_by, touches, is_touched, of_touched, of_set, may_change};
+ghost use Rattle.rbac_terms.specs.Name.{Name as NameValue, name_cmp};
+ghost use Rattle.rbac_separation.specs.Counts.{numbers_of};
+ghost use Rattle.rbac_decide.specs.Counting.{authorized_by, authorized_users_by, juniors_by, touches, is_touched, of_touched, of_set, may_change, IsPlanOf};
 
 use crate::authorization::is_authorized;
 use crate::tables::Tables;
 use crate::touched::touches;
 use rbac_hierarchy::RoleOrder;
-use rbac_separation::RoleSet;
+use rbac_separation::{CountPlan, Counts, RoleSet};
 use rbac_terms::{Command, Name, NameSet, Separation};
 use sorted_keys::KeyTest;
 use std::alloc::{AllocError, Global};
+use std::slice::from_ref;
 
 // The users that are authorized for a role.
 #[derive(Drop)]
@@ -58,63 +59,38 @@ fn touching_juniors(
     }
 }
 
-// The pairs, and those of a set with each of these users.
-fn add_pairs(pairs: &mut Vec<(Name, Name)>, set: &Name, users: &[Name]) -> Result<(), AllocError>
-    ensures { OnOk result ((s u : NameValue) → has pair_cmp (s, u) pairs.new.items ≡ (has pair_cmp (s, u) pairs.old.items || (eq_by_cmp name_cmp s set.now && has name_cmp u users.now))) }
+// The names of those static sets that have one of the roles.
+fn touched_names(alloc: Global, tables: &Tables, below: &NameSet) -> Result<Vec<Name>, AllocError>
+    ensures { IfOk result (λ names. (s : NameValue) → has name_cmp s names.items ≡ is_touched below.now s tables.now.static_sets.content) }
 {
-    for user in users {
-        let pair = (set.copy()?, user.copy()?);
-        pairs.push(pair)?;
-    }
-    Ok(())
-}
-
-// The pairs of each static set that has one of the roles, with each of these users.
-fn pairs_of_touched(
-    alloc: Global,
-    tables: &Tables,
-    below: &NameSet,
-    users: &[Name],
-) -> Result<Vec<(Name, Name)>, AllocError>
-    ensures { IfOk result (λ pairs. (s u : NameValue) → has pair_cmp (s, u) pairs.items ≡ of_touched tables.now below.now users.now s u) }
-{
-    let mut pairs = Vec::new(alloc);
+    let mut names = Vec::new(alloc);
     for entry in tables.static_sets.entries() {
         if touches(below, &entry.1) {
-            add_pairs(&mut pairs, &entry.0, users)?;
+            names.push(entry.0.copy()?)?;
         }
     }
-    Ok(pairs)
+    Ok(names)
 }
 
-// The pairs of the user, and of each static set that has a role that this one inherits.
-fn pairs_of_user(
-    alloc: Global,
-    tables: &Tables,
-    user: &Name,
-    role: &Name,
-) -> Result<Vec<(Name, Name)>, AllocError>
-    ensures { IfOk result (λ pairs. (s u : NameValue) → has pair_cmp (s, u) pairs.items ≡ of_touched tables.now (juniors_by tables.now role.now) (user.now ∷ []) s u) }
+// Plans the counts of nothing. Takes no memory.
+fn plan_nothing(alloc: Global, counts: &mut Counts) -> Result<CountPlan, AllocError>
+    ensures numbers { numbers_of counts.new ≡ numbers_of counts.old }
+    ensures planned { IfOk result (IsPlanOf (λ s u. false) counts.new) }
 {
-    match touching_juniors(alloc, tables, role)? {
-        Some(below) => {
-            let mut users = NameSet::new(alloc);
-            users.add_copy(user)?;
-            pairs_of_touched(alloc, tables, &below, users.names())
-        }
-        None => Ok(Vec::new(alloc)),
-    }
+    counts.plan(alloc, &[], &[])
 }
 
-// The pairs of the users that are authorized for the ascendant, and of each static set that has a role that this one inherits.
+// Plans the counts of each static set that has a role that this one inherits, with each user that is authorized for the ascendant.
 // Where there is no such set no user is looked at.
-fn pairs_of_authorized(
+fn plan_authorized(
     alloc: Global,
     tables: &Tables,
     ascendant: &Name,
     role: &Name,
-) -> Result<Vec<(Name, Name)>, AllocError>
-    ensures { IfOk result (λ pairs. (s u : NameValue) → has pair_cmp (s, u) pairs.items ≡ of_touched tables.now (juniors_by tables.now role.now) (authorized_users_by tables.now ascendant.now) s u) }
+    counts: &mut Counts,
+) -> Result<CountPlan, AllocError>
+    ensures numbers { numbers_of counts.new ≡ numbers_of counts.old }
+    ensures planned { IfOk result (IsPlanOf (of_touched tables.now (juniors_by tables.now role.now) (authorized_users_by tables.now ascendant.now)) counts.new) }
 {
     match touching_juniors(alloc, tables, role)? {
         Some(below) => {
@@ -123,51 +99,74 @@ fn pairs_of_authorized(
                 role: ascendant,
             };
             let users = tables.sets.users_where(alloc, &authorized)?;
-            pairs_of_touched(alloc, tables, &below, users.names())
+            let sets = touched_names(alloc, tables, &below)?;
+            counts.plan(alloc, &sets, users.names())
         }
-        None => Ok(Vec::new(alloc)),
+        None => plan_nothing(alloc, counts),
     }
 }
 
-// The pairs of a static set, and of all users.
-fn pairs_of_set(
+// Plans the counts of each static set that has a role that this one inherits, with the user.
+fn plan_user(
+    alloc: Global,
+    tables: &Tables,
+    user: &Name,
+    role: &Name,
+    counts: &mut Counts,
+) -> Result<CountPlan, AllocError>
+    ensures numbers { numbers_of counts.new ≡ numbers_of counts.old }
+    ensures planned { IfOk result (IsPlanOf (of_touched tables.now (juniors_by tables.now role.now) (user.now ∷ [])) counts.new) }
+{
+    match touching_juniors(alloc, tables, role)? {
+        Some(below) => {
+            let sets = touched_names(alloc, tables, &below)?;
+            counts.plan(alloc, &sets, from_ref(user))
+        }
+        None => plan_nothing(alloc, counts),
+    }
+}
+
+// Plans the counts of a static set with all users.
+fn plan_set(
     alloc: Global,
     tables: &Tables,
     kind: Separation,
     set: &Name,
-) -> Result<Vec<(Name, Name)>, AllocError>
-    ensures { IfOk result (λ pairs. (s u : NameValue) → has pair_cmp (s, u) pairs.items ≡ of_set kind set.now tables.now s u) }
+    counts: &mut Counts,
+) -> Result<CountPlan, AllocError>
+    ensures numbers { numbers_of counts.new ≡ numbers_of counts.old }
+    ensures planned { IfOk result (IsPlanOf (of_set kind set.now tables.now) counts.new) }
 {
-    let mut pairs = Vec::new(alloc);
     match kind {
-        Separation::Static => add_pairs(&mut pairs, set, tables.sets.users())?,
-        Separation::Dynamic => {}
+        Separation::Static => counts.plan(alloc, from_ref(set), tables.sets.users()),
+        Separation::Dynamic => plan_nothing(alloc, counts),
     }
-    Ok(pairs)
 }
 
-/// The pairs of a static set and a user whose count the command may change, other than those that a deletion takes out, and those
-/// that are told before the change.
+/// Plans the counts of those static sets and users whose count the command may change, other than those that a deletion takes out,
+/// and those that were gathered before the change.
 ///
 /// # Errors
 /// `AllocError` where there is no memory for it.
-pub fn affected_pairs(
+pub(crate) fn plan_affected(
     alloc: Global,
     tables: &Tables,
     command: &Command,
-) -> Result<Vec<(Name, Name)>, AllocError>
-    ensures { IfOk result (λ pairs. (s u : NameValue) → has pair_cmp (s, u) pairs.items ≡ may_change command.now tables.now s u) }
+    counts: &mut Counts,
+) -> Result<CountPlan, AllocError>
+    ensures numbers { numbers_of counts.new ≡ numbers_of counts.old }
+    ensures planned { IfOk result (IsPlanOf (may_change command.now tables.now) counts.new) }
 {
     match command {
-        Command::DeassignUser { user, role } => pairs_of_user(alloc, tables, user, role),
-        Command::DeleteRole { role } => pairs_of_authorized(alloc, tables, role, role),
+        Command::DeassignUser { user, role } => plan_user(alloc, tables, user, role, counts),
+        Command::DeleteRole { role } => plan_authorized(alloc, tables, role, role, counts),
         Command::DeleteInheritance {
             ascendant,
             descendant,
-        } => pairs_of_authorized(alloc, tables, ascendant, descendant),
-        Command::CreateSet { kind, set, .. } => pairs_of_set(alloc, tables, *kind, set),
-        Command::AddRoleMember { kind, set, .. } => pairs_of_set(alloc, tables, *kind, set),
-        Command::DeleteRoleMember { kind, set, .. } => pairs_of_set(alloc, tables, *kind, set),
-        _ => Ok(Vec::new(alloc)),
+        } => plan_authorized(alloc, tables, ascendant, descendant, counts),
+        Command::CreateSet { kind, set, .. } => plan_set(alloc, tables, *kind, set, counts),
+        Command::AddRoleMember { kind, set, .. } => plan_set(alloc, tables, *kind, set, counts),
+        Command::DeleteRoleMember { kind, set, .. } => plan_set(alloc, tables, *kind, set, counts),
+        _ => plan_nothing(alloc, counts),
     }
 }

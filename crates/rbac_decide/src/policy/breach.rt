@@ -15,19 +15,22 @@ ghost use Rattle.rbac_terms.specs.Rows.{is_set};
 ghost use Rattle.rbac_terms.specs.declared.separation.Separation.TheVariants.{Static, Dynamic};
 ghost use Rattle.rbac_terms.specs.declared.command.Command.TheVariants.{AssignUser, AddInheritance, CreateSession, AddActiveRole, CreateSet, AddRoleMember, DeleteRoleMember, SetCardinality};
 ghost use Rattle.rbac_decide.specs.Breaking.{breaks_with, first_holder};
-ghost use Rattle.rbac_decide.specs.Ground.{IsBelow};
+ghost use Rattle.rbac_decide.specs.Counting.{TellsAfter};
+ghost use Rattle.rbac_decide.specs.Gains.{changes_gathered};
 ghost use Rattle.rbac_decide.specs.Hindrance.{Tells, first_entry, static_breach, dynamic_breach, breach_of};
 ghost use Rattle.rbac_decide.specs.Hindrance.Named.{a_breach};
 
 use crate::breaking::Breaking;
+use crate::gains::{Gains, gains_by};
+use crate::gathered::Ground;
 use crate::named::Named;
 use crate::policy::Policy;
 use crate::policy::separation::is_well_sized;
-use crate::touched::Constrained;
 use rbac_separation::RoleSet;
 use rbac_sessions::{Session, SessionTest};
 use rbac_terms::{Name, NameSet, Separation};
 use std::alloc::{AllocError, Global};
+use std::slice::from_ref;
 
 impl Policy {
     // Whether the user would be authorized for as many roles of the set as its number, with this role and what it inherits besides.
@@ -68,42 +71,58 @@ impl Policy {
         }
     }
 
-    /// What the assignment would break: of a sound policy no other user breaks a set by it. Names are looked for where it breaks one.
+    /// What the assignment would break: of a sound policy no other user breaks a set by it. Where it breaks none the counts that it
+    /// changes are gathered.
     pub(crate) fn assignment_breach<'a>(
         &'a self,
         alloc: Global,
         user: &'a Name,
         role: &Name,
-        below: &Constrained,
+        gathered: &mut Ground,
     ) -> Result<Option<Named<'a>>, AllocError>
-        requires below { IsBelow self.now role.now below.now }
         requires user { IsTrue (has name_cmp user.now self.now.users) }
-        ensures { let after = change (AssignUser user.now role.now) self.now in IfOk result (Tells (is_violated Static after) (static_breach after)) }
+        ensures breach { let after = change (AssignUser user.now role.now) self.now in IfOk result (Tells (is_violated Static after) (static_breach after)) }
+        ensures gathered { IfOk result (λ breach. IfNone breach (TellsAfter (AssignUser user.now role.now) (changes_gathered gathered.new) self.now)) }
     {
         self.invariants();
-        if !self.breaks_with(alloc, role, user, below)? {
-            return Ok(None);
+        match gains_by(
+            alloc,
+            &self.tables,
+            &self.counts,
+            from_ref(user),
+            None,
+            role,
+        )? {
+            Gains::Told(told) => {
+                *gathered = told;
+                Ok(None)
+            }
+            Gains::Broken(user) => Ok(self.breach_with(role, user)),
         }
-        Ok(self.breach_with(role, user))
     }
 
-    /// What the pair would break.
+    /// What the pair would break. Where it breaks none the counts that it changes are gathered.
     pub(crate) fn inheritance_breach<'a>(
         &'a self,
         alloc: Global,
         ascendant: &Name,
         descendant: &Name,
-        below: &Constrained,
+        gathered: &mut Ground,
     ) -> Result<Option<Named<'a>>, AllocError>
-        requires below { IsBelow self.now descendant.now below.now }
         requires ascendant { IsTrue (has name_cmp ascendant.now self.now.roles) }
         requires descendant { IsTrue (has name_cmp descendant.now self.now.roles) }
-        ensures { let after = change (AddInheritance ascendant.now descendant.now) self.now in IfOk result (Tells (is_violated Static after) (static_breach after)) }
+        ensures breach { let after = change (AddInheritance ascendant.now descendant.now) self.now in IfOk result (Tells (is_violated Static after) (static_breach after)) }
+        ensures gathered { IfOk result (λ breach. IfNone breach (TellsAfter (AddInheritance ascendant.now descendant.now) (changes_gathered gathered.new) self.now)) }
     {
         self.invariants();
-        match self.user_broken_below(alloc, ascendant, descendant, below)? {
-            Some(user) => Ok(self.breach_with(descendant, user)),
-            None => Ok(None),
+        let users = self.tables.sets.users();
+        let above = Some(ascendant);
+        match gains_by(alloc, &self.tables, &self.counts, users, above, descendant)? {
+            Gains::Told(told) => {
+                *gathered = told;
+                Ok(None)
+            }
+            Gains::Broken(user) => Ok(self.breach_with(descendant, user)),
         }
     }
 

@@ -1,5 +1,5 @@
 //! The numbers of roles.
-ghost use Rattle.std.specs.Prelude.{◌≡◌, ◌↔◌, ◌<◌, ◌||◌, ◌&&◌, ℕ, Bool, IsTrue, IfOk, IfSome, IfNone, length, false};
+ghost use Rattle.std.specs.Prelude.{◌≡◌, ◌↔◌, ◌<◌, ◌||◌, ◌&&◌, ◌/◌, ℕ, Bool, IsTrue, IfOk, IfSome, IfNone, length, true, false};
 ghost use Rattle.sorted_keys.specs.Keys.{has};
 ghost use Rattle.bit_rows.specs.Bits.{related};
 ghost use Rattle.rbac_terms.specs.Name.{Name as NameValue, name_cmp};
@@ -43,6 +43,10 @@ pub(crate) trait NumberedTest {
     /// Whether a role with a number passes.
     fn test(&self, number: usize, role: &Name) -> bool
         ensures { result ≡ passes self.now number role.now };
+
+    /// Whether it is known that none of the roles passes whose numbers are of one word: those that are this word when divided by 64.
+    fn passes_none(&self, word: usize) -> bool
+        ensures { result ≡ true → (number : ℕ) (role : NameValue) → number / 64 ≡ word → passes self.now number role ≡ false };
 }
 
 /// The roles that a role inherits, told by their numbers.
@@ -58,6 +62,10 @@ impl NumberedTest for JuniorsOf<'_> {
     fn test(&self, number: usize, _role: &Name) -> bool {
         self.inherited.has(self.above, number)
     }
+
+    fn passes_none(&self, word: usize) -> bool {
+        self.inherited.is_clear(self.above, word)
+    }
 }
 
 /// The roles that pass a test of their names.
@@ -72,9 +80,13 @@ impl<T: KeyTest<Name>> NumberedTest for ByName<'_, T> {
     fn test(&self, _number: usize, role: &Name) -> bool {
         self.test.test(role)
     }
+
+    fn passes_none(&self, _word: usize) -> bool {
+        false
+    }
 }
 
-/// The names, and the roles that pass a test.
+/// The names, and the roles that pass a test. Where it is known that none of 64 roles passes, these are passed over at once.
 pub(crate) fn with_roles_where<T: NumberedTest>(
     names: NameSet,
     roles: &[Name],
@@ -84,9 +96,16 @@ pub(crate) fn with_roles_where<T: NumberedTest>(
         → IfOk result (λ more. (r : NameValue) → has name_cmp r more ≡ (has name_cmp r names || (p r && has name_cmp r roles.now))) }
 {
     let mut more = names;
-    for (number, role) in roles.iter().enumerate() {
-        if test.test(number, role) {
-            more.add_copy(role)?;
+    let mut number = 0;
+    while number < roles.len() {
+        if number % 64 == 0 && test.passes_none(number / 64) {
+            number += 64;
+        } else {
+            let role = &roles[number];
+            if test.test(number, role) {
+                more.add_copy(role)?;
+            }
+            number += 1;
         }
     }
     Ok(more)

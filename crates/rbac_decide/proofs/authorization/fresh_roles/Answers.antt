@@ -1,12 +1,10 @@
-use Rattle.std.proofs.Common.{Bool, ◌≡◌, ◌∙◌, ◌&&◌, not, List, ap}
+use Rattle.std.proofs.Common.{◌≡◌, ◌∙◌, Bool, not, map, ap}
 use Rattle.std.specs.List.{list_any}
-use Rattle.sorted_keys.specs.Keys.{has}
-use Rattle.rbac_terms.specs.Name.{Name, name_cmp}
-use Rattle.rbac_terms.specs.Relations.{begins_with}
-use Rattle.rbac_terms.specs.Inheritance.{inherits}
+use Rattle.rbac_terms.specs.Name.{Name}
 use Rattle.rbac_terms.specs.Authorization.{is_authorized}
+use Rattle.rbac_terms.specs.Inheritance.{inherits}
 use Rattle.rbac_hierarchy.proofs.LoopLemmas.{if_each}
-use Rattle.rbac_review.proofs.ReviewLemmas.{any-filter}
+use Rattle.rbac_review.proofs.ReviewLemmas.{authorized_by_own}
 use Rattle.rbac_decide.specs.Tables.{state_of_roles}
 use Rattle.rbac_decide.proofs.authorization.fresh_roles.Goals as goal
 
@@ -14,12 +12,9 @@ pub returns : goal.returns
 returns c =
     let h = c.args.hierarchy.now.content in
     let s = state_of_roles c.args.sets.now.content h in
-    let user = c.args.user.now in
     let roles = c.args.roles.now in
-    let above : Name → Name × Name → Bool = λ role pair. inherits h.roles h.declared pair.1 role in
-    if_each c.names_where.result
-    (λ (fresh : List Name). (r : Name) → has name_cmp r fresh ≡ (has name_cmp r roles && not (list_any (above r) c.assignments_of.result.now)))
-    (λ (fresh : List Name). (r : Name) → has name_cmp r fresh ≡ (has name_cmp r roles && not (is_authorized s user r)))
-    (λ fresh told r. told r ∙ ap (λ b. has name_cmp r roles && not b)
-    (ap (list_any (above r)) c.assignments_of.ensures ∙ any-filter (begins_with user) (above r) c.args.sets.now.content.assigned))
-    c.names_where.ensures
+    if_each c.not_inherited.result
+    (λ fresh. fresh.items ≡ map (λ role. not (list_any (λ (pair : Name × Name). inherits h.roles h.declared pair.1 role) c.assignments_of.result.now)) roles)
+    (λ fresh. fresh.items ≡ map (λ role. not (is_authorized s c.args.user.now role)) roles)
+    (λ fresh made. made ∙ ap (λ (f : Name → Bool). map (λ role. not (f role)) roles) (λ i role. (authorized_by_own s c.args.user.now c.assignments_of.result.now c.assignments_of.ensures role) i))
+    c.not_inherited.ensures

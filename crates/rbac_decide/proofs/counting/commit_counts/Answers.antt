@@ -1,28 +1,38 @@
-use Rattle.std.proofs.Common.{not, subst, ap, sym, ◌∙◌}
+use Rattle.std.proofs.Common.{◌≡◌, ◌∙◌, true, false, not, subst, ap, sym}
+use Rattle.std.proofs.lemmas.Bool.{and_from}
 use Rattle.rbac_terms.specs.State.{State}
-use Rattle.rbac_separation.specs.Counts.{numbers_of}
-use Rattle.rbac_decide.specs.declared.counting.PlannedCounts.{PlannedCounts}
-use Rattle.rbac_decide.specs.Counting.{authorized_count, IsPlannedBy}
-use Rattle.rbac_decide.proofs.AffectedLemmas.{recountable}
+use Rattle.rbac_separation.specs.Counts.{numbers_of, with_numbers, changes_of}
+use Rattle.rbac_decide.specs.Counting.{authorized_count, affects, gives_roles}
+use Rattle.rbac_decide.specs.Ground.{IsPlannedBy}
+use Rattle.rbac_decide.specs.Tables.{state_of}
+use Rattle.rbac_decide.proofs.AffectedLemmas.{recountable, tells_of}
 use Rattle.rbac_decide.proofs.counting.commit_counts.Goals as goal
 
-pub recount-requires-clause-numbered : goal.recount-requires-clause-numbered
-recount-requires-clause-numbered c =
+pub returns-then-gives_roles : goal.returns-then-gives_roles
+returns-then-gives_roles c = λ set user.
     let p = c.requires.prepared in
-    let planned = subst (λ (plan : PlannedCounts). IsPlannedBy plan c.args.command.now c.args.counts.now p.before) c.in-Recounted.is p.planned in
-    λ set user is. ap not ((recountable p.before c.args.tables.now c.args.counts.now p.counted c.in-Recounted.pairs c.args.command.now p.step planned.0 planned.1).unbroken set user is)
-
-pub returns-in-Recounted : goal.returns-in-Recounted
-returns-in-Recounted c = λ set user.
-    let p = c.requires.prepared in
-    let planned = subst (λ (plan : PlannedCounts). IsPlannedBy plan c.args.command.now c.args.counts.now p.before) c.in-Recounted.is p.planned in
-    (λ i. c.forget.ensures i set user)
-    ∙ (recountable p.before c.args.tables.now c.args.counts.now p.counted c.in-Recounted.pairs c.args.command.now p.step planned.0 planned.1).right (numbers_of c.recount.new.self) c.recount.ensures set user
-
-pub returns-in-Told : goal.returns-in-Told
-returns-in-Told c = λ set user.
-    let p = c.requires.prepared in
-    let planned = subst (λ (plan : PlannedCounts). IsPlannedBy plan c.args.command.now c.args.counts.now p.before) c.in-Told.is p.planned in
+    let command = c.args.command.now in
+    let gathered = c.args.gathered.now in
+    let gives : gives_roles command ≡ true = sym c.gives_roles.ensures ∙ c.if-gives_roles.true in
+    let planned = subst (λ b. IsPlannedBy b command gathered p.before c.args.plan) gives p.planned in
     (λ i. c.commit.ensures i set user)
-    ∙ planned p.step.vocabulary set user
+    ∙ (λ i. with_numbers (changes_of (planned.0 i) (planned.1 i) (c.deref.ensures.value i)) (λ a b. p.counted a b i) set user)
+    ∙ tells_of command (state_of p.before p.step.vocabulary) gathered gives p.grounded set user
     ∙ sym (ap (λ (x : State). authorized_count x set user) p.step.made)
+
+pub renumber-requires-clause-numbered : goal.renumber-requires-clause-numbered
+renumber-requires-clause-numbered c = λ set user in_sets in_users.
+    let p = c.requires.prepared in
+    let command = c.args.command.now in
+    let takes : gives_roles command ≡ false = sym c.gives_roles.ensures ∙ c.if-gives_roles.false in
+    let planned = subst (λ b. IsPlannedBy b command c.args.gathered.now p.before c.args.plan) takes p.planned in
+    ap not ((recountable p.before c.args.tables.now c.args.counts.now p.counted (affects c.args.plan) command p.step takes planned).unbroken set user (and_from _ _ in_sets in_users))
+
+pub returns : goal.returns
+returns c = λ set user.
+    let p = c.requires.prepared in
+    let command = c.args.command.now in
+    let takes : gives_roles command ≡ false = sym c.gives_roles.ensures ∙ c.if-gives_roles.false in
+    let planned = subst (λ b. IsPlannedBy b command c.args.gathered.now p.before c.args.plan) takes p.planned in
+    (λ i. c.forget.ensures i set user)
+    ∙ (recountable p.before c.args.tables.now c.args.counts.now p.counted (affects c.args.plan) command p.step takes planned).right (numbers_of c.renumber.new.self) c.renumber.ensures set user

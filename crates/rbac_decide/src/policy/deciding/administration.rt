@@ -1,6 +1,7 @@
 //! The first failing precondition of each command about users, roles, assignments and permissions (ANSI INCITS 359-2004, 6.1.1).
 ghost use Rattle.std.specs.Prelude.{◌≡◌, ◌||◌, OnOk};
-ghost use Rattle.rbac_decide.specs.Ground.{IsBelow};
+ghost use Rattle.rbac_decide.specs.Counting.{TellsAfter};
+ghost use Rattle.rbac_decide.specs.Gains.{changes_gathered};
 ghost use Rattle.std.specs.List.{find as first_where};
 ghost use Rattle.std.specs.Option.{option_copied};
 ghost use Rattle.sorted_keys.specs.Keys.{has};
@@ -128,7 +129,7 @@ impl Policy {
         gathered: &mut Ground,
     ) -> Result<(), Obstacle<'a>>
         ensures hindrance { DecidesUnless (AssignUser user.now role.now) self.now result }
-        ensures gathered { OnOk result (IsBelow self.now role.now gathered.new.below) }
+        ensures gathered { OnOk result (TellsAfter (AssignUser user.now role.now) (changes_gathered gathered.new) self.now) }
     {
         deny_if(
             !self.tables.sets.has_user(user),
@@ -138,10 +139,8 @@ impl Policy {
         deny_if(!self.has_role(role), Denial::NoRole, Named::Role { role })?;
         let assigned = self.tables.sets.assigned(user, role);
         deny_if(assigned, Denial::Assigned, Named::Assignment { user, role })?;
-        let below = self.constrained_below(alloc, role)?;
-        let breach = self.assignment_breach(alloc, user, role, &below)?;
+        let breach = self.assignment_breach(alloc, user, role, gathered)?;
         self.deny_assignment(user, role, breach)?;
-        gathered.below = below;
         Ok(())
     }
 

@@ -1,6 +1,7 @@
 //! The first failing precondition of each command about the role hierarchy (ANSI INCITS 359-2004, 6.2).
 ghost use Rattle.std.specs.Prelude.{◌≡◌, OnOk};
-ghost use Rattle.rbac_decide.specs.Ground.{IsBelow};
+ghost use Rattle.rbac_decide.specs.Counting.{TellsAfter};
+ghost use Rattle.rbac_decide.specs.Gains.{changes_gathered};
 ghost use Rattle.std.specs.List.{find as first_where};
 ghost use Rattle.std.specs.Option.{option_copied};
 ghost use Rattle.std.specs.Ordering.{eq_by_cmp};
@@ -78,7 +79,7 @@ impl Policy {
         gathered: &mut Ground,
     ) -> Result<(), Obstacle<'a>>
         ensures hindrance { DecidesUnless (AddInheritance ascendant.now descendant.now) self.now result }
-        ensures gathered { OnOk result (IsBelow self.now descendant.now gathered.new.below) }
+        ensures gathered { OnOk result (TellsAfter (AddInheritance ascendant.now descendant.now) (changes_gathered gathered.new) self.now) }
     {
         let pair = Named::Pair {
             ascendant,
@@ -98,10 +99,8 @@ impl Policy {
         deny_if(declared, Denial::Inherits, pair)?;
         deny_if(self.inherits(descendant, ascendant), Denial::Cycle, pair)?;
         self.deny_limited(ascendant)?;
-        let below = self.constrained_below(alloc, descendant)?;
-        let breach = self.inheritance_breach(alloc, ascendant, descendant, &below)?;
+        let breach = self.inheritance_breach(alloc, ascendant, descendant, gathered)?;
         self.deny_pair(ascendant, descendant, breach)?;
-        gathered.below = below;
         Ok(())
     }
 

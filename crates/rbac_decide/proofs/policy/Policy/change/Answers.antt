@@ -28,9 +28,6 @@ invariant_of-self-in_err-tables c =
       counted = counts_stay_right c.plan.new.self tables same c.self.inside.counts c.plan_counts.new.counts c.plan_counts.ensures.numbers c.self.invariant.counted;
     }
 
-pub plan_counts-requires-clause-grounded : goal.plan_counts-requires-clause-grounded
-plan_counts-requires-clause-grounded c = (c.self.inside.vocabulary, subst (λ (seen : State). IsGround c.args.command.now seen c.in-Ok.gathered) (sym c.self.view_is) c.in-Ok.ensures.gathered)
-
 pub commit_counts-requires-clause-prepared : goal.commit_counts-requires-clause-prepared
 commit_counts-requires-clause-prepared c =
     let v = c.self.inside.vocabulary in
@@ -47,6 +44,7 @@ commit_counts-requires-clause-prepared c =
         sound_after = sound_then c.args.command.now c.args.self.now (state_of tables v) (state_of c.commit.new.self v) c.invariants.ensures c.self.invariant.sound c.in-Ok.ensures.denial c.self.view_is made;
       };
       counted = λ set user. (λ i. c.plan_counts.ensures.numbers i set user) ∙ c.self.invariant.counted set user;
+      grounded = subst (λ (seen : State). IsGround c.args.command.now seen c.in-Ok.gathered) (sym c.self.view_is) c.in-Ok.ensures.gathered;
       planned = c.in_ok-counts.ensures.planned;
     }
 

@@ -14,10 +14,10 @@ invariant_of-result c =
     let outer = c.in_ok-tables.ensures in
     let inner = subst (λ r. IfOk r (λ both. (c.copy.result ≡ Ok both.0) × (c.copy-2.result ≡ Ok both.1))) outer.0 c.both-tables.ensures in
     let same : HaveSameSets copy old = subst (λ r. IfOk r (λ tables. HaveSameSets tables old)) inner.0 c.copy.ensures in
-    let counted : counts.content ≡ c.self.inside.counts.content = subst (λ r. IfOk r (λ copied. copied.content ≡ c.self.inside.counts.content)) inner.1 c.copy-2.ensures in
+    let counted : counts ≡ c.self.inside.counts = subst (λ r. IfOk r (λ copied. copied ≡ c.self.inside.counts)) inner.1 c.copy-2.ensures in
     let words : c.in_ok-tables.vocabulary ≡ v = subst (λ r. IfOk r (λ copied. copied ≡ v)) outer.1 c.copy-3.ensures in
     record {
       sound = subst IsSound (sym (ap (state_of copy) words ∙ same_state copy old same v)) c.self.invariant.sound;
       same_roles = roles_stay_same copy old same c.self.invariant.same_roles;
-      counted = counts_stay_right copy old same c.self.inside.counts counts (ap (λ content. numbers_of (record { content = content; room = 0 })) counted) c.self.invariant.counted;
+      counted = counts_stay_right copy old same c.self.inside.counts counts (ap numbers_of counted) c.self.invariant.counted;
     }

@@ -1,9 +1,10 @@
-use Rattle.std.proofs.Common.{◌≡◌}
-use Rattle.std.specs.Vec.Iter.{into_iter_items}
-use Rattle.rbac_separation.specs.Counts.{numbers_of, with_numbers, pairs_of, HasRoomFor}
+use Rattle.std.proofs.Common.{◌≡◌, drop}
+use Rattle.rbac_separation.specs.Numbered.{names_of}
+use Rattle.rbac_separation.specs.Counts.{numbers_of, with_numbers, changes_of, HaveSamePlaces}
 use Rattle.rbac_separation.proofs.counts.Counts.commit.Given as goal
 
-abbrev pub invariant-loop-change : goal.invariant-loop-change
-invariant-loop-change l =
-    let to_do = into_iter_items l.change-iterator in
-    (HasRoomFor (pairs_of to_do) l.self) × (with_numbers to_do (numbers_of l.self) ≡ with_numbers l.fn.plan (numbers_of l.fn.self))
+abbrev pub invariant-loop-k : goal.invariant-loop-k
+invariant-loop-k l = record {
+  places : HaveSamePlaces l.fn.self l.self;
+  numbers : with_numbers (changes_of (names_of l.plan.sets.items) (names_of (drop l.k l.plan.users.items)) (drop l.k l.rows)) (numbers_of l.self) ≡ with_numbers (changes_of (names_of l.plan.sets.items) (names_of l.plan.users.items) l.rows) (numbers_of l.fn.self);
+}

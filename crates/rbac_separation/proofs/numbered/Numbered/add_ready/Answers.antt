@@ -1,8 +1,8 @@
-use Rattle.std.proofs.Common.{is_some, sym, ap, subst, ◌∙◌}
+use Rattle.std.proofs.Common.{is_some, ap, subst, ◌∙◌}
 use Rattle.std.specs.FinMap.Entries.{find}
 use Rattle.rbac_terms.specs.Name.{name_cmp}
 use Rattle.rbac_separation.specs.Numbered.{IsMore}
-use Rattle.rbac_separation.proofs.NumberLemmas.{none_of, fresh_more, fresh_found, fresh_numbered}
+use Rattle.rbac_separation.proofs.NumberLemmas.{fresh_more, fresh_found, fresh_numbered}
 use Rattle.rbac_separation.proofs.numbered.Numbered.add_ready.Goals as goal
 
 pub invariant_of-self : goal.invariant_of-self
@@ -10,7 +10,7 @@ invariant_of-self c =
     let h = c.self.inside in
     let name = c.args.name in
     let made = c.insert_reserved-number.ensures in
-    let none = none_of (find name_cmp name h.names.content) (ap (λ m. is_some (find name_cmp name m.content)) c.self.view_is ∙ ap is_some (sym c.number.ensures) ∙ sym c.if-is_some.ensures) in
+    let none = ap (λ m. find name_cmp name m.content) c.self.view_is ∙ c.requires.absent in
     fresh_numbered h.names.content c.put.new.self.content h.numbers c.insert_reserved-number.new.self name c.insert_reserved-number.result c.self.invariant none made.was_vacant c.put.ensures.content (ap is_some made.updates.changed) made.updates.others
 
 pub returns-clause-more : goal.returns-clause-more
@@ -18,14 +18,14 @@ returns-clause-more c =
     let h = c.self.inside in
     let name = c.args.name in
     let made = c.insert_reserved-number.ensures in
-    let none = none_of (find name_cmp name h.names.content) (ap (λ m. is_some (find name_cmp name m.content)) c.self.view_is ∙ ap is_some (sym c.number.ensures) ∙ sym c.if-is_some.ensures) in
+    let none = ap (λ m. find name_cmp name m.content) c.self.view_is ∙ c.requires.absent in
     subst (λ m. IsMore m.content c.put.new.self.content) c.self.view_is
     (fresh_more h.names.content c.put.new.self.content h.numbers c.insert_reserved-number.new.self name c.insert_reserved-number.result c.self.invariant none made.was_vacant c.put.ensures.content)
 
-pub returns-clause-numbered : goal.returns-clause-numbered
-returns-clause-numbered c =
+pub returns-clause-found : goal.returns-clause-found
+returns-clause-found c =
     let h = c.self.inside in
     let name = c.args.name in
     let made = c.insert_reserved-number.ensures in
-    let none = none_of (find name_cmp name h.names.content) (ap (λ m. is_some (find name_cmp name m.content)) c.self.view_is ∙ ap is_some (sym c.number.ensures) ∙ sym c.if-is_some.ensures) in
+    let none = ap (λ m. find name_cmp name m.content) c.self.view_is ∙ c.requires.absent in
     fresh_found h.names.content c.put.new.self.content h.numbers c.insert_reserved-number.new.self name c.insert_reserved-number.result c.self.invariant none made.was_vacant c.put.ensures.content
