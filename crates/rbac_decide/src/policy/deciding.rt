@@ -6,6 +6,7 @@ ghost use Rattle.rbac_decide.specs.Hindrance.{DecidesUnless, DeniesUnless};
 
 mod administration;
 mod hierarchy;
+mod known;
 mod reviews;
 mod separation;
 mod sessions;

@@ -18,7 +18,7 @@ use crate::hindrance::{Hindrance, Obstacle, deny_for, deny_if};
 use crate::named::{Counted, Named};
 use crate::policy::Policy;
 use rbac_separation::RoleSet;
-use rbac_terms::limits::{MOST_ROLES, MOST_USERS};
+use rbac_terms::limits::MOST_USERS;
 use rbac_terms::{Denial, Name, Separation};
 use std::alloc::Global;
 
@@ -40,36 +40,20 @@ impl Policy {
             Denial::UserExists,
             Named::User { user },
         )?;
-        deny_if(full, Denial::Limit, Named::Count { counted })?;
-        Ok(())
+        deny_if(full, Denial::Limit, Named::Count { counted })
     }
 
     pub(crate) fn may_delete_user<'a>(&'a self, user: &'a Name) -> Result<(), Hindrance<'a>>
         ensures { Decides (DeleteUser user.now) self.now result }
     {
-        deny_if(
-            !self.tables.sets.has_user(user),
-            Denial::NoUser,
-            Named::User { user },
-        )?;
-        Ok(())
+        self.deny_no_user(user)
     }
 
     pub(crate) fn may_add_role<'a>(&'a self, role: &'a Name) -> Result<(), Hindrance<'a>>
         ensures { Decides (AddRole role.now) self.now result }
     {
-        let counted = Counted::Roles;
-        deny_if(
-            self.has_role(role),
-            Denial::RoleExists,
-            Named::Role { role },
-        )?;
-        deny_if(
-            self.role_count() >= MOST_ROLES,
-            Denial::Limit,
-            Named::Count { counted },
-        )?;
-        Ok(())
+        self.deny_role(role)?;
+        self.deny_full_roles()
     }
 
     // The first static set that has the role, or else the first dynamic one.
@@ -116,9 +100,8 @@ impl Policy {
     pub(crate) fn may_delete_role<'a>(&'a self, role: &'a Name) -> Result<(), Hindrance<'a>>
         ensures { Decides (DeleteRole role.now) self.now result }
     {
-        deny_if(!self.has_role(role), Denial::NoRole, Named::Role { role })?;
-        self.deny_constrained(role)?;
-        Ok(())
+        self.deny_no_role(role)?;
+        self.deny_constrained(role)
     }
 
     pub(crate) fn may_assign_user<'a>(
@@ -131,12 +114,8 @@ impl Policy {
         ensures hindrance { DecidesUnless (AssignUser user.now role.now) self.now result }
         ensures gathered { OnOk result (TellsAfter (AssignUser user.now role.now) (changes_gathered gathered.new) self.now) }
     {
-        deny_if(
-            !self.tables.sets.has_user(user),
-            Denial::NoUser,
-            Named::User { user },
-        )?;
-        deny_if(!self.has_role(role), Denial::NoRole, Named::Role { role })?;
+        self.deny_no_user(user)?;
+        self.deny_no_role(role)?;
         let assigned = self.tables.sets.assigned(user, role);
         deny_if(assigned, Denial::Assigned, Named::Assignment { user, role })?;
         let breach = self.assignment_breach(alloc, user, role, gathered)?;
@@ -151,19 +130,11 @@ impl Policy {
     ) -> Result<(), Hindrance<'a>>
         ensures { Decides (DeassignUser user.now role.now) self.now result }
     {
-        deny_if(
-            !self.tables.sets.has_user(user),
-            Denial::NoUser,
-            Named::User { user },
-        )?;
-        deny_if(!self.has_role(role), Denial::NoRole, Named::Role { role })?;
+        self.deny_no_user(user)?;
+        self.deny_no_role(role)?;
         let assigned = self.tables.sets.assigned(user, role);
-        deny_if(
-            !assigned,
-            Denial::NotAssigned,
-            Named::Assignment { user, role },
-        )?;
-        Ok(())
+        let named = Named::Assignment { user, role };
+        deny_if(!assigned, Denial::NotAssigned, named)
     }
 
     pub(crate) fn may_grant_permission<'a>(
@@ -174,14 +145,8 @@ impl Policy {
     ) -> Result<(), Hindrance<'a>>
         ensures { Decides (GrantPermission operation.now object.now role.now) self.now result }
     {
-        let known = self.vocabulary.has_permission(operation, object);
-        deny_if(
-            !known,
-            Denial::NoPermission,
-            Named::Permission { operation, object },
-        )?;
-        deny_if(!self.has_role(role), Denial::NoRole, Named::Role { role })?;
-        Ok(())
+        self.deny_no_permission(operation, object)?;
+        self.deny_no_role(role)
     }
 
     pub(crate) fn may_revoke_permission<'a>(
@@ -192,23 +157,14 @@ impl Policy {
     ) -> Result<(), Hindrance<'a>>
         ensures { Decides (RevokePermission operation.now object.now role.now) self.now result }
     {
-        let known = self.vocabulary.has_permission(operation, object);
-        deny_if(
-            !known,
-            Denial::NoPermission,
-            Named::Permission { operation, object },
-        )?;
-        deny_if(!self.has_role(role), Denial::NoRole, Named::Role { role })?;
+        self.deny_no_permission(operation, object)?;
+        self.deny_no_role(role)?;
         let granted = self.tables.sets.granted(operation, object, role);
-        deny_if(
-            !granted,
-            Denial::NotGranted,
-            Named::Grant {
-                operation,
-                object,
-                role,
-            },
-        )?;
-        Ok(())
+        let named = Named::Grant {
+            operation,
+            object,
+            role,
+        };
+        deny_if(!granted, Denial::NotGranted, named)
     }
 }

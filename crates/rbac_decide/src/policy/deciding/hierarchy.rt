@@ -16,10 +16,9 @@ ghost use Rattle.rbac_decide.specs.Hindrance.Named.{a_pair};
 
 use crate::gathered::Ground;
 use crate::hindrance::{Hindrance, Obstacle, deny_for, deny_if};
-use crate::named::{Counted, Named};
+use crate::named::Named;
 use crate::policy::Policy;
 use rbac_hierarchy::RoleOrder;
-use rbac_terms::limits::MOST_ROLES;
 use rbac_terms::{Denial, Name};
 use std::alloc::Global;
 
@@ -85,16 +84,8 @@ impl Policy {
             ascendant,
             descendant,
         };
-        deny_if(
-            !self.has_role(ascendant),
-            Denial::NoRole,
-            Named::Role { role: ascendant },
-        )?;
-        deny_if(
-            !self.has_role(descendant),
-            Denial::NoRole,
-            Named::Role { role: descendant },
-        )?;
+        self.deny_no_role(ascendant)?;
+        self.deny_no_role(descendant)?;
         let declared = self.tables.hierarchy.declared(ascendant, descendant);
         deny_if(declared, Denial::Inherits, pair)?;
         deny_if(self.inherits(descendant, ascendant), Denial::Cycle, pair)?;
@@ -115,19 +106,10 @@ impl Policy {
             ascendant,
             descendant,
         };
-        deny_if(
-            !self.has_role(ascendant),
-            Denial::NoRole,
-            Named::Role { role: ascendant },
-        )?;
-        deny_if(
-            !self.has_role(descendant),
-            Denial::NoRole,
-            Named::Role { role: descendant },
-        )?;
+        self.deny_no_role(ascendant)?;
+        self.deny_no_role(descendant)?;
         let declared = self.tables.hierarchy.declared(ascendant, descendant);
-        deny_if(!declared, Denial::NoInheritance, pair)?;
-        Ok(())
+        deny_if(!declared, Denial::NoInheritance, pair)
     }
 
     pub(crate) fn may_add_ascendant<'a>(
@@ -137,23 +119,9 @@ impl Policy {
     ) -> Result<(), Hindrance<'a>>
         ensures { Decides (AddAscendant ascendant.now descendant.now) self.now result }
     {
-        let counted = Counted::Roles;
-        deny_if(
-            self.has_role(ascendant),
-            Denial::RoleExists,
-            Named::Role { role: ascendant },
-        )?;
-        deny_if(
-            !self.has_role(descendant),
-            Denial::NoRole,
-            Named::Role { role: descendant },
-        )?;
-        deny_if(
-            self.role_count() >= MOST_ROLES,
-            Denial::Limit,
-            Named::Count { counted },
-        )?;
-        Ok(())
+        self.deny_role(ascendant)?;
+        self.deny_no_role(descendant)?;
+        self.deny_full_roles()
     }
 
     pub(crate) fn may_add_descendant<'a>(
@@ -163,23 +131,9 @@ impl Policy {
     ) -> Result<(), Hindrance<'a>>
         ensures { Decides (AddDescendant ascendant.now descendant.now) self.now result }
     {
-        let counted = Counted::Roles;
-        deny_if(
-            self.has_role(descendant),
-            Denial::RoleExists,
-            Named::Role { role: descendant },
-        )?;
-        deny_if(
-            !self.has_role(ascendant),
-            Denial::NoRole,
-            Named::Role { role: ascendant },
-        )?;
+        self.deny_role(descendant)?;
+        self.deny_no_role(ascendant)?;
         self.deny_limited(ascendant)?;
-        deny_if(
-            self.role_count() >= MOST_ROLES,
-            Denial::Limit,
-            Named::Count { counted },
-        )?;
-        Ok(())
+        self.deny_full_roles()
     }
 }

@@ -14,34 +14,27 @@ impl Policy {
         match review {
             Review::AssignedUsers { role }
             | Review::AuthorizedUsers { role }
-            | Review::RolePermissions { role } => {
-                deny_if(!self.has_role(role), Denial::NoRole, Named::Role { role })
-            }
+            | Review::RolePermissions { role } => self.deny_no_role(role),
             Review::AssignedRoles { user }
             | Review::AuthorizedRoles { user }
-            | Review::UserPermissions { user } => {
-                let there = self.tables.sets.has_user(user);
-                deny_if(!there, Denial::NoUser, Named::User { user })
-            }
+            | Review::UserPermissions { user } => self.deny_no_user(user),
             Review::SessionRoles { session } | Review::SessionPermissions { session } => {
                 let there = self.tables.sessions.contains(session);
                 deny_if(!there, Denial::NoSession, Named::Session { session })
             }
             Review::RoleOperationsOnObject { role, object } => {
-                deny_if(!self.has_role(role), Denial::NoRole, Named::Role { role })?;
+                self.deny_no_role(role)?;
                 let known = self.vocabulary.has_object(object);
                 deny_if(!known, Denial::NoObject, Named::Object { object })
             }
             Review::UserOperationsOnObject { user, object } => {
-                let there = self.tables.sets.has_user(user);
-                deny_if(!there, Denial::NoUser, Named::User { user })?;
+                self.deny_no_user(user)?;
                 let known = self.vocabulary.has_object(object);
                 deny_if(!known, Denial::NoObject, Named::Object { object })
             }
             Review::RoleSets { .. } => Ok(()),
             Review::RoleSetRoles { kind, set } | Review::RoleSetCardinality { kind, set } => {
-                let there = self.is_set(*kind, set);
-                deny_if(!there, Denial::NoSet, Named::Set { kind: *kind, set })
+                self.deny_no_set(*kind, set)
             }
         }
     }

@@ -108,12 +108,8 @@ impl Policy {
         deny_if(misfits, Denial::BadCardinality, Named::Set { kind, set })?;
         self.deny_breach(kind, set, roles, n)?;
         let counted = Counted::Sets(kind);
-        deny_if(
-            self.set_count(kind) >= MOST_SETS,
-            Denial::Limit,
-            Named::Count { counted },
-        )?;
-        Ok(())
+        let full = self.set_count(kind) >= MOST_SETS;
+        deny_if(full, Denial::Limit, Named::Count { counted })
     }
 
     pub(crate) fn may_delete_set<'a>(
@@ -123,12 +119,7 @@ impl Policy {
     ) -> Result<(), Hindrance<'a>>
         ensures { Decides (DeleteSet kind set.now) self.now result }
     {
-        deny_if(
-            !self.is_set(kind, set),
-            Denial::NoSet,
-            Named::Set { kind, set },
-        )?;
-        Ok(())
+        self.deny_no_set(kind, set)
     }
 
     #[tactic(auto, using(crate::proofs::HindranceLemmas::addition_names))]
@@ -140,12 +131,8 @@ impl Policy {
     ) -> Result<(), Obstacle<'a>>
         ensures { DecidesUnless (AddRoleMember kind set.now role.now) self.now result }
     {
-        deny_if(
-            !self.is_set(kind, set),
-            Denial::NoSet,
-            Named::Set { kind, set },
-        )?;
-        deny_if(!self.has_role(role), Denial::NoRole, Named::Role { role })?;
+        self.deny_no_set(kind, set)?;
+        self.deny_no_role(role)?;
         let inside = self.is_member(kind, set, role);
         deny_if(inside, Denial::InSet, Named::Member { kind, set, role })?;
         let breach = self.addition_breach(kind, set, role)?;
@@ -161,16 +148,11 @@ impl Policy {
     ) -> Result<(), Hindrance<'a>>
         ensures { Decides (DeleteRoleMember kind set.now role.now) self.now result }
     {
-        deny_if(
-            !self.is_set(kind, set),
-            Denial::NoSet,
-            Named::Set { kind, set },
-        )?;
+        self.deny_no_set(kind, set)?;
         let inside = self.is_member(kind, set, role);
         deny_if(!inside, Denial::NotInSet, Named::Member { kind, set, role })?;
         let misfits = self.removal_sizes_badly(kind, set, role);
-        deny_if(misfits, Denial::BadCardinality, Named::Set { kind, set })?;
-        Ok(())
+        deny_if(misfits, Denial::BadCardinality, Named::Set { kind, set })
     }
 
     #[tactic(auto, using(crate::proofs::HindranceLemmas::cardinality_names))]
@@ -182,14 +164,9 @@ impl Policy {
     ) -> Result<(), Hindrance<'a>>
         ensures { Decides (SetCardinality kind set.now n) self.now result }
     {
-        deny_if(
-            !self.is_set(kind, set),
-            Denial::NoSet,
-            Named::Set { kind, set },
-        )?;
+        self.deny_no_set(kind, set)?;
         let misfits = self.cardinality_sizes_badly(kind, set, n);
         deny_if(misfits, Denial::BadCardinality, Named::Set { kind, set })?;
-        self.deny_cardinality(kind, set, n)?;
-        Ok(())
+        self.deny_cardinality(kind, set, n)
     }
 }

@@ -17,18 +17,12 @@ ghost use Rattle.rbac_terms.specs.Authorization.{is_authorized};
 use crate::hindrance::{Hindrance, Obstacle, deny_for, deny_if};
 use crate::named::{Counted, Named};
 use crate::policy::Policy;
+use crate::policy::deciding::known::deny_stranger;
 use digests::Digest;
 use rbac_sessions::Session;
 use rbac_terms::limits::MOST_SESSIONS;
 use rbac_terms::{Denial, Name, NameSet};
 use sorted_keys::Probe;
-
-// Whether the session is the user's.
-fn is_owned_by(session: &Session, user: &Name) -> bool
-    ensures { result ≡ eq_by_cmp name_cmp user.now session.now.owner }
-{
-    user.cmp(&session.owner).is_eq()
-}
 
 // Denies where a test of names alone fails.
 fn deny_plainly(fails: bool, denial: Denial) -> Result<(), Denial>
@@ -88,19 +82,14 @@ impl Policy {
     ) -> Result<(), Hindrance<'a>>
         ensures { Decides (CreateSession user.now session.now roles.now) self.now result }
     {
-        deny_if(
-            !self.tables.sets.has_user(user),
-            Denial::NoUser,
-            Named::User { user },
-        )?;
+        self.deny_no_user(user)?;
         let taken = self.tables.sessions.contains(session);
         deny_if(taken, Denial::SessionExists, Named::Session { session })?;
         self.deny_unauthorized(user, roles)?;
         self.deny_session(user, session, roles)?;
         let counted = Counted::Sessions;
         let full = self.tables.sessions.len() >= MOST_SESSIONS;
-        deny_if(full, Denial::Limit, Named::Count { counted })?;
-        Ok(())
+        deny_if(full, Denial::Limit, Named::Count { counted })
     }
 
     pub(crate) fn may_delete_session<'a>(
@@ -110,20 +99,9 @@ impl Policy {
     ) -> Result<(), Hindrance<'a>>
         ensures { Decides (DeleteSession user.now session.now) self.now result }
     {
-        deny_if(
-            !self.tables.sets.has_user(user),
-            Denial::NoUser,
-            Named::User { user },
-        )?;
-        let Some(found) = self.session(session) else {
-            return Err(Hindrance {
-                denial: Denial::NoSession,
-                named: Named::Session { session },
-            });
-        };
-        let owner = Named::User { user: &found.owner };
-        deny_if(!is_owned_by(found, user), Denial::NotOwner, owner)?;
-        Ok(())
+        self.deny_no_user(user)?;
+        let found = self.known_session(session)?;
+        deny_stranger(found, user)
     }
 
     pub(crate) fn may_add_active_role<'a>(
@@ -134,28 +112,15 @@ impl Policy {
     ) -> Result<(), Obstacle<'a>>
         ensures { DecidesUnless (AddActiveRole user.now session.now role.now) self.now result }
     {
-        deny_if(
-            !self.tables.sets.has_user(user),
-            Denial::NoUser,
-            Named::User { user },
-        )?;
-        let Some(found) = self.session(session) else {
-            return Err(Obstacle::Denied(Hindrance {
-                denial: Denial::NoSession,
-                named: Named::Session { session },
-            }));
-        };
-        deny_if(!self.has_role(role), Denial::NoRole, Named::Role { role })?;
-        let owner = Named::User { user: &found.owner };
-        deny_if(!is_owned_by(found, user), Denial::NotOwner, owner)?;
+        self.deny_no_user(user)?;
+        let found = self.known_session(session)?;
+        self.deny_no_role(role)?;
+        deny_stranger(found, user)?;
         let authorized = self.is_authorized(user, role);
         deny_if(!authorized, Denial::NotAuthorized, Named::Role { role })?;
         let active = found.active.contains(role);
-        deny_if(
-            active,
-            Denial::RoleActive,
-            Named::Activation { session, role },
-        )?;
+        let named = Named::Activation { session, role };
+        deny_if(active, Denial::RoleActive, named)?;
         let breach = self.activation_breach(user, session, found, role)?;
         self.deny_activation(user, session, role, breach)?;
         Ok(())
@@ -169,27 +134,13 @@ impl Policy {
     ) -> Result<(), Hindrance<'a>>
         ensures { Decides (DropActiveRole user.now session.now role.now) self.now result }
     {
-        deny_if(
-            !self.tables.sets.has_user(user),
-            Denial::NoUser,
-            Named::User { user },
-        )?;
-        let Some(found) = self.session(session) else {
-            return Err(Hindrance {
-                denial: Denial::NoSession,
-                named: Named::Session { session },
-            });
-        };
-        deny_if(!self.has_role(role), Denial::NoRole, Named::Role { role })?;
-        let owner = Named::User { user: &found.owner };
-        deny_if(!is_owned_by(found, user), Denial::NotOwner, owner)?;
+        self.deny_no_user(user)?;
+        let found = self.known_session(session)?;
+        self.deny_no_role(role)?;
+        deny_stranger(found, user)?;
         let active = found.active.contains(role);
-        deny_if(
-            !active,
-            Denial::RoleNotActive,
-            Named::Activation { session, role },
-        )?;
-        Ok(())
+        let named = Named::Activation { session, role };
+        deny_if(!active, Denial::RoleNotActive, named)
     }
 
     // Denies where the operation or the object is not known. Both are where something is granted of them, since what is granted is a
@@ -242,12 +193,10 @@ impl Policy {
     ) -> Result<(), Hindrance<'a>>
         ensures { Decides (CheckAccess session.now operation.now object.now) self.now result }
     {
-        let there = self.tables.sessions.contains(session);
-        deny_if(!there, Denial::NoSession, Named::Session { session })?;
+        self.known_session(session)?;
         let known = self.vocabulary.has_operation(operation);
         deny_if(!known, Denial::NoOperation, Named::Operation { operation })?;
         let known = self.vocabulary.has_object(object);
-        deny_if(!known, Denial::NoObject, Named::Object { object })?;
-        Ok(())
+        deny_if(!known, Denial::NoObject, Named::Object { object })
     }
 }
