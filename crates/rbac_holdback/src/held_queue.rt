@@ -1,5 +1,5 @@
 //! What is asked of the commands that are held, however they are kept.
-ghost use Rattle.std.specs.Prelude.{◌≡◌, ◌≤◌, ◌↔◌, IsTrue, [], drop, length, IfErr, OnOk, OnErr, IfSome, IfNone};
+ghost use Rattle.std.specs.Prelude.{◌≡◌, ◌≤◌, ◌↔◌, IsTrue, true, false, Some, [], drop, length, IfErr, OnOk, OnErr, IfSome, IfNone};
 ghost use Rattle.rbac_words.specs.Message.{submitted_at};
 ghost use Rattle.rbac_words.specs.Stamp.{insert_by_stamp, insert_all};
 ghost use Rattle.rbac_words.specs.Keeping.Member.{is_least_passed};
@@ -64,17 +64,29 @@ pub trait HeldQueue: Sized {
         self.len() == 0
     }
 
-    /// Whether the least command is stable: by the latest stamp of each member's messages, item k - 1 for member k, each
-    /// member but `me` and the command's own has passed it, so no command that comes later has a smaller stamp. False
-    /// where nothing is held (Lamport 1978, "Ordering the Events Totally").
+    /// The least command, where it is stable: by the latest stamp of each member's messages, item k - 1 for member k, each
+    /// member but `me` and the command's own has passed it, so no command that comes later has a smaller stamp (Lamport 1978,
+    /// "Ordering the Events Totally").
+    final fn stable_least(&self, me: u32, latest: &[Option<Stamp>]) -> Option<&Held>
+        requires latest { length latest.now ≡ (content self.now).members }
+        requires me { (1 ≤ me) × (me ≤ (content self.now).members) }
+        ensures some { IfSome result (λ x. (least_of (content self.now).held ≡ Some x.now) × (is_least_passed (content self.now).members me latest.now (content self.now).held ≡ true)) }
+        ensures none { IfNone result (is_least_passed (content self.now).members me latest.now (content self.now).held ≡ false) }
+    {
+        let least = self.least()?;
+        if is_passed_by_all(me, latest, least) {
+            Some(least)
+        } else {
+            None
+        }
+    }
+
+    /// Whether the least command is stable, as `stable_least` says. False where nothing is held.
     final fn stable(&self, me: u32, latest: &[Option<Stamp>]) -> bool
         requires latest { length latest.now ≡ (content self.now).members }
         requires me { (1 ≤ me) × (me ≤ (content self.now).members) }
         ensures { result ≡ is_least_passed (content self.now).members me latest.now (content self.now).held }
     {
-        match self.least() {
-            None => false,
-            Some(least) => is_passed_by_all(me, latest, least),
-        }
+        self.stable_least(me, latest).is_some()
     }
 }

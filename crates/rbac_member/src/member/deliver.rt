@@ -56,12 +56,10 @@ impl Member {
         ensures unchanged { OnErr result (self.new ≡ self.old) }
         ensures was_due { OnErr result (is_some (due_at self.old) ≡ true) }
     {
-        // It waits until each other member has sent something of a greater stamp (Lamport 1978, "Ordering the Events Totally", rule 5).
-        if !self.is_due() {
-            return Ok(None);
-        }
-        // The command of the least stamp is first in the total order (rule 5).
-        let Some(next) = self.held.least() else {
+        // The command of the least stamp is first in the total order, and waits until each other member has sent something of a
+        // greater stamp (Lamport 1978, "Ordering the Events Totally", rule 5).
+        let latest = self.links.latest();
+        let Some(next) = self.held.stable_least(self.number, latest) else {
             return Ok(None);
         };
         // All memory is taken before anything changes.
@@ -70,12 +68,5 @@ impl Member {
         let place = self.history.len();
         take_over(&mut self.held, &mut self.history, answer);
         Ok(Some(place))
-    }
-
-    // Whether the least held command is due.
-    fn is_due(&self) -> bool
-        ensures { result ≡ is_some (due_at self.now) }
-    {
-        self.held.stable(self.number, self.links.latest())
     }
 }

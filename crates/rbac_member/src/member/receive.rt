@@ -1,5 +1,5 @@
 //! How a member receives what the others send.
-ghost use Rattle.std.specs.Prelude.{◌≡◌, ◌≢◌, ◌<◌, ◌≤◌, ◌++◌, true, None, is_some, length, IfOk, IfErr, OnOk, OnErr};
+ghost use Rattle.std.specs.Prelude.{◌≡◌, ◌≢◌, ◌<◌, ◌≤◌, ◌++◌, true, None, Some, is_some, length, if◌then◌else◌, IfOk, IfErr, OnOk, OnErr};
 ghost use Rattle.rbac_words.specs.Message.{has_commands as message_has_commands, has_bad_batch as message_has_bad_batch, has_later};
 ghost use Rattle.rbac_words.specs.Stamp.{has_passed as stamp_has_passed};
 ghost use Rattle.rbac_words.specs.World.{acks};
@@ -76,9 +76,16 @@ fn acknowledge(outbox: &mut Outbox, stamp: Option<Stamp>)
     }
 }
 
+// What a message leaves: the clock after it, and whether it is acknowledged.
+#[derive(Clone, Copy, Drop)]
+struct Receipt {
+    clock: u64,
+    is_acknowledged: bool,
+}
+
 impl Member {
     ghost use Rattle.rbac_words.specs.Keeping.Member.{IsNext, node_of, links_of, received, serial_refusal, message_refusal};
-    ghost use Rattle.rbac_words.specs.World.{must_acknowledge, clock_after, acknowledgement, room_refusal};
+    ghost use Rattle.rbac_words.specs.World.{stamp, must_acknowledge, clock_after, acknowledgement, room_refusal};
     ghost use Rattle.rbac_words.specs.Keeping.Own.{first_answer};
     ghost use Rattle.rbac_words.specs.Limits.{last_clock};
     ghost use Rattle.rbac_member.specs.Calls.{receipt_refused, rule_of};
@@ -103,9 +110,9 @@ impl Member {
         ensures memory_needed { IfErr result (λ refusal. refusal ≡ ReceiveRefusal.NoMemory → message_has_commands message.now ≡ true) }
         ensures unchanged { OnErr result (self.new ≡ self.old) }
     {
-        let clock = self.clock_upon(from, number, message)?;
-        let stamp = self.acknowledgement(message, clock);
-        match self.take(from, number, message, clock, stamp) {
+        let receipt = self.receipt(from, number, message)?;
+        let stamp = self.stamp_if(receipt.is_acknowledged, receipt.clock);
+        match self.take(from, number, message, receipt.clock, stamp) {
             Ok(()) => Ok(stamp),
             Err(AllocError) => Err(ReceiveRefusal::NoMemory),
         }
@@ -126,24 +133,24 @@ impl Member {
         ensures accepted { OnOk result (message_refusal self.now from number message.now ≡ None) }
         ensures first_refusal { IfErr result (λ refusal. message_refusal self.now from number message.now ≡ rule_of (receipt_refused refusal)) }
     {
-        self.clock_upon(from, number, message)?;
-        Ok(self.answer_before(message))
+        let receipt = self.receipt(from, number, message)?;
+        Ok(self.answer_before(message, receipt.is_acknowledged))
     }
 
     // The stamp of what is sent before a message is received, if it is to be acknowledged, where the clock has room for it.
-    fn answer_before(&self, message: &Message) -> Option<Stamp>
-        requires { clock_after (node_of self.now) message.now ≤ last_clock }
+    fn answer_before(&self, message: &Message, is_acknowledged: bool) -> Option<Stamp>
+        requires room { clock_after (node_of self.now) message.now ≤ last_clock }
+        requires acknowledged { is_acknowledged ≡ must_acknowledge (node_of self.now) message.now }
         ensures { result ≡ first_answer self.now message.now }
     {
-        if self.must_acknowledge(message) {
-            Some(Stamp {
-                clock: self.clock.max(message.stamp().clock) + 1,
-                member: self.number,
-                place: 0,
-            })
-        } else {
-            None
+        if !is_acknowledged {
+            return None;
         }
+        Some(Stamp {
+            clock: self.clock.max(message.stamp().clock) + 1,
+            member: self.number,
+            place: 0,
+        })
     }
 
     // Whether something was sent after this stamp: the last message was, since stamps rise.
@@ -161,25 +168,24 @@ impl Member {
         has_commands(message) && !self.has_later(message.stamp())
     }
 
-    // The stamp of what is sent upon a message that leaves this clock, if it is acknowledged.
-    fn acknowledgement(&self, message: &Message, clock: u64) -> Option<Stamp>
-        requires { clock ≡ clock_after (node_of self.now) message.now }
-        ensures { result ≡ acknowledgement (node_of self.now) message.now }
+    // The stamp of this member at a clock, where something is sent then.
+    fn stamp_if(&self, is_sent: bool, clock: u64) -> Option<Stamp>
+        ensures { result ≡ (if is_sent then Some (stamp clock self.now.number) else None) }
     {
-        if self.must_acknowledge(message) {
-            Some(Stamp {
-                clock,
-                member: self.number,
-                place: 0,
-            })
-        } else {
-            None
+        if !is_sent {
+            return None;
         }
+        Some(Stamp {
+            clock,
+            member: self.number,
+            place: 0,
+        })
     }
 
-    // The clock after a message, where clock and sent list have room for it and its acknowledgement, if there is one.
-    fn room_for(&self, message: &Message) -> Result<u64, ReceiveRefusal>
-        ensures clock { IfOk result (λ clock. clock ≡ clock_after (node_of self.now) message.now) }
+    // What a message leaves, where clock and sent list have room for it and its acknowledgement, if there is one.
+    fn room_for(&self, message: &Message) -> Result<Receipt, ReceiveRefusal>
+        ensures clock { IfOk result (λ receipt. receipt.clock ≡ clock_after (node_of self.now) message.now) }
+        ensures acknowledged { IfOk result (λ receipt. receipt.is_acknowledged ≡ must_acknowledge (node_of self.now) message.now) }
         ensures accepted { OnOk result (room_refusal self.now.group (node_of self.now) message.now ≡ None) }
         ensures first_refusal { IfErr result (λ refusal. (room_refusal self.now.group (node_of self.now) message.now ≡ rule_of (receipt_refused refusal)) × (refusal ≢ ReceiveRefusal.NoMemory)) }
     {
@@ -194,7 +200,10 @@ impl Member {
         if is_acknowledged && self.outbox.is_full() {
             return Err(ReceiveRefusal::SentFull);
         }
-        Ok(seen + steps)
+        Ok(Receipt {
+            clock: seen + steps,
+            is_acknowledged,
+        })
     }
 
     // Whether the first command of a message has its caller's next serial.
@@ -219,9 +228,10 @@ impl Member {
         Ok(())
     }
 
-    // The clock after a message, where nothing but memory stands in its way.
-    fn clock_upon(&self, from: u32, number: u32, message: &Message) -> Result<u64, ReceiveRefusal>
-        ensures clock { IfOk result (λ clock. clock ≡ clock_after (node_of self.now) message.now) }
+    // What a message leaves, where nothing but memory stands in its way.
+    fn receipt(&self, from: u32, number: u32, message: &Message) -> Result<Receipt, ReceiveRefusal>
+        ensures clock { IfOk result (λ receipt. receipt.clock ≡ clock_after (node_of self.now) message.now) }
+        ensures acknowledged { IfOk result (λ receipt. receipt.is_acknowledged ≡ must_acknowledge (node_of self.now) message.now) }
         ensures accepted { OnOk result (message_refusal self.now from number message.now ≡ None) }
         ensures first_refusal { IfErr result (λ refusal. (message_refusal self.now from number message.now ≡ rule_of (receipt_refused refusal)) × (refusal ≢ ReceiveRefusal.NoMemory)) }
     {
@@ -230,9 +240,9 @@ impl Member {
         if has_bad_batch(message) {
             return Err(ReceiveRefusal::BadBatch);
         }
-        let clock = self.room_for(message)?;
+        let receipt = self.room_for(message)?;
         self.serial_in_turn(message)?;
-        Ok(clock)
+        Ok(receipt)
     }
 
     // Takes a message that nothing but memory stands in the way of.
