@@ -1,5 +1,7 @@
 //! What was published and not yet told, and who could not be reached.
 
+use crate::courier::Wake;
+
 // Of a group.
 const MOST_MEMBERS: usize = 8;
 
@@ -13,6 +15,20 @@ impl News {
     pub(crate) fn none() -> News {
         News {
             up_to: [0; MOST_MEMBERS],
+        }
+    }
+
+    /// All that any member publishes, or what a hint tells.
+    pub(crate) fn of(wake: Wake) -> News {
+        match wake {
+            Wake::Hint(hint) => {
+                let mut news = News::none();
+                news.set((hint.from as usize).wrapping_sub(1), hint.number);
+                news
+            }
+            Wake::Sweep => News {
+                up_to: [usize::MAX; MOST_MEMBERS],
+            },
         }
     }
 

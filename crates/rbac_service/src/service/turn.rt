@@ -79,17 +79,15 @@ impl<G: GroupName, K: Gate + Drop, C: Courier + Drop> Service<G, K, C> {
         Ok(())
     }
 
-    // Receives what a wake is about: up to the number that a hint tells, and of each member all at a sweep.
-    fn receive(&self, node: &mut Node<G>, wake: Wake) -> Result<(), AllocError> {
-        match wake {
-            Wake::Hint(hint) => self.receive_from(node, hint.from, hint.number),
-            Wake::Sweep => {
-                for place in 0..self.rows.members() {
-                    self.receive_from(node, place as u32 + 1, usize::MAX)?;
-                }
-                Ok(())
+    // Receives what is news, of each member up to its number.
+    fn receive(&self, node: &mut Node<G>, news: &News) -> Result<(), AllocError> {
+        for place in 0..self.rows.members() {
+            let from = place as u32 + 1;
+            if let Some(last) = news.up_to(from) {
+                self.receive_from(node, from, last)?;
             }
         }
+        Ok(())
     }
 
     // Whether a member is to hear news of another one. A member's own message brings it nothing that is due while there are others.
@@ -121,7 +119,7 @@ impl<G: GroupName, K: Gate + Drop, C: Courier + Drop> Service<G, K, C> {
         alloc: Global,
         slot: &Slot<G>,
         node: MutexGuard<'_, Node<G>>,
-        wake: Wake,
+        news: &News,
     ) -> Turned {
         let mut node = node;
         if node.is_stopped() {
@@ -131,7 +129,7 @@ impl<G: GroupName, K: Gate + Drop, C: Courier + Drop> Service<G, K, C> {
             };
         }
         let (sent, records) = (node.published(), node.published_records());
-        let received = self.receive(&mut node, wake);
+        let received = self.receive(&mut node, news);
         let delivered = node.deliver_all(alloc);
         let published = self.publish(alloc, &mut node);
         let sent_now = node.published();
@@ -153,7 +151,7 @@ impl<G: GroupName, K: Gate + Drop, C: Courier + Drop> Service<G, K, C> {
     }
 
     // A turn of a member in place of its thread, where that one runs and the lock is free.
-    fn help(&self, alloc: Global, at: u32) -> Help {
+    fn help(&self, alloc: Global, at: u32, news: &News) -> Help {
         let Some(slot) = self.slot(at) else {
             return Help::Hint;
         };
@@ -163,7 +161,7 @@ impl<G: GroupName, K: Gate + Drop, C: Courier + Drop> Service<G, K, C> {
         let Some(node) = slot.node.try_lock() else {
             return Help::Busy;
         };
-        let turned = self.take_turn(alloc, slot, node, Wake::Sweep);
+        let turned = self.take_turn(alloc, slot, node, news);
         if let Some(number) = turned.news {
             self.round.leave(at, number);
         }
@@ -185,7 +183,7 @@ impl<G: GroupName, K: Gate + Drop, C: Courier + Drop> Service<G, K, C> {
             if !self.is_news(at, load.news()) && !load.has_missed(at) {
                 continue;
             }
-            match self.help(alloc, at) {
+            match self.help(alloc, at, load.unheard(at)) {
                 Help::Done => {}
                 Help::Busy => missed.add(at),
                 Help::Hint => self.tell(at, load.unheard(at)),
@@ -237,7 +235,7 @@ impl<G: GroupName, K: Gate + Drop, C: Courier + Drop> Service<G, K, C> {
         let Some(slot) = self.slot(at) else {
             return Turn::Stopped;
         };
-        let turned = self.take_turn(alloc, slot, slot.node.lock(rt), wake);
+        let turned = self.take_turn(alloc, slot, slot.node.lock(rt), &News::of(wake));
         if let Some(number) = turned.news {
             let first = match wake {
                 Wake::Hint(hint) => hint.from,
