@@ -1,4 +1,4 @@
+mod AddressLemmas
 pub mod AgreementLemmas
 mod ImageLemmas
 mod RowLemmas
-mod SightLemmas

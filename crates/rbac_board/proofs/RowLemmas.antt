@@ -1,15 +1,17 @@
 -- What is known of the first cells of a row, where more is learned.
-use Rattle.std.proofs.Common.{◌≡◌, ◌≤◌, ◌+◌, ℕ, List, ◌++◌, length, map, take, drop, ap, sym, ◌∙◌, arith, length-append}
+use Rattle.std.proofs.Common.{◌≡◌, ◌≤◌, ◌<◌, ◌+◌, ◌⊎◌, inl, inr, ℕ, List, [], ◌∷◌, ◌++◌, length, map, take, take-suc, drop, slice_get, Some, Result, Ok, Err, OnOk, OnErr, ap, sym, subst, ◌∙◌, arith, add-one, length-append}
 use Rattle.std.proofs.lemmas.List.{map-append, take-map, drop-map, take-take, take-append-drop, length-map, length-take-le}
+use Rattle.std.proofs.lemmas.Option.{slice_get_within, get_or_from_slice_get}
+use Rattle.rbac_board.specs.Address.{Address}
 use Rattle.rbac_board.specs.Seen.{Seen}
-use Rattle.rbac_board.specs.Known.{IsOf, known_of}
+use Rattle.rbac_board.specs.Known.{Known, IsOf, known_of}
 
 -- the first items of a list and those from there on, as far as another place
 pub take_more : {A : Type 0} (xs : List A) (m n : ℕ) → m ≤ n → take m xs ++ drop m (take n xs) ≡ take n xs
 take_more xs m n le = ap (λ l. l ++ drop m (take n xs)) (sym (take-take m n xs le)) ∙ take-append-drop m (take n xs)
 
 -- what two marks of a row know, the second from where the first ends, as far as some place
-pub of_more : {T : Type 0} (row : List ℕ) (xs ys : List (Seen T)) (count : ℕ) → length xs ≤ count → count ≤ length ys → IsOf row (known_of xs) → IsOf row (known_of ys)
+pub of_more : {T : Type 0} (row : List Address) (xs ys : List (Seen T)) (count : ℕ) → length xs ≤ count → count ≤ length ys → IsOf row (known_of xs) → IsOf row (known_of ys)
     → IsOf row (known_of (xs ++ drop (length xs) (take count ys)))
 of_more {T} row xs ys count low high of also =
     let all = xs ++ drop (length xs) (take count ys) in
@@ -38,3 +40,27 @@ of_more {T} row xs ys count low high of also =
 
     subst_within : length ys ≤ length row
     subst_within = let a : length (map (λ (s : Seen T). s.value) ys) ≤ length row = also.within in let b : length (map (λ (s : Seen T). s.value) ys) ≡ length ys = length-map ys (λ (s : Seen T). s.value) in omega arith
+
+-- what is known of a row, and the next cell
+pub of_next : {T : Type 0} (row : List Address) (k more : Known T) (cell : Address) (value : T) → IsOf row k → slice_get row (length k.values) ≡ Some cell → more.cells ≡ k.cells ++ cell ∷ [] → more.values ≡ k.values ++ value ∷ [] → IsOf row more
+of_next row k more cell value of next cells values =
+    let n = length k.values in
+    let long : length more.values ≡ n + 1 = ap length values ∙ length-append k.values (value ∷ []) in
+    let within : n < length row = slice_get_within row n cell next in record {
+      within = omega (arith, long, within);
+      cells =
+          cells
+          ∙ ap (λ l. l ++ cell ∷ []) of.cells
+          ∙ ap (λ c. take n row ++ c ∷ []) (sym (get_or_from_slice_get row n cell cell next))
+          ∙ sym (take-suc row n cell within)
+          ∙ ap (λ m. take m row) (sym (long ∙ add-one n));
+    }
+
+-- the same where a cell may be set
+pub of_set : {T E : Type 0} (result : Result (Unit {0}) E) (row : List Address) (k more : Known T) (place : ℕ) (cell : Address) (value : T) → IsOf row k → (place ≡ length k.values) ⊎ (length row ≤ place) → slice_get row place ≡ Some cell
+    → OnOk result (more.cells ≡ k.cells ++ cell ∷ []) → OnOk result (more.values ≡ k.values ++ value ∷ []) → OnErr result (more ≡ k) → IsOf row more
+of_set (Ok done) row k more place cell value of (inl next) here cells values same =
+    of_next row k more cell value of (ap (slice_get row) (sym next) ∙ here) cells values
+of_set (Ok done) row k more place cell value of (inr beyond) here cells values same =
+    absurd (omega (arith, slice_get_within row place cell here, beyond))
+of_set (Err refusal) row k more place cell value of next here cells values same = subst (IsOf row) (sym same) of

@@ -1,3 +1,4 @@
+pub mod Address
 pub mod Known
 pub mod Refused
 pub mod Seen

@@ -4,6 +4,7 @@
 //! keep a mark of each. No call waits, and none takes a lock.
 #![tactic(auto)]
 
+mod block;
 mod mark;
 mod refusal;
 mod row;

@@ -1,12 +1,13 @@
 //! What is known of a row.
-ghost use Rattle.std.specs.Prelude.{ℕ, List, ◌≡◌, ◌≤◌, ◌<◌, ◌+◌, ◌-◌, ◌∷◌, ◌++◌, [], length, map, IfOk, IfErr, OnOk, OnErr, IsTrue, is_some, slice_get, slice_index_or, take, drop, vec_len, vec_capacity};
-ghost use Rattle.std.specs.Option.{option_to_list, MatchOption};
+ghost use Rattle.std.specs.Prelude.{List, ◌≡◌, ◌≤◌, ◌<◌, ◌+◌, ◌-◌, ◌∷◌, ◌++◌, [], length, map, IfOk, IfErr, OnOk, OnErr, Some, IsSomeAnd, slice_get, take, drop, vec_len, vec_capacity};
 ghost use Rattle.once_cell.specs.Once.{cell_name};
+ghost use Rattle.rbac_board.specs.Address.{Address};
 ghost use Rattle.rbac_board.specs.Known.{Agree, AreOfOneRow, IsOf};
 
+use crate::block::Block;
 use crate::refusal::SetRefusal;
 use crate::sight::Sight;
-use once_cell::race::{Note, OnceBox};
+use once_cell::race::OnceBox;
 use std::alloc::{AllocError, Global};
 use std::marker::Model;
 
@@ -81,25 +82,24 @@ impl<T> Mark<T> {
         self.sights.len()
     }
 
-    // Adds a cell whose value the note knows.
-    pub(crate) fn add(&mut self, note: Note<T>) -> Result<(), AllocError>
-        requires { IsTrue (is_some note.known) }
-        ensures cells { OnOk result (self.new.cells ≡ self.old.cells ++ note.cell ∷ []) }
-        ensures values { OnOk result (self.new.values ≡ self.old.values ++ option_to_list note.known) }
+    // Adds a cell that was seen.
+    pub(crate) fn add(&mut self, sight: Sight<T>) -> Result<(), AllocError>
+        ensures cells { OnOk result (self.new.cells ≡ self.old.cells ++ sight.cell ∷ []) }
+        ensures values { OnOk result (self.new.values ≡ self.old.values ++ sight.value ∷ []) }
         ensures unchanged { OnErr result (self.new ≡ self.old) }
     {
-        self.sights.push(Sight::of(note))?;
+        self.sights.push(sight)?;
         Ok(())
     }
 
-    // A note of a cell that is known.
-    pub(crate) fn note(&mut self, place: usize) -> Note<T>
-        requires { place < length self.old.values }
-        ensures cell { result.cell ≡ slice_index_or self.old.cells place result.cell }
-        ensures known { result.known ≡ slice_get self.old.values place }
+    // The value of a cell that is known. Its block is in the cell that is passed.
+    pub(crate) fn value<'a>(&mut self, place: usize, holder: &'a OnceBox<Block<T>>) -> &'a T
+        requires known { place < length self.old.values }
+        requires holder { IsSomeAnd (slice_get self.old.cells place) (λ address. address.block ≡ cell_name holder.now) }
+        ensures value { slice_get self.old.values place ≡ Some result.now }
         ensures unchanged { self.new ≡ self.old }
     {
-        self.sights[place].note()
+        self.sights[place].value(holder)
     }
 
     /// A second mark that knows the same.
@@ -136,7 +136,7 @@ impl<T> Mark<T> {
     pub fn learn(&mut self, other: &mut Mark<T>, count: usize) -> Result<(), AllocError>
         requires one_row { AreOfOneRow self.old other.old }
         requires known { count ≤ length other.old.values }
-        ensures of { (row : List ℕ) → IsOf row self.old → IsOf row other.old → IsOf row self.new }
+        ensures of { (row : List Address) → IsOf row self.old → IsOf row other.old → IsOf row self.new }
         ensures learned { OnOk result (self.new.values ≡ self.old.values ++ drop (length self.old.values) (take count other.old.values)) }
         ensures agree { Agree self.old.values other.old.values }
         ensures unchanged { OnErr result (self.new ≡ self.old) }
@@ -155,9 +155,15 @@ impl<T> Mark<T> {
 impl<T: Drop> Mark<T> {
     ghost use Rattle.rbac_board.specs.Refused.{value_back, IsRowFull};
 
-    // Sets a cell, and knows the value that was passed.
-    pub(crate) fn set(&mut self, cell: &OnceBox<T>, value: Box<T>) -> Result<(), SetRefusal<T>>
-        ensures cells { OnOk result (self.new.cells ≡ self.old.cells ++ cell_name cell.now ∷ []) }
+    // Sets the cell at a place of the block that another cell holds, or will, and knows the value that was passed.
+    pub(crate) fn set(
+        &mut self,
+        holder: &OnceBox<Block<T>>,
+        place: u8,
+        alloc: Global,
+        value: Box<T>,
+    ) -> Result<(), SetRefusal<T>>
+        ensures cells { OnOk result (self.new.cells ≡ self.old.cells ++ record { block = cell_name holder.now; place = place } ∷ []) }
         ensures values { OnOk result (self.new.values ≡ self.old.values ++ value.value ∷ []) }
         ensures back { IfErr result (λ refusal. value_back refusal ≡ value.value) }
         ensures not_full { IfErr result (λ refusal. IsRowFull refusal → ⊥) }
@@ -166,15 +172,14 @@ impl<T: Drop> Mark<T> {
         if self.sights.reserve(1).is_err() {
             return Err(SetRefusal::NoMemory(value));
         }
-        let mut note = cell.note();
-        match cell.set_as(value, &mut note) {
-            Ok(()) => {
-                let Ok(()) = self.sights.push(Sight::of(note)) else {
+        match Sight::set(holder, place, alloc, value) {
+            Ok(sight) => {
+                let Ok(()) = self.sights.push(sight) else {
                     unreachable!()
                 };
                 Ok(())
             }
-            Err(value) => Err(SetRefusal::Taken(value)),
+            Err(refusal) => Err(refusal),
         }
     }
 }

@@ -13,7 +13,8 @@ pub enum SetRefusal<T> {
     /// The cell holds a value already, which may be one that the mark does not know.
     #[error("the cell holds a value already")]
     Taken(Box<T>),
-    /// The mark can't grow. This is found out before the cell is tried, so the cell may hold a value too.
+    /// The mark can't grow, or the cell's block gets no memory. This is found out before the cell is tried, so the cell may hold
+    /// a value too.
     #[error("no memory")]
     NoMemory(Box<T>),
 }

@@ -1,6 +1,7 @@
 //! What a caller holds: its pass, its outstanding ticket, and the answer.
-ghost use Rattle.std.specs.Prelude.{ℕ, List, ◌≡◌, ◌≢◌, ◌≤◌, ◌<◌, ◌+◌, ◌∷◌, ◌↔◌, ◌⊎◌, true, false, None, Some, [], max, length, IsTrue, IfOk, IfErr, OnOk, OnErr, IfSome, MatchOption};
+ghost use Rattle.std.specs.Prelude.{List, ◌≡◌, ◌≢◌, ◌≤◌, ◌<◌, ◌+◌, ◌∷◌, ◌↔◌, ◌⊎◌, true, false, None, Some, [], max, length, IsTrue, IfOk, IfErr, OnOk, OnErr, IfSome, MatchOption};
 ghost use Rattle.rbac_words.specs.Play.{IsPrefixOf};
+ghost use Rattle.rbac_board.specs.Address.{Address};
 ghost use Rattle.rbac_board.specs.Known.{AreOfOneRow, IsOf};
 ghost use Rattle.rbac_node.specs.Cells.{history_cells};
 
@@ -49,7 +50,7 @@ fn catch_up(mark: &mut Mark<Record>, other: &mut Mark<Record>) -> Result<(), All
     ensures longer { OnOk result (length mark.new.values ≡ max (length mark.old.values) (length other.old.values)) }
     ensures begins { IsPrefixOf mark.old.values mark.new.values }
     ensures other_begins { IsPrefixOf other.old.values other.new.values }
-    ensures of { (row : List ℕ) → IsOf row mark.old → IsOf row other.old → IsOf row mark.new × IsOf row other.new }
+    ensures of { (row : List Address) → IsOf row mark.old → IsOf row other.old → IsOf row mark.new × IsOf row other.new }
     ensures either { (mark.new ≡ mark.old) ⊎ (mark.new.values ≡ other.old.values) }
     ensures other_either { (other.new ≡ other.old) ⊎ (other.new.values ≡ mark.old.values) }
     ensures unchanged { OnErr result (mark.new ≡ mark.old) }

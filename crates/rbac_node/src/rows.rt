@@ -7,7 +7,7 @@ use rbac_words::{Group, Message, Record};
 use std::alloc::{AllocError, Global};
 use std::marker::Model;
 
-/// Each member's sent row and history row. A contract sees the names of their cells.
+/// Each member's sent row and history row. A contract sees the addresses of their cells.
 #[derive(Drop)]
 pub struct Rows {
     sent: Vec<Row<Message>>,

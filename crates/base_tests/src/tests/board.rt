@@ -191,6 +191,66 @@ fn learns_what_another_mark_knows(rt: HostRuntime) {
     drop(row);
 }
 
+// The letter of a place. The first of the second block is another than the first of the row.
+fn letter_at(place: usize) -> u8 {
+    (place % 251) as u8
+}
+
+// Sets so many of the first cells.
+fn set_first_many(rt: &impl Abort, alloc: Global, row: &Row<Letter>, count: usize) -> Mark<Letter>
+    ensures { IsOf row.now result }
+{
+    let mut mark = row.mark();
+    for place in 0..count {
+        let letter = letter_of(alloc, letter_at(place)).expect(rt, "memory");
+        assert!(rt; row.set(&mut mark, place, letter).is_ok());
+    }
+    mark
+}
+
+// Reads so many of the first cells, and finds nothing after them.
+fn read_first_many(rt: &impl Abort, row: &Row<Letter>, count: usize) -> Mark<Letter>
+    ensures { IsOf row.now result }
+{
+    let mut mark = row.mark();
+    for place in 0..count {
+        expect_read(rt, row, &mut mark, Some(letter_at(place)));
+    }
+    expect_read(rt, row, &mut mark, None);
+    mark
+}
+
+// The last cell of the first block and the first of the second, as two marks of the row know them.
+fn expect_two_blocks(
+    rt: &impl Abort,
+    row: &Row<Letter>,
+    fresh: &mut Mark<Letter>,
+    mark: &mut Mark<Letter>,
+)
+    requires fresh { IsOf row.now fresh.old }
+    requires mark { IsOf row.now mark.old }
+{
+    assert!(rt; fresh.len() == 257 && mark.len() == 257);
+    fresh.agree(mark);
+    assert!(rt; row.known(fresh, 255).code == 4);
+    assert!(rt; row.known(mark, 256).code == 5);
+}
+
+#[test]
+fn a_row_goes_on_in_a_second_block(rt: HostRuntime) {
+    let alloc = rt.alloc();
+    let row = Row::found(alloc, 258).expect(&rt, "memory");
+    let mut mark = set_first_many(&rt, alloc, &row, 257);
+    let mut fresh = read_first_many(&rt, &row, 257);
+    expect_two_blocks(&rt, &row, &mut fresh, &mut mark);
+    expect_cell(&rt, &row, 0, Some(0));
+    expect_cell(&rt, &row, 256, Some(5));
+    expect_cell(&rt, &row, 257, None);
+    drop(fresh);
+    drop(mark);
+    drop(row);
+}
+
 // A boxed letter, made again where a growth is refused.
 fn boxed(rt: &impl Abort, alloc: Global, code: u8) -> Box<Letter> {
     match letter_of(alloc, code) {

@@ -1,5 +1,5 @@
 use Rattle.std.proofs.Common.{◌≡◌, length}
-use Rattle.rbac_board.proofs.row.Row.found.Given as goal
+use Rattle.rbac_board.proofs.block.empty_cells.Given as goal
 
 abbrev pub invariant-loop : goal.invariant-loop
 invariant-loop g l = length l.cells.items ≡ l.counter
