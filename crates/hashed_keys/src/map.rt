@@ -94,6 +94,18 @@ impl<K: Ord + Digest + Drop, V: Drop> HashedMap<K, V> {
         }
     }
 
+    /// The value at a key that is looked for at a place in the order of the keys, and elsewhere only where it does not stand there.
+    #[inline(always)]
+    pub fn get_near<P: Probe<K> + Digest>(&self, place: usize, probe: &P) -> Option<&V>
+        ensures { option_copied result ≡ find K.cmp (P.sought probe.now) self.now.content }
+    {
+        self.invariants();
+        match self.at(place) {
+            Some(entry) if probe.compare(&entry.0).is_eq() => Some(&entry.1),
+            _ => self.get(probe),
+        }
+    }
+
     /// Whether there is an entry at the key.
     #[inline(always)]
     pub fn contains<P: Probe<K> + Digest>(&self, probe: &P) -> bool

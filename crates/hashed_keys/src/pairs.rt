@@ -132,6 +132,18 @@ impl<A: Exact + Digest + Drop, B: Exact + Drop> HashedPairs<A, B> {
         }
     }
 
+    /// The second halves that stand behind a first one, in order. It is looked for at a place in the order of the first ones, and
+    /// elsewhere only where it does not stand there.
+    #[inline(always)]
+    pub fn seconds_near<P: Probe<A> + Digest>(&self, place: usize, first: &P) -> &[B]
+        ensures { result.now ≡ seconds A.cmp (P.sought first.now) self.now.content }
+    {
+        match self.sets.get_near(place, first) {
+            Some(set) => set.keys(),
+            None => &[],
+        }
+    }
+
     /// Whether it is one of the pairs.
     pub fn contains<P: Probe<A> + Digest, Q: Probe<B>>(&self, first: &P, second: &Q) -> bool
         ensures { result ≡ has (by_pair A.cmp B.cmp) (P.sought first.now, Q.sought second.now) self.now.content }

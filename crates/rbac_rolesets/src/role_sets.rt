@@ -160,6 +160,13 @@ impl RoleSets {
         self.granted.set(permission)
     }
 
+    // The roles of a permission, which is looked for at a place in PA, and elsewhere only where it does not stand there.
+    pub(crate) fn roles_near(&self, place: usize, permission: &(Name, Name)) -> &[Name]
+        ensures { result.now ≡ seconds pair_cmp permission.now self.now.content.granted }
+    {
+        self.granted.seconds_near(place, permission)
+    }
+
     /// The users that pass a test.
     ///
     /// # Errors

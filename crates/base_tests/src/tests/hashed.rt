@@ -201,6 +201,20 @@ fn has_seconds(
     pairs.seconds(&name(rt, alloc, key)) == wanted
 }
 
+// Whether a first half has these second ones, wherever it is looked for first.
+fn has_seconds_near(
+    rt: &impl Abort,
+    alloc: Global,
+    pairs: &HashedPairs<Name, u64>,
+    key: &str,
+    wanted: &[u64],
+) -> bool {
+    let key = name(rt, alloc, key);
+    pairs.seconds_near(0, &key) == wanted
+        && pairs.seconds_near(1, &key) == wanted
+        && pairs.seconds_near(2, &key) == wanted
+}
+
 fn pair_count(rt: &impl Abort, alloc: Global, pairs: &HashedPairs<Name, u64>) -> usize {
     let listed = pairs.pairs(alloc).expect(rt, "memory");
     let count = listed.len();
@@ -234,6 +248,9 @@ fn three_pairs(rt: &impl Abort, alloc: Global) -> HashedPairs<Name, u64> {
 fn pairs_are_found_by_their_first_half(rt: HostRuntime) {
     let alloc = rt.alloc();
     let pairs = three_pairs(&rt, alloc);
+    assert!(rt; has_seconds_near(&rt, alloc, &pairs, "read", &[3, 5]));
+    assert!(rt; has_seconds_near(&rt, alloc, &pairs, "pay", &[4]));
+    assert!(rt; has_seconds_near(&rt, alloc, &pairs, "approve", &[]));
     assert!(rt; has_seconds(&rt, alloc, &pairs, "read", &[3, 5]));
     assert!(rt; has_seconds(&rt, alloc, &pairs, "approve", &[]));
     assert!(rt; has_pair(&rt, alloc, &pairs, "pay", 4));

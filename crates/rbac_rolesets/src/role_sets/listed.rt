@@ -13,6 +13,7 @@ use crate::role_sets::users_with::users_with;
 use rbac_terms::{Name, NameSet, PermissionSet, Vocabulary};
 use sorted_keys::{KeyTest, SortedSet};
 use std::alloc::{AllocError, Global};
+use std::cell::Cell;
 
 // The roles that are assigned to a user.
 #[derive(Drop)]
@@ -29,21 +30,25 @@ impl KeyTest<Name> for RolesOf<'_> {
     }
 }
 
-// The permissions that are granted to a role that passes a test.
+// The permissions that are granted to a role that passes a test. They are asked for in order.
 #[derive(Drop)]
 struct GrantedTo<'a, T> {
     sets: &'a RoleSets,
     test: &'a T,
+    // How many of those that were asked for are granted: the next one that is stands at this place in PA, where PA has no other.
+    place: Cell<usize>,
 }
 
 impl<T: KeyTest<Name>> KeyTest<(Name, Name)> for GrantedTo<'_, T> {
     ghost passes = { λ granted permission. list_any (T.passes granted.test.now) (seconds pair_cmp permission granted.sets.now.content.granted) };
 
     fn test(&self, permission: &(Name, Name)) -> bool {
-        self.sets
-            .grants_of(&permission.0, &permission.1)
-            .iter()
-            .any(|role| self.test.test(role))
+        let place = self.place.get();
+        let roles = self.sets.roles_near(place, permission);
+        if !roles.is_empty() {
+            self.place.set(place.wrapping_add(1));
+        }
+        roles.iter().any(|role| self.test.test(role))
     }
 }
 
@@ -100,7 +105,11 @@ impl RoleSets {
     ) -> Result<PermissionSet, AllocError>
         ensures { IfOk result (λ permissions. permissions ≡ filter (λ permission. list_any (λ grant. eq_by_cmp pair_cmp permission grant.0 && T.passes test.now grant.1) self.now.content.granted) vocabulary.now.permissions) }
     {
-        let granted = GrantedTo { sets: self, test };
+        let granted = GrantedTo {
+            sets: self,
+            test,
+            place: Cell::new(0),
+        };
         vocabulary.permissions_where(alloc, &granted)
     }
 }
