@@ -1,5 +1,5 @@
 //! The names of a founding file.
-ghost use Rattle.std.specs.Prelude.{◌≡◌, ◌&&◌, Bool, map, if◌then◌else◌, Ok, Err};
+ghost use Rattle.std.specs.Prelude.{◌≡◌, ◌&&◌, Bool, map, if◌then◌else◌, IfOk, Ok, Err};
 ghost use Rattle.std.specs.List.{list_all};
 ghost use Rattle.rbac_terms.specs.Name.{is_name};
 ghost use Rattle.rbac_text.specs.Steps.{seen};
@@ -10,7 +10,9 @@ use crate::entries::pair_of;
 use crate::refusal::FoundingRefusal;
 use rbac_text::names::name_or;
 use rbac_words::Name;
-use std::alloc::Global;
+use sorted_keys::Same;
+use sorted_keys::duplicate::duplicate_all;
+use std::alloc::{AllocError, Global};
 use toml::Value;
 
 fn name_of(alloc: Global, text: &str) -> Result<Name, FoundingRefusal>
@@ -94,12 +96,55 @@ pub(crate) fn names_of(alloc: Global, texts: &[Value]) -> Result<Vec<Name>, Foun
     elements_of(alloc, texts)
 }
 
-/// The permissions that pairs of texts are.
+// These names in order, for equal ones to be found among them.
+fn in_order(alloc: Global, names: &[Name]) -> Result<Vec<Name>, AllocError> {
+    let mut sorted = duplicate_all(alloc, names)?;
+    sorted.sort_unstable();
+    Ok(sorted)
+}
+
+// A copy of the name, by the bytes of the equal one among these where there is one.
+fn shared_name(name: &Name, sorted: &[Name]) -> Result<Name, AllocError>
+    ensures { IfOk result (λ shared. shared ≡ name.now) }
+{
+    match sorted.binary_search(name) {
+        Ok(at) if sorted[at].same(name) => sorted[at].copy(),
+        _ => name.copy(),
+    }
+}
+
+// The same permissions, by the bytes of these names: a list of permissions then reads few bytes again and again.
+fn with_shared_names(
+    alloc: Global,
+    permissions: &[(Name, Name)],
+    operations: &[Name],
+    objects: &[Name],
+) -> Result<Vec<(Name, Name)>, AllocError>
+    ensures { IfOk result (λ shared. shared.items ≡ permissions.now) }
+{
+    let operations = in_order(alloc, operations)?;
+    let objects = in_order(alloc, objects)?;
+    let mut shared = Vec::with_capacity(alloc, permissions.len())?;
+    for permission in permissions {
+        let operation = shared_name(&permission.0, &operations)?;
+        let object = shared_name(&permission.1, &objects)?;
+        shared.push((operation, object))?;
+    }
+    Ok(shared)
+}
+
+/// The permissions that pairs of texts are, by the bytes of these operations and objects.
 pub(crate) fn permissions_of(
     alloc: Global,
     pairs: &[Value],
+    operations: &[Name],
+    objects: &[Name],
 ) -> Result<Vec<(Name, Name)>, FoundingRefusal>
     ensures { Reads (permissions_of (map pair_of pairs.now)) (seen (λ permissions. permissions.items) result) }
 {
-    elements_of(alloc, pairs)
+    let permissions: Vec<(Name, Name)> = elements_of(alloc, pairs)?;
+    match with_shared_names(alloc, &permissions, operations, objects) {
+        Ok(shared) => Ok(shared),
+        Err(AllocError) => Err(FoundingRefusal::NoMemory),
+    }
 }

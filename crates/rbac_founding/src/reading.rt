@@ -95,7 +95,7 @@ fn vocabulary_of(
 {
     let operations = names_of(alloc, entries.operations)?;
     let objects = names_of(alloc, entries.objects)?;
-    let permissions = permissions_of(alloc, entries.permissions)?;
+    let permissions = permissions_of(alloc, entries.permissions, &operations, &objects)?;
     match Vocabulary::build(operations, objects, permissions) {
         Ok(vocabulary) => Ok(vocabulary.with_hierarchy(kind)),
         Err(VocabularyRefusal::TooMany) => unreachable!(),
