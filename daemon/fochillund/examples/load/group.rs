@@ -176,7 +176,8 @@ impl Drop for Group {
     }
 }
 
-fn processor_time(process: u32) -> f64 {
+/// The processor time of a process, in seconds.
+pub fn processor_time(process: u32) -> f64 {
     let text = std::fs::read_to_string(format!("/proc/{process}/stat")).expect("it runs");
     let (_, rest) = text.rsplit_once(") ").expect("a name");
     let fields: Vec<&str> = rest.split(' ').collect();

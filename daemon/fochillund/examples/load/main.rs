@@ -12,7 +12,7 @@ mod store;
 
 use bytes::Bytes;
 use fochillund::ask::Members;
-use group::Group;
+use group::{processor_time, Group};
 use rows::{sure_set, Engine, RowName};
 use std::path::PathBuf;
 use std::time::{Duration, Instant};
@@ -56,23 +56,29 @@ async fn caller(folder: PathBuf, caller: u32, lasts: Duration) -> Vec<Duration> 
 }
 
 async fn load(group: &Group, callers: u32, lasts: Duration, set: f64) {
-    let (spent, sent) = (group.processor_time(), group.sent().await);
+    let (spent, own) = (group.processor_time(), processor_time(std::process::id()));
+    let sent = group.sent().await;
     let calling = (0..callers).map(|it| tokio::spawn(caller(group.folder.clone(), it, lasts)));
     let calling: Vec<_> = calling.collect();
     let mut times = Vec::new();
     for calls in calling {
         times.extend(calls.await.expect("it ends"));
     }
-    let (spent, sent) = (group.processor_time() - spent, group.sent().await - sent);
+    let (spent, own) = (
+        group.processor_time() - spent,
+        processor_time(std::process::id()) - own,
+    );
+    let sent = group.sent().await - sent;
     let calls = times.len() as f64;
     let (half, most) = spread(times);
     println!(
-        "{callers} callers: {:.0} calls/s, p50 {half:.2} ms = {:.1} sets + {:.2} ms, p99 {most:.2} ms, {:.2} messages a call, {:.0} us a call",
+        "{callers} callers: {:.0} calls/s, p50 {half:.2} ms = {:.1} sets + {:.2} ms, p99 {most:.2} ms, {:.2} messages a call, {:.0} us a call, and {:.0} of who asks",
         calls / lasts.as_secs_f64(),
         half / set,
         half - half.min(set * (half / set).floor()),
         sent as f64 / calls,
-        spent / calls * 1e6
+        spent / calls * 1e6,
+        own / calls * 1e6
     );
 }
 
@@ -151,14 +157,20 @@ async fn made_anew(store: &Store) {
     );
 }
 
-async fn measure(store: &Store, lasts: Duration) {
-    let mut group = Group::start(store, "three", MEMBERS);
+/// Gives the group that was asked.
+async fn calls(store: &Store, lasts: Duration) -> Group {
+    let group = Group::start(store, "three", MEMBERS);
     group.is_up().await;
     let engine = store.open().await;
     let set = bare_set(&*engine, lasts / 4).await;
     println!("a bare set: p50 {set:.2} ms");
     load(&group, 1, lasts / 2, set).await;
     load(&group, 64, lasts, set).await;
+    group
+}
+
+async fn measure(store: &Store, lasts: Duration) {
+    let mut group = calls(store, lasts).await;
     idle(&group, lasts).await;
     moves(&mut group).await;
     drop(group);
@@ -175,6 +187,7 @@ async fn main() {
     let lasts = Duration::from_secs(lasts);
     match words.get(2).map(String::as_str) {
         Some("generations") => generations::measure(&store, lasts).await,
+        Some("calls") => drop(calls(&store, lasts).await),
         _ => measure(&store, lasts).await,
     }
     let _ = std::fs::remove_dir_all(store.folder());
