@@ -27,7 +27,7 @@ pub(crate) fn check_texts(texts: &[Bytes]) -> Result<(), Fault> {
 }
 
 fn is_text(text: &[u8]) -> bool {
-    !text.iter().any(|byte| matches!(byte, b'\n' | b'\t'))
+    memchr::memchr2(b'\n', b'\t', text).is_none()
 }
 
 #[cfg(test)]

@@ -4,6 +4,7 @@
 //! before the first of them is wiped out: so whatever was read where they stood, reading goes back there, once for each such line, to the record
 //! that has the first cell that is left.
 use super::record::{self, Line, Record, Trimmed};
+use bytes::Bytes;
 
 /// Where a cell's text lies in the file.
 #[derive(Clone, Copy, Debug)]
@@ -20,6 +21,8 @@ pub(super) struct Place {
 #[derive(Debug, Default)]
 pub(super) struct Cells {
     places: Vec<Place>,
+    /// The texts of those that the last lines brought: who follows the row asks for just these.
+    fresh: Vec<Bytes>,
     removed: u64,
     left_at: u64,
     read_to: u64,
@@ -61,6 +64,12 @@ impl Cells {
         self.places.get(from..).unwrap_or(&[])
     }
 
+    /// The texts of the cells from a number on, where the last lines brought just these.
+    pub(super) fn fresh_from(&self, number: u64) -> Option<&[Bytes]> {
+        let is_fresh = number + self.fresh.len() as u64 == self.next();
+        (is_fresh && !self.fresh.is_empty()).then_some(&self.fresh)
+    }
+
     /// What there is to tell where the cells before this one, which is there, are removed.
     pub(super) fn trimmed_to(&self, last: u64) -> Trimmed {
         let (first, at) = self.from(last)[0].record;
@@ -69,9 +78,15 @@ impl Cells {
 
     /// Takes lines that follow those before, and tells whether reading goes on behind them; else it goes on where `read_to` says.
     pub(super) fn take_lines(&mut self, lines: &[u8]) -> bool {
-        lines
-            .split_inclusive(|byte| *byte == b'\n')
-            .all(|line| self.take_line(&line[..line.len() - 1]))
+        self.fresh.clear();
+        let mut rest = lines;
+        while let Some(end) = memchr::memchr(b'\n', rest) {
+            if !self.take_line(&rest[..end]) {
+                return false;
+            }
+            rest = &rest[end + 1..];
+        }
+        true
     }
 
     fn take_line(&mut self, line: &[u8]) -> bool {
@@ -90,6 +105,7 @@ impl Cells {
             return;
         }
         for text in found.texts {
+            self.fresh.push(Bytes::copy_from_slice(&line[text.clone()]));
             self.places.push(Place {
                 at: begin + text.start as u64,
                 length: text.len() as u32,
@@ -104,6 +120,7 @@ impl Cells {
         if told.last <= self.removed + 1 {
             return true;
         }
+        self.fresh.clear();
         if self.read_to > self.back_from {
             self.back_from = self.read_to;
             self.places.clear();

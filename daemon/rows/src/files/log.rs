@@ -111,6 +111,9 @@ impl Log {
         if (1..=removed).contains(&first.max(1)) {
             return Err(Fault::Trimmed(removed + 1));
         }
+        if let Some(texts) = self.cells.fresh_from(first) {
+            return Ok(Some(texts.to_vec()));
+        }
         let places = self.cells.from(first).iter();
         places.map(|place| self.text(*place)).collect()
     }
@@ -198,7 +201,7 @@ impl Log {
             let mut bytes = vec![0; (end - at).min(MOST_READ) as usize];
             self.file.read(at, &mut bytes).map_err(broken)?;
             at += bytes.len() as u64;
-            let ended = bytes.iter().rposition(|byte| *byte == b'\n');
+            let ended = memchr::memrchr(b'\n', &bytes);
             let ended = ended.map_or(0, |at| rest.len() + at + 1);
             rest.extend_from_slice(&bytes);
             if self.cells.take_lines(&rest[..ended]) {

@@ -82,13 +82,9 @@ fn sum_of(first: u64, told: &[u8]) -> String {
 
 /// Where each text lies, of which the first begins there.
 fn ranges(begin: usize, told: &[u8]) -> Vec<Range<usize>> {
-    let mut at = begin;
-    told.split(|byte| *byte == b'\t')
-        .map(|text| {
-            let range = at..at + text.len();
-            at = range.end + 1;
-            range
-        })
+    let mut at = 0;
+    let ends = memchr::memchr_iter(b'\t', told).chain([told.len()]);
+    ends.map(|end| begin + std::mem::replace(&mut at, end + 1)..begin + end)
         .collect()
 }
 

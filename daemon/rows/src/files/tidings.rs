@@ -9,6 +9,10 @@ use std::path::Path;
 use std::time::Duration;
 use tokio::io::unix::AsyncFd;
 
+/// How many tidings are taken at once, each of so many bytes, as it names no file of a folder.
+const ROOM: usize = 64;
+const EVENT: usize = 16;
+
 /// What tells that the mark was set.
 pub(super) struct Marked(AsyncFd<Watch>);
 
@@ -32,11 +36,11 @@ impl Marked {
 impl Marked {
     /// Takes what was told, all of it: the next tiding is of what comes after.
     fn take(watch: &mut Watch) {
-        let mut told = [0; 4096];
-        let mut is_more = true;
-        while is_more {
+        let mut told = [0; ROOM * EVENT];
+        let mut is_full = true;
+        while is_full {
             let events = watch.0.read_events(&mut told);
-            is_more = events.is_ok_and(|events| events.count() > 0);
+            is_full = events.is_ok_and(|events| events.count() == ROOM);
         }
     }
 }
