@@ -275,6 +275,9 @@ fn next_of(told: &io::Result<Told>, is_first: bool) -> Next {
     let Ok((status, body)) = told else {
         return Next::Again;
     };
+    if *status == StatusCode::OK {
+        return Next::Told;
+    }
     let refused: Option<Refused> = serde_json::from_slice(body).ok();
     match (*status, refused) {
         (StatusCode::SERVICE_UNAVAILABLE | StatusCode::TOO_MANY_REQUESTS, _) => Next::Again,
