@@ -7,7 +7,6 @@ ghost use Rattle.rbac_separation.specs.Counts.{numbers_of, at_place, no_numbers,
 
 use crate::count_plan::Numbering;
 use crate::numbered::Numbered;
-use crate::role_set::RoleSet;
 use crate::row::{Row, forget_place, forget_row, number_at};
 use crate::set_table::SetTable;
 use rbac_terms::{Name, NameSet};
@@ -50,24 +49,6 @@ impl Numbering for OneNumber {
     fn number(&self, _set: &Name, _user: &Name) -> u32 {
         self.number
     }
-}
-
-// The name of the first of the sets of which the user's number, and how many of its roles are among these, come to its own number
-// or more.
-fn find_over<'a>(
-    counts: &Counts,
-    sets: &'a [(Name, RoleSet)],
-    user: &Name,
-    fresh: &NameSet,
-) -> Option<&'a Name>
-    ensures { option_copied result ≡ first_over (λ set. numbers_of counts.now set user.now) fresh.now sets.now }
-{
-    for entry in sets {
-        if entry.1.is_over(counts.get(&entry.0, user), fresh) {
-            return Some(&entry.0);
-        }
-    }
-    None
 }
 
 impl Counts {
@@ -194,7 +175,13 @@ impl Counts {
     ) -> Option<&'a Name>
         ensures { option_copied result ≡ first_over (λ set. numbers_of self.now set user.now) fresh.now sets.now.content }
     {
-        find_over(self, sets.entries(), user, fresh)
+        let entries = sets.entries();
+        for entry in entries {
+            if entry.1.is_over(self.get(&entry.0, user), fresh) {
+                return Some(&entry.0);
+            }
+        }
+        None
     }
 
     /// Equal numbers.

@@ -49,10 +49,7 @@ impl Numbered {
     pub(crate) fn number(&self, name: &Name) -> Option<usize>
         ensures { result ≡ find name_cmp name.now self.now.content }
     {
-        match self.names.get(name) {
-            Some(number) => Some(*number),
-            None => None,
-        }
+        self.names.get(name).copied()
     }
 
     /// No two names have one number.

@@ -30,18 +30,6 @@ impl Model for SetTable {
     ghost view = { λ t. record { content = t.sets.content; room = t.sets.room } };
 }
 
-// The names of the sets.
-fn names_of(alloc: Global, sets: &[(Name, RoleSet)]) -> Result<NameSet, AllocError>
-    requires { IsStrictlySortedBy (by_key name_cmp) sets.now }
-    ensures { IfOk result (λ names. names ≡ map (λ e. e.0) sets.now) }
-{
-    let mut names = NameSet::new(alloc);
-    for entry in sets {
-        names.add(entry.0.copy()?)?;
-    }
-    Ok(names)
-}
-
 // The name of the first of the sets that these roles break.
 fn find_broken<'a>(sets: &'a [(Name, RoleSet)], roles: &NameSet) -> Option<&'a Name>
     ensures { option_copied result ≡ first_broken roles.now sets.now }
@@ -96,20 +84,14 @@ impl SetTable {
     pub fn roles(&self, set: &Name) -> Option<&NameSet>
         ensures { option_copied result ≡ option_map (λ s. s.roles) (find name_cmp set.now self.now.content) }
     {
-        match self.sets.get(set) {
-            Some(found) => Some(&found.roles),
-            None => None,
-        }
+        self.sets.get(set).map(|found| &found.roles)
     }
 
     /// The number of the set.
     pub fn cardinality(&self, set: &Name) -> Option<u32>
         ensures { result ≡ option_map (λ s. s.cardinality) (find name_cmp set.now self.now.content) }
     {
-        match self.sets.get(set) {
-            Some(found) => Some(found.cardinality),
-            None => None,
-        }
+        self.sets.get(set).map(|found| found.cardinality)
     }
 
     /// The sets with their names, in order of these.
@@ -126,7 +108,12 @@ impl SetTable {
     pub fn names(&self, alloc: Global) -> Result<NameSet, AllocError>
         ensures { IfOk result (λ names. names ≡ map (λ e. e.0) self.now.content) }
     {
-        names_of(alloc, self.sets.entries())
+        let sets = self.sets.entries();
+        let mut names = NameSet::new(alloc);
+        for entry in sets {
+            names.add(entry.0.copy()?)?;
+        }
+        Ok(names)
     }
 
     /// The first set by name of which as many roles as its number, or more, are among these. Takes no memory.

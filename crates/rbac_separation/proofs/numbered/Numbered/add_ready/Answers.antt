@@ -7,25 +7,16 @@ use Rattle.rbac_separation.proofs.numbered.Numbered.add_ready.Goals as goal
 
 pub invariant_of-self : goal.invariant_of-self
 invariant_of-self c =
-    let h = c.self.inside in
-    let name = c.args.name in
     let made = c.insert_reserved-number.ensures in
-    let none = ap (λ m. find name_cmp name m.content) c.self.view_is ∙ c.requires.absent in
-    fresh_numbered h.names.content c.put.new.self.content h.numbers c.insert_reserved-number.new.self name c.insert_reserved-number.result c.self.invariant none made.was_vacant c.put.ensures.content (ap is_some made.updates.changed) made.updates.others
+    let none = ap (λ m. find name_cmp c.args.name m.content) c.self.view_is ∙ c.requires.absent in
+    fresh_numbered _ _ _ _ c.args.name _ c.self.invariant none made.was_vacant c.put.ensures.content (ap is_some made.updates.changed) made.updates.others
 
 pub returns-clause-more : goal.returns-clause-more
 returns-clause-more c =
-    let h = c.self.inside in
-    let name = c.args.name in
-    let made = c.insert_reserved-number.ensures in
-    let none = ap (λ m. find name_cmp name m.content) c.self.view_is ∙ c.requires.absent in
-    subst (λ m. IsMore m.content c.put.new.self.content) c.self.view_is
-    (fresh_more h.names.content c.put.new.self.content h.numbers c.insert_reserved-number.new.self name c.insert_reserved-number.result c.self.invariant none made.was_vacant c.put.ensures.content)
+    let none = ap (λ m. find name_cmp c.args.name m.content) c.self.view_is ∙ c.requires.absent in
+    subst (λ m. IsMore m.content c.put.new.self.content) c.self.view_is (fresh_more _ _ _ c.insert_reserved-number.new.self c.args.name _ c.self.invariant none c.insert_reserved-number.ensures.was_vacant c.put.ensures.content)
 
 pub returns-clause-found : goal.returns-clause-found
 returns-clause-found c =
-    let h = c.self.inside in
-    let name = c.args.name in
-    let made = c.insert_reserved-number.ensures in
-    let none = ap (λ m. find name_cmp name m.content) c.self.view_is ∙ c.requires.absent in
-    fresh_found h.names.content c.put.new.self.content h.numbers c.insert_reserved-number.new.self name c.insert_reserved-number.result c.self.invariant none made.was_vacant c.put.ensures.content
+    let none = ap (λ m. find name_cmp c.args.name m.content) c.self.view_is ∙ c.requires.absent in
+    fresh_found _ _ _ c.insert_reserved-number.new.self c.args.name _ c.self.invariant none c.insert_reserved-number.ensures.was_vacant c.put.ensures.content

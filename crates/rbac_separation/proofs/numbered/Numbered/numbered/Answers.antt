@@ -10,40 +10,35 @@ pub loop-name-init : goal.loop-name-init
 loop-name-init c = record {
   more = more_self c.args.self.now.content;
   names = ap names_of c.in_ok-numbered.ensures.items;
-  found = subst (All (λ (e : Name × ℕ). find name_cmp e.0 c.args.self.now.content ≡ Some e.1)) (sym c.in_ok-numbered.ensures.items) (λ k d lt. absurd (omega arith));
+  found = λ k d lt. grind (arith, c.in_ok-numbered.ensures.items);
 }
 
 pub loop-name-preserved : goal.loop-name-preserved
 loop-name-preserved c =
-    let names = c.args.names.now in
-    let i = c.loop-name.name-index in
-    let name = c.name-item.result in
     let items = c.loop-name.numbered.items in
     let before = c.loop-name.self.content in
     let after = c.number_of.new.self.content in
-    let number = c.in_ok-number.number in
-    let copy = c.in_ok-copy.field-0 in
-    let pushed = c.in_ok-push.ensures.items in
+    let entry : Name × ℕ = (c.in_ok-copy.field-0, c.in_ok-number.number) in
     record {
-      more = more_both c.args.self.now.content before after c.loop-name.invariant.more c.number_of.ensures.more;
+      more = more_both _ _ _ c.loop-name.invariant.more c.number_of.ensures.more;
       names =
-          ap names_of pushed ∙ map-append (λ (e : Name × ℕ). e.0) items ((copy, number) ∷ [])
+          ap names_of c.in_ok-push.ensures.items ∙ map-append (λ (e : Name × ℕ). e.0) items (entry ∷ [])
           ∙ (λ t. c.loop-name.invariant.names t ++ (c.in_ok-copy.ensures ∙ c.name-item.is) t ∷ [])
-          ∙ sym (take_more names i name c.loop-name-test.true);
+          ∙ sym (take_more c.args.names.now c.loop-name.name-index c.name-item.result c.loop-name-test.true);
       found =
-          subst (All (λ (e : Name × ℕ). find name_cmp e.0 after ≡ Some e.1)) (sym pushed)
-          (all_more (λ (e : Name × ℕ). find name_cmp e.0 before ≡ Some e.1) (λ (e : Name × ℕ). find name_cmp e.0 after ≡ Some e.1) (λ e is. c.number_of.ensures.more.kept e.0 e.1 is) items (copy, number) c.loop-name.invariant.found
+          subst (All (λ (e : Name × ℕ). find name_cmp e.0 after ≡ Some e.1)) (sym c.in_ok-push.ensures.items)
+          (all_more (λ (e : Name × ℕ). find name_cmp e.0 before ≡ Some e.1) (λ (e : Name × ℕ). find name_cmp e.0 after ≡ Some e.1) (λ e. c.number_of.ensures.more.kept e.0 e.1) items entry c.loop-name.invariant.found
           (ap (λ x. find name_cmp x after) c.in_ok-copy.ensures ∙ c.in_ok-number.ensures.found));
     }
 
 pub returns-in_err-number-clause-more : goal.returns-in_err-number-clause-more
-returns-in_err-number-clause-more c = more_both c.args.self.now.content c.loop-name.self.content c.number_of.new.self.content c.loop-name.invariant.more c.number_of.ensures.more
+returns-in_err-number-clause-more c = more_both _ _ _ c.loop-name.invariant.more c.number_of.ensures.more
 
 pub returns-in_err-copy-clause-more : goal.returns-in_err-copy-clause-more
-returns-in_err-copy-clause-more c = more_both c.args.self.now.content c.loop-name.self.content c.number_of.new.self.content c.loop-name.invariant.more c.number_of.ensures.more
+returns-in_err-copy-clause-more c = more_both _ _ _ c.loop-name.invariant.more c.number_of.ensures.more
 
 pub returns-in_err-push-clause-more : goal.returns-in_err-push-clause-more
-returns-in_err-push-clause-more c = more_both c.args.self.now.content c.loop-name.self.content c.number_of.new.self.content c.loop-name.invariant.more c.number_of.ensures.more
+returns-in_err-push-clause-more c = more_both _ _ _ c.loop-name.invariant.more c.number_of.ensures.more
 
 pub returns-in_err-numbered-clause-more : goal.returns-in_err-numbered-clause-more
 returns-in_err-numbered-clause-more c = more_self c.args.self.now.content
