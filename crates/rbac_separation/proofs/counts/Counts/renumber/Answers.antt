@@ -1,9 +1,8 @@
-use Rattle.std.proofs.Common.{ℕ, ◌≡◌, List, true, rules, subst, arith}
-use Rattle.std.proofs.lemmas.List.{drop_all}
+use Rattle.std.proofs.Common.{ℕ, ◌≡◌, List, true, subst, arith}
 use Rattle.sorted_keys.specs.Keys.{has}
 use Rattle.rbac_terms.specs.Name.{Name, name_cmp}
 use Rattle.rbac_separation.specs.Numbered.{names_of}
-use Rattle.rbac_separation.proofs.PlanLemmas.{still_placed, next_of, has_next}
+use Rattle.rbac_separation.proofs.PlanLemmas.{still_placed, has_next}
 use Rattle.rbac_separation.proofs.counts.Counts.renumber.Goals as goal
 
 pub renumber_user-requires-clause-placed : goal.renumber_user-requires-clause-placed
@@ -14,14 +13,3 @@ renumber_user-requires-clause-numbered g c = λ set is.
     c.requires.numbered set c.index.result.now.0
     (subst (λ (ss : List (Name × ℕ)). has name_cmp set (names_of ss) ≡ true) c.deref.ensures.value is)
     (has_next c.args.plan.users.items c.loop-k.k c.index.result.now (omega (arith, c.loop-k-test.true, c.len-k-end.ensures)) c.index.ensures)
-
-pub loop-k-preserved : goal.loop-k-preserved
-loop-k-preserved g c =
-    let left = next_of c.args.plan.users.items c.loop-k.k c.index.result.now (omega (arith, c.loop-k-test.true, c.len-k-end.ensures)) c.index.ensures in
-    record {
-      places = search rules;
-      numbers = λ s u. grind (arith, left, c.deref.ensures.value, c.renumber_user.ensures.numbers s u, c.loop-k.invariant.numbers s u);
-    }
-
-pub returns : goal.returns
-returns g c = λ s u. grind (arith, drop_all, c.loop-k.invariant.numbers s u)

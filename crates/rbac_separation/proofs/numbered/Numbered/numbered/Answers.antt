@@ -1,17 +1,10 @@
-use Rattle.std.proofs.Common.{ℕ, ◌≡◌, ◌∙◌, ◌∷◌, ◌++◌, [], Some, All, sym, ap, subst, arith}
+use Rattle.std.proofs.Common.{ℕ, ◌≡◌, ◌∙◌, ◌∷◌, ◌++◌, [], Some, All, sym, ap, subst}
 use Rattle.std.proofs.lemmas.List.{map-append, take_more}
 use Rattle.std.specs.FinMap.Entries.{find}
 use Rattle.rbac_terms.specs.Name.{Name, name_cmp}
 use Rattle.rbac_separation.specs.Numbered.{names_of}
-use Rattle.rbac_separation.proofs.NumberLemmas.{more_self, more_both, all_more}
+use Rattle.rbac_separation.proofs.NumberLemmas.{more_both, all_more}
 use Rattle.rbac_separation.proofs.numbered.Numbered.numbered.Goals as goal
-
-pub loop-name-init : goal.loop-name-init
-loop-name-init c = record {
-  more = more_self c.args.self.now.content;
-  names = ap names_of c.in_ok-numbered.ensures.items;
-  found = λ k d lt. grind (arith, c.in_ok-numbered.ensures.items);
-}
 
 pub loop-name-preserved : goal.loop-name-preserved
 loop-name-preserved c =
@@ -30,15 +23,3 @@ loop-name-preserved c =
           (all_more (λ (e : Name × ℕ). find name_cmp e.0 before ≡ Some e.1) (λ (e : Name × ℕ). find name_cmp e.0 after ≡ Some e.1) (λ e. c.number_of.ensures.more.kept e.0 e.1) items entry c.loop-name.invariant.found
           (ap (λ x. find name_cmp x after) c.in_ok-copy.ensures ∙ c.in_ok-number.ensures.found));
     }
-
-pub returns-in_err-number-clause-more : goal.returns-in_err-number-clause-more
-returns-in_err-number-clause-more c = more_both _ _ _ c.loop-name.invariant.more c.number_of.ensures.more
-
-pub returns-in_err-copy-clause-more : goal.returns-in_err-copy-clause-more
-returns-in_err-copy-clause-more c = more_both _ _ _ c.loop-name.invariant.more c.number_of.ensures.more
-
-pub returns-in_err-push-clause-more : goal.returns-in_err-push-clause-more
-returns-in_err-push-clause-more c = more_both _ _ _ c.loop-name.invariant.more c.number_of.ensures.more
-
-pub returns-in_err-numbered-clause-more : goal.returns-in_err-numbered-clause-more
-returns-in_err-numbered-clause-more c = more_self c.args.self.now.content
