@@ -1,70 +1,38 @@
 -- Which counts a command may change: sets that are gathered, and counts that are taken again.
-use Rattle.std.proofs.Common.{ℕ, ◌+◌, ◌<◌, List, [], ◌∷◌, ◌++◌, length, get_or, take, Bool, true, false, cond, ◌||◌, ◌&&◌, ◌≡◌, Option, Some, None, IfNone, Result, Ok, Err, IfOk, refl, sym, ap, ◌∙◌}
-use Rattle.std.proofs.lemmas.Bool.{or_left, and_parts, and_from, false≢true}
-use Rattle.std.specs.List.{list_any}
-use Rattle.std.specs.Ordering.{eq_by_cmp}
-use Rattle.std.specs.FinMap.Entries.{find}
-use Rattle.sorted_keys.specs.Keys.{has}
-use Rattle.rbac_terms.specs.Name.{Name, name_cmp}
-use Rattle.rbac_terms.specs.Separation.{RoleSet}
-use Rattle.rbac_terms.specs.State.{State}
-use Rattle.rbac_terms.specs.declared.command.Command.{Command}
-use Rattle.rbac_terms.specs.declared.command.Command.TheVariants.{DeleteUser, DeleteRole, AssignUser, DeassignUser, AddInheritance, DeleteInheritance, CreateSet, DeleteSet, AddRoleMember, DeleteRoleMember}
-use Rattle.rbac_terms.specs.declared.separation.Separation.{Separation}
-use Rattle.rbac_terms.specs.declared.separation.Separation.TheVariants.{Static, Dynamic}
-use Rattle.sorted_keys.proofs.Ties.{ties_flip}
-use Rattle.rbac_terms.proofs.NameLemmas.{names_total, names_exact}
-use Rattle.rbac_rules.proofs.SoundSeparation.{is_false}
-use Rattle.rbac_hierarchy.proofs.Kept.{any-append}
-use Rattle.rbac_hierarchy.proofs.LoopLemmas.{any_one_more}
-use Rattle.rbac_separation.specs.Numbered.{names_of}
+use Rattle.std.proofs.Common.{ℕ, ◌+◌, ◌<◌, List, [], ◌∷◌, ◌++◌, length, get_or, take, Bool, true, false, cond, ◌&&◌, ◌≡◌, Option, Some, None, IfNone, Result, Ok, Err, IfOk, refl, sym, ap, ◌∙◌, arith}
+use Rattle.rbac_decide.proofs.Common.{find, list_any, eq_by_cmp, has, change, Name, name_cmp, RoleSet, State, Command, DeleteUser, DeleteRole, AssignUser}
+use Rattle.rbac_decide.proofs.Common.{DeassignUser, AddInheritance, DeleteInheritance, CreateSet, DeleteSet, AddRoleMember, DeleteRoleMember, AddRole}
+use Rattle.rbac_decide.proofs.Common.{AddAscendant, AddDescendant, SetCardinality, Separation, Static, Dynamic, Counts, ArePlaced, numbers_of, without_user}
+use Rattle.rbac_decide.proofs.Common.{names_of, authorized_users_by, juniors_by, count_by_tables, breaks_some, AreCountsBy, IsCommandStep, touches, is_touched}
+use Rattle.rbac_decide.proofs.Common.{of_touched, of_set, may_change, gives_roles, without_static, remaining, IsPlanOf, TellsAfter, authorized_count}
+use Rattle.rbac_decide.proofs.Common.{authorized_by, changes_gathered, IsGround, state_of, Tables, and_parts, and_from, false≢true, ties_flip, names_total}
+use Rattle.rbac_decide.proofs.Common.{names_exact, is_false, any-append, any_one_more}
 use Rattle.rbac_separation.specs.declared.count_plan.CountPlan.{CountPlan}
-use Rattle.rbac_separation.specs.Counts.{Counts, ArePlaced, numbers_of, without_user}
-use Rattle.rbac_decide.specs.declared.tables.Tables.{Tables}
 use Rattle.rbac_decide.specs.declared.gathered.Ground.{Ground}
-use Rattle.rbac_decide.specs.Tables.{state_of}
-use Rattle.rbac_decide.specs.Counting.{authorized_users_by, juniors_by, count_by_tables, breaks_some, AreCountsBy, IsCommandStep, touches, is_touched, of_touched, of_set, may_change, gives_roles, without_static, remaining, IsPlanOf, TellsAfter}
-use Rattle.rbac_decide.specs.Gains.{changes_gathered}
-use Rattle.rbac_decide.specs.Ground.{IsGround}
-use Rattle.rbac_decide.proofs.CountingSteps.{IsShift, IsSetStep, left, unchanged, deassigned_shift, deleted_role_shift, deleted_inheritance_shift, created_set, added_member, deleted_member, deleted_set, deleted_user}
+use Rattle.rbac_decide.proofs.CountingSteps.{IsShift, IsSetStep, left, numbered, role_leaves, ascendant_leaves, descendant_leaves, deassigned_shift, deleted_role_shift, deleted_inheritance_shift, created_set, added_member, deleted_member, deleted_set, deleted_user}
 
 -- ---- Sets that are gathered
 
 -- one static set more: its name where it has one of the roles, and none where it has none
 module _ (s : Name) (below : List Name) (sets : List (Name × RoleSet)) (i : ℕ) (e : Name × RoleSet) (lt : i < length sets) (is : e ≡ get_or sets i e) (names : List Name)
     (so_far : has name_cmp s names ≡ is_touched below s (take i sets)) where
-  one_set_more : (t : Bool) → touches below (Some e.1) ≡ t → (has name_cmp s names || (eq_by_cmp name_cmp s e.0 && t)) ≡ is_touched below s (take (i + 1) sets)
-  one_set_more t is_so =
-      (λ j. so_far j || (eq_by_cmp name_cmp s e.0 && sym is_so j))
-      ∙ any_one_more false (λ (x : Name × RoleSet). eq_by_cmp name_cmp s x.0 && touches below (Some x.1)) sets i e lt is
-
   pub touched_more : touches below (Some e.1) ≡ true → has name_cmp s (names ++ e.0 ∷ []) ≡ is_touched below s (take (i + 1) sets)
   touched_more touched =
-      any-append (eq_by_cmp name_cmp s) names (e.0 ∷ [])
-      ∙ ap (λ b. has name_cmp s names || b) (either (eq_by_cmp name_cmp s e.0))
-      ∙ one_set_more true touched
-    where
-      either : (b : Bool) → (b || false) ≡ (b && true)
-      either true = refl
-      either false = refl
+      let added = any-append (eq_by_cmp name_cmp s) names (e.0 ∷ []) in
+      let more = any_one_more false (λ (x : Name × RoleSet). eq_by_cmp name_cmp s x.0 && touches below (Some x.1)) sets i e lt is in
+      grind (arith, so_far)
 
   pub untouched_more : touches below (Some e.1) ≡ false → has name_cmp s names ≡ is_touched below s (take (i + 1) sets)
-  untouched_more untouched = sym (nothing (has name_cmp s names) (eq_by_cmp name_cmp s e.0)) ∙ one_set_more false untouched
-    where
-      nothing : (b c : Bool) → (b || (c && false)) ≡ b
-      nothing true c = refl
-      nothing false true = refl
-      nothing false false = refl
+  untouched_more untouched =
+      let more = any_one_more false (λ (x : Name × RoleSet). eq_by_cmp name_cmp s x.0 && touches below (Some x.1)) sets i e lt is in
+      grind (arith, so_far)
 
 -- where no set has one of the roles, none with any name has
 pub nowhere_touched : (below : List Name) (sets : List (Name × RoleSet)) → list_any (λ e. touches below (Some e.1)) sets ≡ false → (set : Name) → is_touched below set sets ≡ false
 nowhere_touched below [] none set = refl
-nowhere_touched below (e ∷ es) none set = go (eq_by_cmp name_cmp set e.0) (touches below (Some e.1)) (list_any (λ x. touches below (Some x.1)) es) (λ rest. nowhere_touched below es rest set) none
-  where
-    go : (a t l : Bool) → (l ≡ false → is_touched below set es ≡ false) → (t || l) ≡ false → ((a && t) || is_touched below set es) ≡ false
-    go a true l later e = absurd (false≢true (sym e))
-    go true false l later e = later e
-    go false false l later e = later e
+nowhere_touched below (e ∷ es) none set =
+    let later : list_any (λ x. touches below (Some x.1)) es ≡ false → is_touched below set es ≡ false = λ rest. nowhere_touched below es rest set in
+    grind arith
 
 -- nothing is touched where nothing was found that touches a set
 pub nothing_touched : {A : Type 0} (s u : Name) (below users : List Name) (t : Tables) (found : Option A) → found ≡ None → IfNone found ((set : Name) → is_touched below set t.static_sets.content ≡ false)
@@ -75,12 +43,7 @@ nothing_touched s u below users t (Some x) is none = let never : ⊥ = cc in abs
 -- a set that is found and has one of the roles is one with its name
 found_touched : (below : List Name) (set : Name) (sets : List (Name × RoleSet)) → touches below (find name_cmp set sets) ≡ true → is_touched below set sets ≡ true
 found_touched below set [] t = absurd (false≢true t)
-found_touched below set (e ∷ es) t = go (eq_by_cmp name_cmp set e.0) (found_touched below set es) t
-  where
-    go : (b : Bool) → (touches below (find name_cmp set es) ≡ true → is_touched below set es ≡ true)
-        → touches below (cond b (Some e.1) (find name_cmp set es)) ≡ true → ((b && touches below (Some e.1)) || is_touched below set es) ≡ true
-    go true later t = or_left _ _ t
-    go false later t = later t
+found_touched below set (e ∷ es) t = grind (arith, found_touched below set es)
 
 -- a plan of these sets and users
 pub plan_of : {E : Type 0} (r : Result CountPlan E) (sets users : List Name) (affected : Name → Name → Bool) (counts : Counts) → IfOk r (λ p. names_of p.sets.items ≡ sets) → IfOk r (λ p. names_of p.users.items ≡ users)
@@ -120,12 +83,11 @@ module _ (before after : Tables) (counts : Counts) (counted : AreCountsBy before
       → ((set user : Name) → affected set user ≡ false → numbers_of counts set user ≡ count_by_tables after set user) → IsRecountable (λ n. n) after counts affected
   by_others unbroken others = record {
     unbroken = unbroken;
-    right = λ n made set user. made set user ∙ go set user (affected set user) refl;
+    right = λ n made set user.
+        let same = made set user in
+        let other : affected set user ≡ false → numbers_of counts set user ≡ count_by_tables after set user = others set user in
+        grind arith;
   }
-    where
-      go : (set user : Name) (b : Bool) → affected set user ≡ b → cond b (count_by_tables after set user) (numbers_of counts set user) ≡ count_by_tables after set user
-      go set user true is = refl
-      go set user false is = others set user is
 
   by_shift : (users below : List Name) → IsShift after users below counts → before.static_sets.content ≡ after.static_sets.content
       → ((set user : Name) → affected set user ≡ of_touched before below users set user) → IsRecountable (λ n. n) after counts affected
@@ -156,6 +118,10 @@ module _ (before after : Tables) (counts : Counts) (counted : AreCountsBy before
       same : (n : Name → Name → ℕ) → ((set user : Name) → n set user ≡ cond (affected set user) (count_by_tables after set user) (numbers_of counts set user)) → n ≡ numbers_of counts
       same n made = λ i set user. (made set user ∙ ap (λ b. cond b (count_by_tables after set user) (numbers_of counts set user)) (none set user)) i
 
+  by_left : (c : Command) (step : IsCommandStep c before after) → ((set user : Name) → affected set user ≡ false)
+      → ((set user : Name) → authorized_count (change c (state_of before step.vocabulary)) set user ≡ authorized_count (state_of before step.vocabulary) set user) → IsRecountable (λ n. n) after counts affected
+  by_left c step told same = by_none (λ n. n) told (λ set user. left c before after step counts counted set user (same set user))
+
   pub recountable : (c : Command) → IsCommandStep c before after → gives_roles c ≡ false → ((set user : Name) → affected set user ≡ may_change c before set user) → IsRecountable (remaining c) after counts affected
   recountable (AssignUser user role) step takes told = absurd (false≢true (sym takes))
   recountable (DeassignUser user role) step takes told =
@@ -173,4 +139,9 @@ module _ (before after : Tables) (counts : Counts) (counted : AreCountsBy before
   recountable (DeleteRoleMember Dynamic name role) step takes told = by_set Dynamic name (deleted_member before after counts counted Dynamic name role step) (ap (λ (x : State). x.users) step.made) told
   recountable (DeleteUser user) step takes told = by_none (without_user user) told (deleted_user before after counts counted user step)
   recountable (DeleteSet kind name) step takes told = by_none (without_static kind name) told (deleted_set before after counts counted kind name step)
-  recountable c step takes told = by_none (λ n. n) told (λ set user. left c before after step counts counted set user (unchanged c (state_of before step.vocabulary) step.sound step.undenied refl set user))
+  recountable (AddRole role) step takes told = by_left (AddRole role) step told (role_leaves role (state_of before step.vocabulary) step.sound)
+  recountable (AddAscendant a d) step takes told = by_left (AddAscendant a d) step told (ascendant_leaves a d (state_of before step.vocabulary) step.sound step.undenied)
+  recountable (AddDescendant a d) step takes told = by_left (AddDescendant a d) step told (descendant_leaves a d (state_of before step.vocabulary) step.sound step.undenied)
+  recountable (SetCardinality Static name n) step takes told = by_left (SetCardinality Static name n) step told (λ set user. numbered name set n (authorized_by before user) before.static_sets.content)
+  recountable (SetCardinality Dynamic name n) step takes told = by_left (SetCardinality Dynamic name n) step told (λ set user. refl)
+  recountable c step takes told = by_left c step told (λ set user. refl)

@@ -1,14 +1,8 @@
 -- What a command that is not denied answers and leaves.
 use Rattle.std.proofs.Common.{◌≡◌, Option, Some, None, sym, ap, ◌∙◌, subst}
-use Rattle.rbac_terms.specs.State.{State}
-use Rattle.rbac_terms.specs.Rows.{first_denial}
-use Rattle.rbac_terms.specs.Sound.{IsSound, BringsASet}
-use Rattle.rbac_terms.specs.Change.{change}
-use Rattle.rbac_terms.specs.Effect.{effect, effect_unless, reply, reply_unless}
-use Rattle.rbac_terms.specs.declared.command.Command.{Command}
+use Rattle.rbac_decide.proofs.Common.{change, effect, effect_unless, reply, reply_unless, first_denial, IsSound, BringsASet, State, Denial, Command}
+use Rattle.rbac_decide.proofs.Common.{sound_effect}
 use Rattle.rbac_terms.specs.declared.answer.Answer.TheVariants.{Denied}
-use Rattle.rbac_terms.specs.declared.answer.Denial.{Denial}
-use Rattle.rbac_rules.proofs.SoundLemmas.{sound_effect}
 
 -- what is inside is changed
 pub changed : (c : Command) (s inside new : State) → first_denial c s ≡ None → inside ≡ s → new ≡ change c inside → new ≡ effect c s

@@ -1,33 +1,13 @@
 -- Who breaks separation of duty after a change, told of the state before it.
-use Rattle.std.proofs.Common.{ℕ, zero, suc, ◌+◌, add-one, drop, slice_get, List, [], ◌∷◌, Bool, true, false, cond, ◌||◌, ◌&&◌, ◌≡◌, Option, Some, None, refl, sym, ap, ◌∙◌, subst}
-use Rattle.std.proofs.lemmas.Bool.{false≢true, and_parts, or_right}
-use Rattle.std.specs.declared.cmp.Ordering.{Ordering}
-use Rattle.std.specs.declared.cmp.Ordering.TheVariants.{Less, Equal, Greater}
-use Rattle.std.specs.List.{list_any, find as first_where}
+use Rattle.std.proofs.Common.{ℕ, zero, suc, ◌+◌, add-one, drop, slice_get, List, [], ◌∷◌, Bool, true, false, cond, ◌||◌, ◌&&◌, ◌≡◌, Option, Some, None, refl, sym, ap, ◌∙◌, arith}
 use Rattle.std.specs.List.Sorted.{IsStrictlySortedBy}
-use Rattle.std.specs.Cmp.{IsTotalOrder}
-use Rattle.std.specs.Option.{option_map}
-use Rattle.std.specs.Ordering.{eq_by_cmp, is_eq}
-use Rattle.std.specs.FinMap.Entries.{find, put, find-put, by_order}
-use Rattle.sorted_keys.specs.Keys.{has, by_key, with_key}
-use Rattle.sorted_keys.proofs.Order.{IsBelowAll, greater}
-use Rattle.sorted_keys.proofs.Ties.{one_key, ties_itself}
-use Rattle.rbac_terms.specs.Name.{Name, name_cmp}
-use Rattle.rbac_terms.specs.State.{State, Session}
-use Rattle.rbac_terms.specs.Separation.{RoleSet, is_broken_by, is_broken, first_broken}
-use Rattle.rbac_terms.specs.Sound.{IsSound}
-use Rattle.rbac_terms.specs.Authorization.{inherits_in, is_authorized}
-use Rattle.rbac_terms.specs.Constraints.{sets_of, with_sets, breaks_static, breaks_dynamic, is_violated}
-use Rattle.rbac_terms.specs.Change.{change, with_active}
-use Rattle.rbac_terms.specs.Reviews.{active_in, active_roles}
-use Rattle.rbac_terms.specs.declared.separation.Separation.{Separation}
-use Rattle.rbac_terms.specs.declared.separation.Separation.TheVariants.{Static, Dynamic}
-use Rattle.rbac_terms.specs.declared.command.Command.TheVariants.{AssignUser, AddInheritance, CreateSession, AddActiveRole}
-use Rattle.rbac_terms.proofs.NameLemmas.{names_total, names_exact}
-use Rattle.rbac_decide.specs.Breaking.{breaks_with, breaks_set, first_holder}
-use Rattle.rbac_decide.specs.Hindrance.{Named, Tells, name_found, name_of, first_entry, first_set_of, first_set_in, static_breach, dynamic_breach, breach_of}
-use Rattle.rbac_decide.specs.Hindrance.Named.{a_breach}
-use Rattle.rbac_decide.specs.declared.named.Named.{Named as NamedByReferences}
+use Rattle.rbac_decide.proofs.Common.{IsTotalOrder, find, put, find-put, list_any, first_where, option_map, eq_by_cmp, Ordering, has}
+use Rattle.rbac_decide.proofs.Common.{by_key, with_key, inherits_in, is_authorized, change, with_active, sets_of, with_sets, breaks_static, breaks_dynamic}
+use Rattle.rbac_decide.proofs.Common.{is_violated, Name, name_cmp, active_in, active_roles, RoleSet, is_broken_by, is_broken, first_broken, IsSound, State}
+use Rattle.rbac_decide.proofs.Common.{Session, AssignUser, AddInheritance, CreateSession, AddActiveRole, Separation, Static, Dynamic, breaks_with, first_holder}
+use Rattle.rbac_decide.proofs.Common.{Named, Tells, name_found, name_of, first_entry, first_set_of, first_set_in, static_breach, dynamic_breach, breach_of}
+use Rattle.rbac_decide.proofs.Common.{a_breach, NamedByReferences, false≢true, and_parts, or_right, or_left, IsBelowAll, greater, one_key, ties_itself}
+use Rattle.rbac_decide.proofs.Common.{names_total, names_exact}
 use Rattle.rbac_decide.proofs.SeparationLemmas.{breaks_same, any_put, put_found, put_violated, unbroken, user_gains, others_gain_nothing, assigned_state, declared_state, pair_gives, below_one, declared_violated}
 use Rattle.rbac_decide.proofs.FreshLemmas.{nobody_breaks}
 
@@ -41,32 +21,20 @@ tells_so b now x then (Some names) e f told = (e ∙ told.0, told.1 ∙ f told.0
 module _ {X : Type 0} (p : X → Bool) where
   pub none_first : (xs : List X) → first_where p xs ≡ None → list_any p xs ≡ false
   none_first [] e = refl
-  none_first (x ∷ xs) e = go (p x) e (none_first xs)
-    where
-      go : (b : Bool) → cond b (Some x) (first_where p xs) ≡ None → (first_where p xs ≡ None → list_any p xs ≡ false) → (b || list_any p xs) ≡ false
-      go true e rest = absurd (let f : ⊥ = cc in f)
-      go false e rest = rest e
+  none_first (x ∷ xs) e = grind (arith, none_first xs)
 
   pub none_any : (xs : List X) → list_any p xs ≡ false → first_where p xs ≡ None
   none_any [] e = refl
-  none_any (x ∷ xs) e = go (p x) e (none_any xs)
-    where
-      go : (b : Bool) → (b || list_any p xs) ≡ false → (list_any p xs ≡ false → first_where p xs ≡ None) → cond b (Some x) (first_where p xs) ≡ None
-      go true e rest = absurd (false≢true (sym e))
-      go false e rest = rest e
+  none_any (x ∷ xs) e = grind (arith, none_any xs)
 
   pub some_first : (xs : List X) (y : X) → first_where p xs ≡ Some y → (p y ≡ true) × (list_any p xs ≡ true)
-  some_first [] y e = absurd (let f : ⊥ = cc in f)
-  some_first (x ∷ xs) y e = go (p x) refl e (some_first xs y)
-    where
-      go : (b : Bool) → p x ≡ b → cond b (Some x) (first_where p xs) ≡ Some y → (first_where p xs ≡ Some y → (p y ≡ true) × (list_any p xs ≡ true)) → (p y ≡ true) × ((b || list_any p xs) ≡ true)
-      go true passes e rest = (subst (λ z. p z ≡ true) (let same : x ≡ y = cc in same) passes, refl)
-      go false passes e rest = rest e
+  some_first [] y e = grind arith
+  some_first (x ∷ xs) y e = grind (arith, some_first xs y)
 
   -- the next element is the first that passes, or is passed over
   pub first_here : (xs : List X) (i : ℕ) (x : X) → slice_get xs i ≡ Some x → p x ≡ true → first_where p (drop i xs) ≡ Some x
-  first_here [] i x e passes = absurd (let f : ⊥ = cc in f)
-  first_here (y ∷ ys) zero x e passes = let same : y ≡ x = cc in ap (λ b. cond b (Some y) (first_where p ys)) (ap p same ∙ passes) ∙ ap Some same
+  first_here [] i x e passes = grind arith
+  first_here (y ∷ ys) zero x e passes = grind arith
   first_here (y ∷ ys) (suc i) x e passes = first_here ys i x e passes
 
   later : (xs : List X) (i : ℕ) → ((x : X) → slice_get xs i ≡ Some x → p x ≡ false) → first_where p (drop i xs) ≡ first_where p (drop (suc i) xs)
@@ -81,66 +49,38 @@ module _ {X : Type 0} (p : X → Bool) where
   module _ (r : X → Bool) where
     -- where none is so, the first is not
     pub first_unless : (xs : List X) (y : X) → list_any r xs ≡ false → first_where p xs ≡ Some y → r y ≡ false
-    first_unless [] y none e = absurd (let f : ⊥ = cc in f)
-    first_unless (x ∷ xs) y none e = go (r x) (p x) refl none e (first_unless xs y)
-      where
-        go : (b c : Bool) → r x ≡ b → (b || list_any r xs) ≡ false → cond c (Some x) (first_where p xs) ≡ Some y → (list_any r xs ≡ false → first_where p xs ≡ Some y → r y ≡ false) → r y ≡ false
-        go true c is none e rest = absurd (false≢true (sym none))
-        go false true is none e rest = subst (λ z. r z ≡ false) (let same : x ≡ y = cc in same) is
-        go false false is none e rest = rest none e
+    first_unless [] y none e = grind arith
+    first_unless (x ∷ xs) y none e = grind (arith, first_unless xs y)
 
     -- tests that agree wherever that is not so have the same first
     pub first_alike : (q : X → Bool) → ((x : X) → r x ≡ false → p x ≡ q x) → (xs : List X) → list_any r xs ≡ false → first_where p xs ≡ first_where q xs
     first_alike q same [] none = refl
-    first_alike q same (x ∷ xs) none = go (r x) refl none (first_alike q same xs)
-      where
-        go : (b : Bool) → r x ≡ b → (b || list_any r xs) ≡ false → (list_any r xs ≡ false → first_where p xs ≡ first_where q xs) → cond (p x) (Some x) (first_where p xs) ≡ cond (q x) (Some x) (first_where q xs)
-        go true is none rest = absurd (false≢true (sym none))
-        go false is none rest = λ i. cond (same x is i) (Some x) (rest none i)
+    first_alike q same (x ∷ xs) none = grind (arith, same x, first_alike q same xs)
 
 -- a name that passes, where no other does, is the first
 pub first_one : (p : Name → Bool) (xs : List Name) (k : Name) → has name_cmp k xs ≡ true → p k ≡ true → ((x : Name) → has name_cmp x xs ≡ true → eq_by_cmp name_cmp k x ≡ false → p x ≡ false) → first_where p xs ≡ Some k
 first_one p [] k m passes others = absurd (false≢true m)
-first_one p (x ∷ xs) k m passes others = go (eq_by_cmp name_cmp k x) refl m (λ m. first_one p xs k m passes (λ y n. others y (or_right _ _ n)))
-  where
-    head : has name_cmp x (x ∷ xs) ≡ true
-    head = ap (λ b. b || has name_cmp x xs) (ties_itself names_total x)
-
-    go : (b : Bool) → eq_by_cmp name_cmp k x ≡ b → (b || has name_cmp k xs) ≡ true → (has name_cmp k xs ≡ true → first_where p xs ≡ Some k) → cond (p x) (Some x) (first_where p xs) ≡ Some k
-    go true same m rest = let is = one_key names_exact k x same in ap (λ b. cond b (Some x) (first_where p xs)) (ap p (sym is) ∙ passes) ∙ ap Some (sym is)
-    go false apart m rest = ap (λ b. cond b (Some x) (first_where p xs)) (others x head apart) ∙ rest m
+first_one p (x ∷ xs) k m passes others =
+    let same : eq_by_cmp name_cmp k x ≡ true → k ≡ x = one_key names_exact k x in
+    let apart = others x (or_left _ _ (ties_itself names_total x)) in
+    let rest : has name_cmp k xs ≡ true → first_where p xs ≡ Some k = λ there. first_one p xs k there passes (λ y n. others y (or_right _ _ n)) in
+    grind arith
 
 -- an entry that passes, put among those of which none does, is the first
 pub first_put : {X : Type 0} (p : X → Bool) (k : Name) (v : X) (es : List (Name × X)) → list_any (λ e. p e.1) es ≡ false → p v ≡ true → first_entry p (put name_cmp k v es) ≡ k
-first_put p k v [] none passes = ap (λ b. name_of (cond b (Some (k, v)) None)) passes
-first_put p k v (x ∷ xs) none passes = go (name_cmp k x.0) refl (p x.1) refl none (first_put p k v xs)
-  where
-    go : (o : Ordering) → name_cmp k x.0 ≡ o → (b : Bool) → p x.1 ≡ b → (b || list_any (λ e. p e.1) xs) ≡ false → (list_any (λ e. p e.1) xs ≡ false → p v ≡ true → first_entry p (put name_cmp k v xs) ≡ k)
-        → first_entry p (by_order o ((k, v) ∷ x ∷ xs) ((x.0, v) ∷ xs) (x ∷ put name_cmp k v xs)) ≡ k
-    go Less is b e none rest = ap (λ c. name_of (cond c (Some (k, v)) (first_where (λ y. p y.1) (x ∷ xs)))) passes
-    go Equal is b e none rest = ap (λ c. name_of (cond c (Some (x.0, v)) (first_where (λ y. p y.1) xs))) passes ∙ sym (names_exact k x.0 is)
-    go Greater is true e none rest = absurd (false≢true (sym none))
-    go Greater is false e none rest = ap (λ c. name_of (cond c (Some x) (first_where (λ y. p y.1) (put name_cmp k v xs)))) e ∙ rest none passes
+first_put p k v [] none passes = grind arith
+first_put p k v (x ∷ xs) none passes = grind (arith, names_exact k x.0, first_put p k v xs)
 
 module _ {K V : Type 0} {R : K → K → Ordering} (o : IsTotalOrder R) (p : K × V → Bool) where
   above : (x : K × V) (es : List (K × V)) (y : K × V) → IsBelowAll (by_key R) x es → first_where p es ≡ Some y → eq_by_cmp R y.0 x.0 ≡ false
-  above x [] y below e = absurd (let f : ⊥ = cc in f)
-  above x (z ∷ es) y below e = go (p z) e (above x es y below.1)
-    where
-      go : (b : Bool) → cond b (Some z) (first_where p es) ≡ Some y → (first_where p es ≡ Some y → eq_by_cmp R y.0 x.0 ≡ false) → eq_by_cmp R y.0 x.0 ≡ false
-      go true e rest = subst (λ w. eq_by_cmp R w.0 x.0 ≡ false) (let same : z ≡ y = cc in same) (ap is_eq (greater o x.0 z.0 below.0))
-      go false e rest = rest e
+  above x [] y below e = grind arith
+  above x (z ∷ es) y below e = grind (arith, greater o x.0 z.0 below.0, above x es y below.1)
 
   -- among sorted entries the first that passes is found by its key
   pub first_found : (es : List (K × V)) → IsStrictlySortedBy (by_key R) es → (y : K × V) → first_where p es ≡ Some y → find R y.0 es ≡ Some y.1
   unfolding IsStrictlySortedBy
-  first_found [] sorted y e = absurd (let f : ⊥ = cc in f)
-  first_found (x ∷ es) sorted y e = go (p x) e (first_found es sorted.1 y) (above x es y sorted.0)
-    where
-      go : (b : Bool) → cond b (Some x) (first_where p es) ≡ Some y → (first_where p es ≡ Some y → find R y.0 es ≡ Some y.1) → (first_where p es ≡ Some y → eq_by_cmp R y.0 x.0 ≡ false)
-          → cond (eq_by_cmp R y.0 x.0) (Some x.1) (find R y.0 es) ≡ Some y.1
-      go true e rest apart = let same : x ≡ y = cc in rw (subst (λ w. eq_by_cmp R w.0 x.0 ≡ true) same (ties_itself o x.0)) (ap (λ w. Some w.1) same)
-      go false e rest apart = rw (apart e) (rest e)
+  first_found [] sorted y e = grind arith
+  first_found (x ∷ es) sorted y e = grind (arith, ties_itself o x.0, above x es y sorted.0, first_found es sorted.1 y)
 
 -- ---- A user that becomes authorized for what a role inherits
 
@@ -188,17 +128,11 @@ module _ (a d : Name) (s : State) (is_a : has name_cmp a s.roles ≡ true) (is_d
     pair_named =
         breach_is (declared_state a d s is_a is_d) user (λ r. inherits_in s d r || is_authorized s user r)
         (members_alike (breaks_static (declared_state a d s is_a is_d)) breaking_below s.users (below_one a d s is_a is_d h) ∙ some)
-        (λ r. pair_gives a d s is_a is_d user r ∙ ap (λ b. is_authorized s user r || (b && inherits_in s d r)) both.0 ∙ swap (is_authorized s user r) (inherits_in s d r))
+        (λ r. grind (arith, pair_gives a d s is_a is_d user r, both.0))
       where
-        swap : (x y : Bool) → (x || (true && y)) ≡ (y || x)
-        swap true true = refl
-        swap true false = refl
-        swap false true = refl
-        swap false false = refl
-
         members_alike : (p q : Name → Bool) (xs : List Name) → ((x : Name) → has name_cmp x xs ≡ true → p x ≡ q x) → first_where p xs ≡ first_where q xs
         members_alike p q [] same = refl
-        members_alike p q (x ∷ xs) same = λ i. cond (same x (ap (λ b. b || has name_cmp x xs) (ties_itself names_total x)) i) (Some x) (members_alike p q xs (λ y m. same y (or_right _ _ m)) i)
+        members_alike p q (x ∷ xs) same = λ i. cond (same x (or_left _ _ (ties_itself names_total x)) i) (Some x) (members_alike p q xs (λ y m. same y (or_right _ _ m)) i)
 
 -- ---- A set that is put
 
@@ -229,45 +163,32 @@ module _ (set : Name) (new : RoleSet) (s : State) (h : IsSound s) where
       ∙ ap (λ roles. a_breach Dynamic e.0 (first_entry (is_broken roles) with_dynamic.dynamic_sets)) active
       ∙ ap (a_breach Dynamic e.0) (first_put (is_broken e.1.active) set new s.dynamic_sets none (some_first test s.sessions e some).0))
 
-module _ (kind : Separation) (set : Name) (new : RoleSet) (s : State) (h : IsSound s) where
-  pub put_unbroken : first_holder kind s new ≡ None → is_violated kind (with_sets kind (put name_cmp set new (sets_of kind s)) s) ≡ false
-  put_unbroken none = put_violated kind set new s h ∙ go kind none
-    where
-      none_mapped : (o : Option (Name × Session)) → option_map (λ e. e.0) o ≡ None → o ≡ None
-      none_mapped None e = refl
-      none_mapped (Some x) e = absurd (let f : ⊥ = cc in f)
+pub put_unbroken : (kind : Separation) (set : Name) (new : RoleSet) (s : State) → IsSound s → first_holder kind s new ≡ None → is_violated kind (with_sets kind (put name_cmp set new (sets_of kind s)) s) ≡ false
+put_unbroken Static set new s h none = put_violated Static set new s h ∙ none_first _ s.users none
+put_unbroken Dynamic set new s h none = put_violated Dynamic set new s h ∙ none_first _ s.sessions (none_mapped _ none)
+  where
+    none_mapped : (o : Option (Name × Session)) → option_map (λ e. e.0) o ≡ None → o ≡ None
+    none_mapped o e = grind arith
 
-      go : (k : Separation) → first_holder k s new ≡ None → breaks_set k s new ≡ false
-      go Static none = none_first _ s.users none
-      go Dynamic none = none_first _ s.sessions (none_mapped _ none)
-
-  pub put_named : (holder : Name) → first_holder kind s new ≡ Some holder
-      → (is_violated kind (with_sets kind (put name_cmp set new (sets_of kind s)) s) ≡ true) × (a_breach kind holder set ≡ breach_of kind (with_sets kind (put name_cmp set new (sets_of kind s)) s))
-  put_named holder some = go kind (put_violated kind set new s h) some
-    where
-      some_mapped : (o : Option (Name × Session)) → option_map (λ e. e.0) o ≡ Some holder → (e : Name × Session) × (o ≡ Some e) × (e.0 ≡ holder)
-      some_mapped None e = absurd (let f : ⊥ = cc in f)
-      some_mapped (Some x) e = (x, refl, (let same : x.0 ≡ holder = cc in same))
-
-      go : (k : Separation) → is_violated k (with_sets k (put name_cmp set new (sets_of k s)) s) ≡ breaks_set k s new → first_holder k s new ≡ Some holder
-          → (is_violated k (with_sets k (put name_cmp set new (sets_of k s)) s) ≡ true) × (a_breach k holder set ≡ breach_of k (with_sets k (put name_cmp set new (sets_of k s)) s))
-      go Static violated some = (violated ∙ (some_first _ s.users holder some).1, static_named set new s h holder some)
-      go Dynamic violated some =
-          let found = some_mapped _ some in (
-            violated ∙ (some_first _ s.sessions found.0 found.1).1,
-            ap (λ n. a_breach Dynamic n set) (sym found.2) ∙ dynamic_named set new s h found.0 found.1,
-          )
+pub put_named : (kind : Separation) (set : Name) (new : RoleSet) (s : State) → IsSound s → (holder : Name) → first_holder kind s new ≡ Some holder
+    → (is_violated kind (with_sets kind (put name_cmp set new (sets_of kind s)) s) ≡ true) × (a_breach kind holder set ≡ breach_of kind (with_sets kind (put name_cmp set new (sets_of kind s)) s))
+put_named Static set new s h holder some = (put_violated Static set new s h ∙ (some_first _ s.users holder some).1, static_named set new s h holder some)
+put_named Dynamic set new s h holder some =
+    let found = some_mapped _ some in (
+      put_violated Dynamic set new s h ∙ (some_first _ s.sessions found.0 found.1).1,
+      ap (λ n. a_breach Dynamic n set) (sym found.2) ∙ dynamic_named set new s h found.0 found.1,
+    )
+  where
+    some_mapped : (o : Option (Name × Session)) → option_map (λ e. e.0) o ≡ Some holder → (e : Name × Session) × (o ≡ Some e) × (e.0 ≡ holder)
+    some_mapped None e = absurd (let f : ⊥ = cc in f)
+    some_mapped (Some x) e = (x, refl, (let same : x.0 ≡ holder = cc in same))
 
 -- ---- Sessions
 
 -- the first set that is broken is the first broken set
 pub first_broken_is : (roles : List Name) (sets : List (Name × RoleSet)) (set : Name) → first_broken roles sets ≡ Some set → first_entry (is_broken roles) sets ≡ set
-first_broken_is roles [] set e = absurd (let f : ⊥ = cc in f)
-first_broken_is roles (x ∷ xs) set e = go (is_broken roles x.1) e (first_broken_is roles xs set)
-  where
-    go : (b : Bool) → cond b (Some x.0) (first_broken roles xs) ≡ Some set → (first_broken roles xs ≡ Some set → first_entry (is_broken roles) xs ≡ set) → name_of (cond b (Some x) (first_where (λ e. is_broken roles e.1) xs)) ≡ set
-    go true e rest = let same : x.0 ≡ set = cc in same
-    go false e rest = rest e
+first_broken_is roles [] set e = grind arith
+first_broken_is roles (x ∷ xs) set e = grind (arith, first_broken_is roles xs set)
 
 put_there : (session : Name) (x : Session) (sessions : List (Name × Session)) → find name_cmp session (put name_cmp session x sessions) ≡ Some x
 put_there session x sessions = find-put name_cmp names_total session session x sessions ∙ ap (λ b. cond b (Some x) (find name_cmp session sessions)) (ties_itself names_total session)

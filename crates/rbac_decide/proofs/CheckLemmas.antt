@@ -1,24 +1,10 @@
 -- What a check reads off the grants of what it asks for.
-use Rattle.std.proofs.Common.{◌≡◌, ◌≢◌, List, [], ◌∷◌, map, true, refl, sym, subst, ◌∙◌}
-use Rattle.std.proofs.lemmas.Bool.{and_parts, or_left}
-use Rattle.std.specs.List.{list_any, filter}
-use Rattle.std.specs.Ordering.{eq_by_cmp}
-use Rattle.std.specs.FinMap.Entries.{find}
-use Rattle.sorted_keys.specs.Keys.{has}
-use Rattle.rbac_terms.specs.Name.{Name, Permission, Grant, name_cmp, pair_cmp, grant_cmp}
-use Rattle.rbac_terms.specs.Vocabulary.{is_listed}
-use Rattle.rbac_terms.specs.State.{State}
-use Rattle.rbac_terms.specs.Authorization.{inherits_in, has_permission}
-use Rattle.rbac_terms.specs.Effect.{session_holds}
-use Rattle.rbac_terms.specs.Reviews.{session_permissions}
-use Rattle.rbac_terms.specs.Subjects.{permitted_sessions, session_names}
-use Rattle.rbac_terms.specs.Sound.{IsSound}
-use Rattle.sorted_keys.proofs.Ties.{one_key, ties_itself, all_member}
-use Rattle.rbac_terms.proofs.NameLemmas.{pairs_exact, pairs_total, grants_total, grants_exact}
-use Rattle.sorted_keys.proofs.Kept.{was_kept}
+use Rattle.std.proofs.Common.{◌≡◌, ◌≢◌, List, [], ◌∷◌, map, true, refl, sym, subst, ◌∙◌, filter}
+use Rattle.rbac_decide.proofs.Common.{find, list_any, eq_by_cmp, has, inherits_in, has_permission, session_holds, Name, Permission, Grant, name_cmp, pair_cmp}
+use Rattle.rbac_decide.proofs.Common.{grant_cmp, session_permissions, IsSound, State, permitted_sessions, session_names, is_listed, and_parts, or_left}
+use Rattle.rbac_decide.proofs.Common.{was_kept, any-same, filter-same, one_key, ties_itself, all_member, pairs_exact, pairs_total, grants_total, grants_exact}
+use Rattle.rbac_decide.proofs.Common.{holds_what_is_listed}
 use Rattle.rbac_rolesets.proofs.GrantLemmas.{any_granted, has_granted}
-use Rattle.sorted_keys.proofs.Lists.{any-same, filter-same}
-use Rattle.rbac_rules.proofs.ReviewLemmas.{holds_what_is_listed}
 
 -- the grants of a permission, and the roles that it is granted to
 abbrev grants_of : State → Permission → List Grant

@@ -1,21 +1,9 @@
 -- What the counts of a policy become by each command.
 use Rattle.std.proofs.Common.{ℕ, ◌+◌, ◌<◌, List, [], ◌∷◌, length, get_or, drop, count_by, Bool, true, false, not, cond, ◌||◌, ◌&&◌, ◌≡◌, Option, Some, None, refl, sym, ap, ◌∙◌, add-one, arith}
-use Rattle.std.proofs.lemmas.Bool.{or_left, or_right, false≢true}
-use Rattle.std.proofs.lemmas.List.Sums.{sum_by-cons}
-use Rattle.std.proofs.Math.Seq.{drop-cons}
-use Rattle.std.specs.declared.cmp.Ordering.{Ordering}
-use Rattle.std.specs.List.{list_any, AllByRecursion as Each}
 use Rattle.std.specs.List.Sorted.{IsStrictlySortedBy}
-use Rattle.std.specs.Cmp.{IsTotalOrder}
-use Rattle.std.specs.Ordering.{is_eq}
-use Rattle.std.specs.FinMap.Entries.{find}
-use Rattle.sorted_keys.specs.Keys.{has, by_key}
-use Rattle.sorted_keys.proofs.Order.{IsBelowAll, greater}
-use Rattle.rbac_terms.specs.Name.{Name, name_cmp}
-use Rattle.rbac_terms.specs.Separation.{RoleSet}
-use Rattle.sorted_keys.proofs.Ties.{ties_itself}
-use Rattle.rbac_terms.proofs.NameLemmas.{names_total}
-use Rattle.rbac_decide.specs.Counting.{count_in}
+use Rattle.rbac_decide.proofs.Common.{IsTotalOrder, find, list_any, Each, is_eq, Ordering, has, by_key, Name, name_cmp, RoleSet, count_in}
+use Rattle.rbac_decide.proofs.Common.{or_left, or_right, sum_by-cons, IsBelowAll, greater, ties_itself, names_total}
+use Rattle.std.proofs.Math.Seq.{drop-cons}
 
 -- ---- Counting
 
@@ -28,12 +16,15 @@ count_same p q (x ∷ xs) same =
     ∙ (λ i. cond {A = ℕ} (same x (or_left _ _ (ties_itself names_total x)) i) 1 0 + rest i)
     ∙ sym (sum_by-cons (λ y. cond (q y) 1 0) x xs)
 
+-- and of those where they agree, one passes one where one passes the other
+pub any_alike : (p q : Name → Bool) (xs : List Name) → ((x : Name) → has name_cmp x xs ≡ true → p x ≡ q x) → list_any p xs ≡ list_any q xs
+any_alike p q [] same = refl
+any_alike p q (x ∷ xs) same = λ i. same x (or_left _ _ (ties_itself names_total x)) i || any_alike p q xs (λ y m. same y (or_right _ _ m)) i
+
 -- where none passes, none is counted
 pub count_none : (p : Name → Bool) (xs : List Name) → ((x : Name) → p x ≡ false) → count_by p xs ≡ 0
 count_none p [] none = refl
-count_none p (x ∷ xs) none =
-    let rest = count_none p xs none in
-    sum_by-cons (λ y. cond (p y) 1 0) x xs ∙ (λ i. cond {A = ℕ} (none x i) 1 0 + rest i)
+count_none p (x ∷ xs) none = grind (arith, none x, count_none p xs none, sum_by-cons)
 
 pub none_in : (test : Name → Bool) (o : Option RoleSet) → ((x : Name) → test x ≡ false) → count_in test o ≡ 0
 none_in test None none = refl
@@ -42,11 +33,7 @@ none_in test (Some set) none = count_none test set.roles none
 -- where none of them passes, none is counted
 pub no_count : (test : Name → Bool) (xs : List Name) → list_any test xs ≡ false → count_by test xs ≡ 0
 no_count test [] none = refl
-no_count test (x ∷ xs) none = sum_by-cons (λ y. cond (test y) 1 0) x xs ∙ go (test x) none (no_count test xs)
-  where
-    go : (b : Bool) → (b || list_any test xs) ≡ false → (list_any test xs ≡ false → count_by test xs ≡ 0) → cond {A = ℕ} b 1 0 + count_by test xs ≡ 0
-    go true e later = absurd (false≢true (sym e))
-    go false e later = ap (λ (n : ℕ). 0 + n) (later e)
+no_count test (x ∷ xs) none = grind (arith, no_count test xs, sum_by-cons)
 
 pub and_none : (n more : ℕ) → more ≡ 0 → n + more ≡ n
 and_none n more e = omega arith
@@ -59,14 +46,7 @@ count_split f a (x ∷ xs) =
     let whole = sum_by-cons (λ r. cond (f r || a r) 1 0) x xs in
     let first = sum_by-cons (λ r. cond (a r) 1 0) x xs in
     let second = sum_by-cons (λ r. cond (f r && not (a r)) 1 0) x xs in
-    let here = step (f x) (a x) in
-    omega arith
-  where
-    step : (b c : Bool) → cond {A = ℕ} (b || c) 1 0 ≡ cond {A = ℕ} c 1 0 + cond {A = ℕ} (b && not c) 1 0
-    step true true = refl
-    step true false = refl
-    step false true = refl
-    step false false = refl
+    grind arith
 
 -- ---- Entries in order
 

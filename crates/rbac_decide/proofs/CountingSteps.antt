@@ -1,40 +1,18 @@
 -- Which counts a command leaves, and what the others become.
-use Rattle.std.proofs.Common.{ℕ, List, [], ◌∷◌, Bool, true, false, not, cond, ◌||◌, ◌&&◌, ◌≡◌, Option, Some, None, refl, sym, ap, ◌∙◌, subst, ◌⊎◌, inl, inr, ⊎_elim}
-use Rattle.std.proofs.lemmas.Bool.{or_left, or_cases, and_from, not-false, false≢true}
-use Rattle.std.specs.List.{list_any, filter}
-use Rattle.std.specs.Ordering.{eq_by_cmp}
-use Rattle.std.specs.Option.{option_map}
-use Rattle.std.specs.FinMap.Entries.{find, put, find-put}
-use Rattle.sorted_keys.specs.Keys.{has, with_key, without, without_key, updated}
-use Rattle.sorted_keys.proofs.Members.{has-with_key, has-without}
+use Rattle.std.proofs.Common.{ℕ, List, [], ◌∷◌, Bool, true, false, not, cond, ◌||◌, ◌&&◌, ◌≡◌, Option, Some, None, refl, sym, ap, ◌∙◌, subst, ◌⊎◌, inl, inr, ⊎_elim, arith, filter}
+use Rattle.rbac_decide.proofs.Common.{find, put, find-put, list_any, option_map, eq_by_cmp, has, with_key, without, without_key, updated, IsAuthorized}
+use Rattle.rbac_decide.proofs.Common.{is_authorized, change, with_member, without_member, with_cardinality, sets_of, with_sets, IsChain, Inherits, juniors}
+use Rattle.rbac_decide.proofs.Common.{Name, name_cmp, pair_cmp, begins_with, ends_with, without_role, without_pairs_of, first_denial, preconditions, RoleSet}
+use Rattle.rbac_decide.proofs.Common.{is_broken_by, IsSound, IsRoleSet, State, Command, DeleteUser, AddRole, DeleteRole, DeassignUser, DeleteInheritance}
+use Rattle.rbac_decide.proofs.Common.{AddAscendant, AddDescendant, CreateSet, DeleteSet, AddRoleMember, DeleteRoleMember, Separation, Static, Dynamic, Counts}
+use Rattle.rbac_decide.proofs.Common.{numbers_of, without_user as without_user_of, count_in, authorized_count, authorized_by, authorized_users_by, juniors_by}
+use Rattle.rbac_decide.proofs.Common.{count_by_tables, AreCountsBy, IsCommandStep, touches, without_static, state_of, Tables, or_left, or_cases, and_from}
+use Rattle.rbac_decide.proofs.Common.{not-false, false≢true, still, was_kept, is_kept, each_found, has-with_key, has-without, one_key, ties_itself, ties_flip}
+use Rattle.rbac_decide.proofs.Common.{same_bits, member_any, names_total, names_exact, pairs_total, pairs_exact, is_authorized_iff, joined, chain_role}
+use Rattle.rbac_decide.proofs.Common.{inherits_iff, inherits_still, inherits_over, none_fails, authorized_still, authorized_before_role}
+use Rattle.rbac_decide.proofs.Common.{authorized_before_ascendant, authorized_before_descendant, is_false, has_juniors}
 use Rattle.sorted_keys.proofs.Lookups.{find-without_key, find-updated}
-use Rattle.rbac_terms.specs.Name.{Name, name_cmp, pair_cmp}
-use Rattle.rbac_terms.specs.State.{State}
-use Rattle.rbac_terms.specs.Separation.{RoleSet, is_broken_by}
-use Rattle.rbac_terms.specs.Relations.{begins_with, ends_with, without_user, without_role, without_pairs_of}
-use Rattle.rbac_terms.specs.Inheritance.{IsChain, Inherits, juniors}
-use Rattle.rbac_terms.specs.Authorization.{IsAuthorized, is_authorized}
-use Rattle.rbac_terms.specs.Constraints.{sets_of, with_sets}
-use Rattle.rbac_terms.specs.Change.{change, with_member, without_member, with_cardinality}
-use Rattle.rbac_terms.specs.Rows.{first_denial, preconditions}
-use Rattle.rbac_terms.specs.Sound.{IsSound, IsRoleSet}
-use Rattle.rbac_terms.specs.declared.command.Command.{Command}
-use Rattle.rbac_terms.specs.declared.command.Command.TheVariants.{DeleteUser, AddRole, DeleteRole, AssignUser, DeassignUser, AddInheritance, DeleteInheritance, AddAscendant, AddDescendant, CreateSet, DeleteSet, AddRoleMember, DeleteRoleMember, SetCardinality}
-use Rattle.rbac_terms.specs.declared.separation.Separation.{Separation}
-use Rattle.rbac_terms.specs.declared.separation.Separation.TheVariants.{Static, Dynamic}
-use Rattle.sorted_keys.proofs.Ties.{one_key, ties_itself, ties_flip, same_bits, member_any}
-use Rattle.rbac_terms.proofs.NameLemmas.{names_total, names_exact, pairs_total, pairs_exact}
-use Rattle.rbac_rules.proofs.InheritanceLemmas.{joined, chain_role, inherits_iff, inherits_still, inherits_over}
-use Rattle.rbac_rules.proofs.AuthorizationLemmas.{is_authorized_iff}
-use Rattle.sorted_keys.proofs.Kept.{still, was_kept, is_kept, each_found}
-use Rattle.rbac_rules.proofs.SoundParts.{none_fails}
-use Rattle.rbac_rules.proofs.SoundSeparation.{is_false}
-use Rattle.rbac_rules.proofs.SoundRoles.{authorized_still, authorized_before_role, authorized_before_ascendant, authorized_before_descendant}
-use Rattle.rbac_hierarchy.proofs.JuniorLemmas.{has_juniors}
-use Rattle.rbac_separation.specs.Counts.{Counts, numbers_of, without_user as without_user_of}
-use Rattle.rbac_decide.specs.declared.tables.Tables.{Tables}
-use Rattle.rbac_decide.specs.Tables.{state_of}
-use Rattle.rbac_decide.specs.Counting.{count_in, authorized_count, authorized_by, authorized_users_by, juniors_by, count_by_tables, AreCountsBy, IsCommandStep, touches, without_static}
+use Rattle.rbac_terms.specs.Relations.{without_user}
 use Rattle.rbac_decide.proofs.CountingLemmas.{count_same, none_in}
 use Rattle.rbac_decide.proofs.SeparationLemmas.{unbroken}
 
@@ -114,6 +92,13 @@ after_deassignment user role s h set other e = sym (shared t s (user ∷ []) (ju
     )
     go u r a false e = inl (a.0, is_kept pairs_total pairs_exact (λ p. not (eq_by_cmp pair_cmp (user, role) p)) s.assigned (u, a.0) (ap not e) a.1, a.2)
 
+-- what is taken out and added again was there
+pub put_back : (pair : Name × Name) (pairs : List (Name × Name)) (other : Name × Name) → has pair_cmp other pairs ≡ true → has pair_cmp other (with_key pair_cmp pair (without pair_cmp pair pairs)) ≡ true
+put_back pair pairs other is_there =
+    let back = has-with_key pairs_total pair (without pair_cmp pair pairs) other in
+    let left = has-without pairs_total pair pairs other in
+    grind arith
+
 pub after_deleted_inheritance : (a d : Name) (s : State) → IsSound s → (set user : Name)
     → (touches (juniors s.roles s.declared d) (find name_cmp set s.static_sets) && has name_cmp user (filter (λ u. is_authorized s u a) s.users)) ≡ false
     → authorized_count (change (DeleteInheritance a d) s) set user ≡ authorized_count s set user
@@ -135,11 +120,7 @@ after_deleted_inheritance a d s h set user e = sym (shared t s (filter (λ u. is
     back r q i = inherits_still s.roles s.roles t.declared s.declared (λ z m. m) (λ p m. (was_kept pairs_total pairs_exact kept s.declared p m).1) r q i
 
     there : (p : Name × Name) → has pair_cmp p s.declared ≡ true → has pair_cmp p (with_key pair_cmp (a, d) t.declared) ≡ true
-    there p m = has-with_key pairs_total (a, d) t.declared p ∙ go (eq_by_cmp pair_cmp p (a, d)) refl
-      where
-        go : (b : Bool) → eq_by_cmp pair_cmp p (a, d) ≡ b → (b || has pair_cmp p t.declared) ≡ true
-        go true e = refl
-        go false e = is_kept pairs_total pairs_exact kept s.declared p (ap not (ties_flip pairs_total pairs_exact (a, d) p ∙ e)) m
+    there p m = put_back (a, d) s.declared p m
 
 -- a chain passes a role, or stays where that role is taken out with its pairs
 module _ (role : Name) (roles : List Name) (declared : List (Name × Name)) where
@@ -241,65 +222,32 @@ only user users is other m = ⊎_elim (λ t. subst (λ z. has name_cmp z users �
 pub deleted_count : (set other : Name) (test : Name → Bool) (sets : List (Name × RoleSet))
     → count_in test (find name_cmp other (without_key name_cmp set sets)) ≡ cond (eq_by_cmp name_cmp set other) 0 (count_in test (find name_cmp other sets))
 deleted_count set other test sets =
-    ap (count_in test) (find-without_key name_cmp names_total set sets other) ∙ go (eq_by_cmp name_cmp other set)
-    ∙ ap (λ b. cond b 0 (count_in test (find name_cmp other sets))) (ties_flip names_total names_exact other set)
-  where
-    go : (b : Bool) → count_in test (cond b None (find name_cmp other sets)) ≡ cond b 0 (count_in test (find name_cmp other sets))
-    go true = refl
-    go false = refl
+    let found = find-without_key name_cmp names_total set sets other in
+    let flip = ties_flip names_total names_exact other set in
+    grind arith
 
 -- another number of a set
-numbered : (set other : Name) (n : ℕ) (test : Name → Bool) (sets : List (Name × RoleSet)) → count_in test (find name_cmp other (updated name_cmp set (with_cardinality n) sets)) ≡ count_in test (find name_cmp other sets)
-numbered set other n test sets = ap (count_in test) (find-updated name_cmp names_total set (with_cardinality n) sets other) ∙ go (eq_by_cmp name_cmp other set) (find name_cmp other sets)
-  where
-    go : (b : Bool) (o : Option RoleSet) → count_in test (cond b (option_map (with_cardinality n) o) o) ≡ count_in test o
-    go true None = refl
-    go true (Some x) = refl
-    go false o = refl
+pub numbered : (set other : Name) (n : ℕ) (test : Name → Bool) (sets : List (Name × RoleSet)) → count_in test (find name_cmp other (updated name_cmp set (with_cardinality n) sets)) ≡ count_in test (find name_cmp other sets)
+numbered set other n test sets = let found = find-updated name_cmp names_total set (with_cardinality n) sets other in grind arith
 
--- ---- All other commands
+-- ---- Commands that leave each count, though they change roles or pairs
 
--- the commands that may change a count
-abbrev pub changes_counts : Command → Bool
-changes_counts (DeleteUser user) = true
-changes_counts (DeleteRole role) = true
-changes_counts (AssignUser user role) = true
-changes_counts (DeassignUser user role) = true
-changes_counts (AddInheritance ascendant descendant) = true
-changes_counts (DeleteInheritance ascendant descendant) = true
-changes_counts (CreateSet kind set roles n) = true
-changes_counts (DeleteSet kind set) = true
-changes_counts (AddRoleMember kind set role) = true
-changes_counts (DeleteRoleMember kind set role) = true
-changes_counts c = false
+pub role_leaves : (role : Name) (s : State) → IsSound s → (set user : Name) → authorized_count (change (AddRole role) s) set user ≡ authorized_count s set user
+role_leaves role s h set user =
+    count_stays s (change (AddRole role) s) user h (λ r is a. authorized_before_role role s h user r a)
+    (authorized_still s (with_key name_cmp role s.roles) s.declared (still names_total role s.roles) (λ p m. m) user) set
 
-pub unchanged : (c : Command) (s : State) → IsSound s → first_denial c s ≡ None → changes_counts c ≡ false → (set user : Name) → authorized_count (change c s) set user ≡ authorized_count s set user
-unchanged (AddRole role) s h none e set user =
-    let t : State = record s { roles = with_key name_cmp role s.roles } in
-    count_stays s t user h (λ r is a. authorized_before_role role s h user r a) (authorized_still s t.roles s.declared (still names_total role s.roles) (λ p m. m) user) set
-unchanged (AddAscendant a d) s h none e set user =
-    let holds = none_fails (preconditions (AddAscendant a d) s) none in
-    let t : State = record s { roles = with_key name_cmp a s.roles; declared = with_key pair_cmp (a, d) s.declared } in
-    count_stays s t user h (λ r is x. authorized_before_ascendant a d s holds.0 h user r x)
-    (authorized_still s t.roles t.declared (still names_total a s.roles) (still pairs_total (a, d) s.declared) user) set
-unchanged (AddDescendant a d) s h none e set user =
-    let holds = none_fails (preconditions (AddDescendant a d) s) none in
-    let t : State = record s { roles = with_key name_cmp d s.roles; declared = with_key pair_cmp (a, d) s.declared } in
-    count_stays s t user h (λ r is x. authorized_before_descendant a d s holds.0 h user r is x)
-    (authorized_still s t.roles t.declared (still names_total d s.roles) (still pairs_total (a, d) s.declared) user) set
-unchanged (SetCardinality Static set n) s h none e other user = numbered set other n (is_authorized s user) s.static_sets
-unchanged (SetCardinality Dynamic set n) s h none e other user = refl
-unchanged (DeleteUser gone) s h none e other user = absurd (false≢true (sym e))
-unchanged (DeleteRole role) s h none e other user = absurd (false≢true (sym e))
-unchanged (AssignUser first role) s h none e other user = absurd (false≢true (sym e))
-unchanged (DeassignUser first role) s h none e other user = absurd (false≢true (sym e))
-unchanged (AddInheritance a d) s h none e other user = absurd (false≢true (sym e))
-unchanged (DeleteInheritance a d) s h none e other user = absurd (false≢true (sym e))
-unchanged (CreateSet kind set roles n) s h none e other user = absurd (false≢true (sym e))
-unchanged (DeleteSet kind set) s h none e other user = absurd (false≢true (sym e))
-unchanged (AddRoleMember kind set role) s h none e other user = absurd (false≢true (sym e))
-unchanged (DeleteRoleMember kind set role) s h none e other user = absurd (false≢true (sym e))
-unchanged c s h none e set user = refl
+pub ascendant_leaves : (a d : Name) (s : State) → IsSound s → first_denial (AddAscendant a d) s ≡ None
+    → (set user : Name) → authorized_count (change (AddAscendant a d) s) set user ≡ authorized_count s set user
+ascendant_leaves a d s h none set user =
+    count_stays s (change (AddAscendant a d) s) user h (λ r is x. authorized_before_ascendant a d s (none_fails (preconditions (AddAscendant a d) s) none).0 h user r x)
+    (authorized_still s (with_key name_cmp a s.roles) (with_key pair_cmp (a, d) s.declared) (still names_total a s.roles) (still pairs_total (a, d) s.declared) user) set
+
+pub descendant_leaves : (a d : Name) (s : State) → IsSound s → first_denial (AddDescendant a d) s ≡ None
+    → (set user : Name) → authorized_count (change (AddDescendant a d) s) set user ≡ authorized_count s set user
+descendant_leaves a d s h none set user =
+    count_stays s (change (AddDescendant a d) s) user h (λ r is x. authorized_before_descendant a d s (none_fails (preconditions (AddDescendant a d) s) none).0 h user r is x)
+    (authorized_still s (with_key name_cmp d s.roles) (with_key pair_cmp (a, d) s.declared) (still names_total d s.roles) (still pairs_total (a, d) s.declared) user) set
 
 -- ---- The counts before a command
 

@@ -1,58 +1,27 @@
 -- Which sessions end: where a user loses a role none but the user's own, where a pair goes none but those with a role below it.
-use Rattle.std.proofs.Common.{List, [], ◌∷◌, Bool, true, false, not, ◌||◌, ◌&&◌, ◌≡◌, refl, sym, ap, ◌∙◌, ⊎_elim}
-use Rattle.std.proofs.lemmas.Bool.{and_from, false≢true}
-use Rattle.std.specs.List.{list_any, filter, AllByRecursion as Each}
-use Rattle.std.specs.Ordering.{eq_by_cmp}
-use Rattle.sorted_keys.specs.Keys.{has, with_key, without}
-use Rattle.sorted_keys.proofs.Members.{has-without}
-use Rattle.sorted_keys.proofs.Ties.{member_all, member_any, ties_flip, ties-pair}
-use Rattle.rbac_terms.specs.Name.{Name, name_cmp, pair_cmp}
-use Rattle.rbac_terms.specs.State.{State, Session}
-use Rattle.rbac_terms.specs.Authorization.{IsAuthorized, is_authorized, inherits_in, is_entitled, purge}
-use Rattle.rbac_terms.specs.Change.{end_sessions}
-use Rattle.rbac_terms.specs.Sound.{IsSessionSound}
-use Rattle.rbac_terms.proofs.NameLemmas.{names_total, names_exact, pairs_total}
-use Rattle.rbac_rules.proofs.AuthorizationLemmas.{is_authorized_iff}
-use Rattle.rbac_rules.proofs.InheritanceLemmas.{chain_end, inherits_iff, inherits_over}
-use Rattle.rbac_rules.proofs.SoundSeparation.{is_false}
+use Rattle.std.proofs.Common.{List, [], ◌∷◌, Bool, true, false, not, ◌||◌, ◌&&◌, ◌≡◌, refl, sym, ap, ◌∙◌, ⊎_elim, arith, filter}
+use Rattle.rbac_decide.proofs.Common.{list_any, Each, eq_by_cmp, has, with_key, without, IsAuthorized, is_authorized, inherits_in, is_entitled, purge}
+use Rattle.rbac_decide.proofs.Common.{end_sessions, Name, name_cmp, pair_cmp, IsSessionSound, State, Session, and_from, false≢true, has-without, member_all}
+use Rattle.rbac_decide.proofs.Common.{member_any, ties_flip, ties-pair, names_total, names_exact, pairs_total, is_authorized_iff, chain_end, inherits_iff}
+use Rattle.rbac_decide.proofs.Common.{inherits_over, is_false}
 
 -- what two tests leave, one after the other, where the second holds of all that the first is not asked of
 module _ {X : Type 0} (asked ends stays : X → Bool) (P : X → Type 0) (others : (x : X) → P x → asked x ≡ false → stays x ≡ true) where
   pub asked_once : (xs : List X) → Each P xs → filter stays (filter (λ x. not (asked x && ends x)) xs) ≡ filter (λ x. not (asked x && (ends x || not (stays x)))) xs
   asked_once [] each = refl
-  asked_once (x ∷ xs) each = go (asked x) (ends x) (stays x) refl refl refl (asked_once xs each.1)
-    where
-      go : (a e s : Bool) → asked x ≡ a → ends x ≡ e → stays x ≡ s
-          → filter stays (filter (λ x. not (asked x && ends x)) xs) ≡ filter (λ x. not (asked x && (ends x || not (stays x)))) xs
-          → filter stays (filter (λ x. not (asked x && ends x)) (x ∷ xs)) ≡ filter (λ x. not (asked x && (ends x || not (stays x)))) (x ∷ xs)
-      go true true s is_asked is_ending is_staying rest = rw is_asked (rw is_ending rest)
-      go true false true is_asked is_ending is_staying rest = rw is_asked (rw is_ending (rw is_staying (ap (λ l. x ∷ l) rest)))
-      go true false false is_asked is_ending is_staying rest = rw is_asked (rw is_ending (rw is_staying rest))
-      go false e s is_asked is_ending is_staying rest = let stays_true : stays x ≡ true = others x each.0 is_asked in rw is_asked (rw stays_true (ap (λ l. x ∷ l) rest))
+  asked_once (x ∷ xs) each = grind (arith, others x each.0, asked_once xs each.1)
 
 -- what is left where a test is asked of some alone, and the others stay
 module _ {X : Type 0} (asked stays : X → Bool) (P : X → Type 0) (others : (x : X) → P x → asked x ≡ false → stays x ≡ true) where
   pub some_asked : (xs : List X) → Each P xs → filter stays xs ≡ filter (λ x. not (asked x && not (stays x))) xs
   some_asked [] each = refl
-  some_asked (x ∷ xs) each = go (asked x) (stays x) refl refl (some_asked xs each.1)
-    where
-      go : (a s : Bool) → asked x ≡ a → stays x ≡ s → filter stays xs ≡ filter (λ x. not (asked x && not (stays x))) xs
-          → filter stays (x ∷ xs) ≡ filter (λ x. not (asked x && not (stays x))) (x ∷ xs)
-      go true true is_asked is_staying rest = rw is_asked (rw is_staying (ap (λ l. x ∷ l) rest))
-      go true false is_asked is_staying rest = rw is_asked (rw is_staying rest)
-      go false s is_asked is_staying rest = let stays_true : stays x ≡ true = others x each.0 is_asked in rw is_asked (rw stays_true (ap (λ l. x ∷ l) rest))
+  some_asked (x ∷ xs) each = grind (arith, others x each.0, some_asked xs each.1)
 
 -- what two tests leave, one after the other
 module _ {X : Type 0} (ends stays : X → Bool) where
   pub both_asked : (xs : List X) → filter stays (filter (λ x. not (ends x)) xs) ≡ filter (λ x. not (ends x || not (stays x))) xs
   both_asked [] = refl
-  both_asked (x ∷ xs) = go (ends x) (stays x) refl refl (both_asked xs)
-    where
-      go : (e s : Bool) → ends x ≡ e → stays x ≡ s → filter stays (filter (λ x. not (ends x)) xs) ≡ filter (λ x. not (ends x || not (stays x))) xs
-          → filter stays (filter (λ x. not (ends x)) (x ∷ xs)) ≡ filter (λ x. not (ends x || not (stays x))) (x ∷ xs)
-      go true s is_ending is_staying rest = rw is_ending rest
-      go false true is_ending is_staying rest = rw is_ending (rw is_staying (ap (λ l. x ∷ l) rest))
-      go false false is_ending is_staying rest = rw is_ending (rw is_staying rest)
+  both_asked (x ∷ xs) = grind (arith, both_asked xs)
 
 -- a role's own sessions, and then those that are not entitled
 pub ends_active : (role : Name) (s : State) → purge (end_sessions (λ x. has name_cmp role x.active) s) ≡ end_sessions (λ x. has name_cmp role x.active || not (is_entitled s x)) s

@@ -1,21 +1,8 @@
 -- What the roles that a user newly becomes authorized for break, with the counts that are kept.
-use Rattle.std.proofs.Common.{List, [], ◌∷◌, nat_le, count_by, Bool, true, false, ◌||◌, ◌&&◌, ◌≡◌, refl, sym, ap, ◌∙◌, arith}
-use Rattle.std.proofs.lemmas.Bool.{or_left, or_right, and_parts, false≢true, leb-true, le-leb}
-use Rattle.std.specs.List.{list_any, AllByRecursion as Each}
-use Rattle.std.specs.Ordering.{eq_by_cmp}
-use Rattle.sorted_keys.specs.Keys.{has, with_key}
-use Rattle.sorted_keys.proofs.Members.{has-with_key}
-use Rattle.rbac_terms.specs.Name.{Name, name_cmp}
-use Rattle.rbac_terms.specs.State.{State}
-use Rattle.rbac_terms.specs.Separation.{RoleSet, is_broken_by, is_constrained}
-use Rattle.rbac_terms.specs.Inheritance.{juniors}
-use Rattle.rbac_terms.specs.Authorization.{inherits_in, is_authorized}
-use Rattle.rbac_terms.specs.Sound.{IsSound, IsRoleSet}
-use Rattle.sorted_keys.proofs.Ties.{one_key}
-use Rattle.rbac_terms.proofs.NameLemmas.{names_total, names_exact}
-use Rattle.rbac_hierarchy.proofs.JuniorLemmas.{has_juniors}
-use Rattle.rbac_rules.proofs.SoundSeparation.{is_false}
-use Rattle.rbac_decide.specs.Breaking.{breaks_with, is_constrained_junior}
+use Rattle.std.proofs.Common.{List, [], ◌∷◌, nat_le, count_by, Bool, true, false, ◌||◌, ◌&&◌, ◌≡◌, refl, ap, ◌∙◌, arith}
+use Rattle.rbac_decide.proofs.Common.{list_any, Each, eq_by_cmp, has, with_key, inherits_in, is_authorized, juniors, Name, name_cmp, RoleSet, is_broken_by}
+use Rattle.rbac_decide.proofs.Common.{is_constrained, IsSound, IsRoleSet, State, breaks_with, is_constrained_junior, or_left, or_right, and_parts, false≢true}
+use Rattle.rbac_decide.proofs.Common.{leb-true, le-leb, has-with_key, one_key, names_total, names_exact, is_false, has_juniors}
 use Rattle.rbac_decide.proofs.CountingLemmas.{count_same, count_none}
 use Rattle.rbac_decide.proofs.CountingSteps.{stranger}
 use Rattle.rbac_decide.proofs.SeparationLemmas.{unbroken}
@@ -59,12 +46,7 @@ module _ (s : State) (role user : Name) where
   pub constrained_alike : list_any (λ e. is_broken_by (λ r. is_constrained_junior s role r || is_authorized s user r) e.1) s.static_sets ≡ breaks_with s role user
   constrained_alike =
       breaks_alike s.static_sets (λ r. is_constrained_junior s role r || is_authorized s user r) (λ r. inherits_in s role r || is_authorized s user r)
-      (λ r m. ap (λ b. (inherits_in s role r && b) || is_authorized s user r) m ∙ ap (λ b. b || is_authorized s user r) (and_true (inherits_in s role r)))
-      s.static_sets (each_constrained s.static_sets s.static_sets (λ r m. m))
-    where
-      and_true : (b : Bool) → (b && true) ≡ b
-      and_true true = refl
-      and_true false = refl
+      (λ r m. grind arith) s.static_sets (each_constrained s.static_sets s.static_sets (λ r m. m))
 
 -- what is gathered of the roles of static sets that a role inherits
 pub gathered : (s : State) (role : Name) (below kept : List Name) → below ≡ juniors s.roles s.declared role → ((r : Name) → has name_cmp r kept ≡ (has name_cmp r below && is_constrained r s.static_sets))
@@ -76,51 +58,25 @@ gathered s role below kept are told r = told r ∙ ap (λ b. b && is_constrained
 module _ (passes : Name → Bool) (x : Name) (rest fresh : List Name) (all : Name → Bool)
     (so_far : (r : Name) → (has name_cmp r fresh || (has name_cmp r (x ∷ rest) && passes r)) ≡ all r) where
   pub kept_one : passes x ≡ true → (r : Name) → (has name_cmp r (with_key name_cmp x fresh) || (has name_cmp r rest && passes r)) ≡ all r
-  kept_one is r = ap (λ b. b || (has name_cmp r rest && passes r)) (has-with_key names_total x fresh r) ∙ go (eq_by_cmp name_cmp r x) refl (so_far r)
-    where
-      last : (b : Bool) → (b || true) ≡ true
-      last true = refl
-      last false = refl
-
-      go : (b : Bool) → eq_by_cmp name_cmp r x ≡ b → (has name_cmp r fresh || ((b || has name_cmp r rest) && passes r)) ≡ all r
-          → ((b || has name_cmp r fresh) || (has name_cmp r rest && passes r)) ≡ all r
-      go true e told = sym (last (has name_cmp r fresh)) ∙ ap (λ b. has name_cmp r fresh || b) (sym (ap passes (one_key names_exact r x e) ∙ is)) ∙ told
-      go false e told = told
+  kept_one is r =
+      let same : eq_by_cmp name_cmp r x ≡ true → r ≡ x = one_key names_exact r x in
+      let added = has-with_key names_total x fresh r in
+      let told = so_far r in
+      grind arith
 
   pub kept_none : passes x ≡ false → (r : Name) → (has name_cmp r fresh || (has name_cmp r rest && passes r)) ≡ all r
-  kept_none is r = go (eq_by_cmp name_cmp r x) refl (so_far r)
-    where
-      nothing : (b : Bool) → (b && false) ≡ false
-      nothing true = refl
-      nothing false = refl
-
-      go : (b : Bool) → eq_by_cmp name_cmp r x ≡ b → (has name_cmp r fresh || ((b || has name_cmp r rest) && passes r)) ≡ all r
-          → (has name_cmp r fresh || (has name_cmp r rest && passes r)) ≡ all r
-      go true e told =
-          let none : passes r ≡ false = ap passes (one_key names_exact r x e) ∙ is in
-          ap (λ b. has name_cmp r fresh || b) (ap (λ b. has name_cmp r rest && b) none ∙ nothing (has name_cmp r rest) ∙ sym none) ∙ told
-      go false e told = told
+  kept_none is r =
+      let same : eq_by_cmp name_cmp r x ≡ true → r ≡ x = one_key names_exact r x in
+      let told = so_far r in
+      grind arith
 
 -- ---- The loop that gathers the roles of sets that are among some
-
-gathers : (n x a c : Bool) → ((n || (x && a)) || (c && a)) ≡ (n || ((x || c) && a))
-gathers true x a c = refl
-gathers false true true c = refl
-gathers false true false true = refl
-gathers false true false false = refl
-gathers false false a c = refl
 
 module _ (among names more : List Name) (e : Name × RoleSet) (rest : List (Name × RoleSet)) (all : Name → Bool)
     (added : (r : Name) → has name_cmp r more ≡ (has name_cmp r names || (has name_cmp r e.1.roles && has name_cmp r among)))
     (so_far : (r : Name) → (has name_cmp r names || (is_constrained r (e ∷ rest) && has name_cmp r among)) ≡ all r) where
   pub set_gathered : (r : Name) → (has name_cmp r more || (is_constrained r rest && has name_cmp r among)) ≡ all r
-  set_gathered r =
-      ap (λ b. b || (is_constrained r rest && has name_cmp r among)) (added r)
-      ∙ gathers (has name_cmp r names) (has name_cmp r e.1.roles) (has name_cmp r among) (is_constrained r rest)
-      ∙ so_far r
+  set_gathered r = grind (arith, added r, so_far r)
 
 pub both_swapped : (a b : Bool) → (a && b) ≡ (b && a)
-both_swapped true true = refl
-both_swapped true false = refl
-both_swapped false true = refl
-both_swapped false false = refl
+both_swapped a b = grind arith

@@ -1,37 +1,16 @@
 -- The counts that users come to by what they newly become authorized for.
-use Rattle.std.proofs.Common.{ℕ, ◌+◌, List, [], ◌∷◌, ◌++◌, map, count_by, nat_le, Bool, true, false, not, cond, ◌||◌, ◌&&◌, ◌≡◌, Option, Some, None, refl, sym, ap, ◌∙◌, arith}
-use Rattle.std.proofs.lemmas.Bool.{or_left, or_right, false≢true}
-use Rattle.std.proofs.lemmas.List.Sums.{sum_by-cons}
-use Rattle.std.specs.List.{list_any, filter, AllByRecursion as Each}
-use Rattle.std.specs.Ordering.{eq_by_cmp}
-use Rattle.std.specs.FinMap.Entries.{find}
-use Rattle.sorted_keys.specs.Keys.{has}
-use Rattle.sorted_keys.proofs.Ties.{one_key, ties_itself, ties_flip}
-use Rattle.sorted_keys.proofs.Kept.{was_kept, each_found}
-use Rattle.sorted_keys.proofs.Lists.{Each-weaker}
-use Rattle.rbac_terms.specs.Name.{Name, name_cmp}
-use Rattle.rbac_terms.specs.State.{State}
-use Rattle.rbac_terms.specs.Separation.{RoleSet, is_broken_by, is_constrained}
-use Rattle.rbac_terms.specs.Authorization.{inherits_in, is_authorized}
-use Rattle.rbac_terms.specs.Sound.{IsSound}
-use Rattle.rbac_terms.specs.Vocabulary.{Vocabulary}
-use Rattle.rbac_terms.specs.Change.{change}
-use Rattle.rbac_terms.specs.declared.command.Command.TheVariants.{AssignUser, AddInheritance}
-use Rattle.rbac_terms.proofs.NameLemmas.{names_total, names_exact}
-use Rattle.rbac_rules.proofs.AuthorizationLemmas.{is_authorized_iff}
-use Rattle.rbac_rules.proofs.SoundSeparation.{is_false, none_passes}
-use Rattle.rbac_hierarchy.proofs.Kept.{any-append}
-use Rattle.rbac_separation.specs.Numbered.{names_of}
-use Rattle.rbac_separation.specs.Counts.{Counts, CountChange, with_number, with_numbers, row_changes, changes_of}
-use Rattle.rbac_decide.specs.declared.tables.Tables.{Tables}
-use Rattle.rbac_decide.specs.Tables.{state_of}
-use Rattle.rbac_decide.specs.Breaking.{breaks_with, is_constrained_junior}
-use Rattle.rbac_decide.specs.Counting.{count_in, authorized_count, authorized_by, authorized_users_by, AreCountsBy, touches, cut_to, touched_sets, TellsAfter}
-use Rattle.rbac_decide.specs.Gains.{counts_with, breaks_touched}
+use Rattle.std.proofs.Common.{ℕ, ◌+◌, List, [], ◌∷◌, ◌++◌, map, count_by, nat_le, Bool, true, false, not, cond, ◌||◌, ◌&&◌, ◌≡◌, Option, Some, None, refl, sym, ap, ◌∙◌, arith, filter}
+use Rattle.rbac_decide.proofs.Common.{find, list_any, Each, eq_by_cmp, has, inherits_in, is_authorized, change, Name, name_cmp, RoleSet, is_broken_by}
+use Rattle.rbac_decide.proofs.Common.{is_constrained, IsSound, State, Vocabulary, AssignUser, AddInheritance, Counts, CountChange, with_number, with_numbers}
+use Rattle.rbac_decide.proofs.Common.{row_changes, changes_of, names_of, breaks_with, is_constrained_junior, count_in, authorized_count, authorized_by}
+use Rattle.rbac_decide.proofs.Common.{authorized_users_by, AreCountsBy, touches, cut_to, touched_sets, TellsAfter, counts_with, breaks_touched, state_of}
+use Rattle.rbac_decide.proofs.Common.{Tables, or_left, or_right, false≢true, and_parts, sum_by-cons, was_kept, each_found, Each-weaker, one_key, ties_itself}
+use Rattle.rbac_decide.proofs.Common.{ties_flip, names_total, names_exact, is_authorized_iff, is_false, none_passes, any-append}
 use Rattle.rbac_decide.proofs.CountingLemmas.{no_count, and_none, count_same, count_split, found_each}
 use Rattle.rbac_decide.proofs.CountingSteps.{among_users}
 use Rattle.rbac_decide.proofs.FreshLemmas.{each_constrained, constrained_alike, nobody_breaks}
 use Rattle.rbac_decide.proofs.SeparationLemmas.{user_gains, others_gain_nothing, pair_gives}
+use Rattle.rbac_decide.proofs.TouchedLemmas.{none_among}
 
 -- ---- Numbers that are given, each the right one
 
@@ -47,18 +26,12 @@ right_where_changed : (target : Name → Name → ℕ) (changes : List CountChan
     → with_numbers changes n s u ≡ cond (is_changed changes s u) (target s u) (n s u)
 right_where_changed target [] right n s u = refl
 right_where_changed target (c ∷ cs) right n s u =
-    right_where_changed target cs right.1 (with_number c.set c.user c.number n) s u
-    ∙ (λ t. cond (is_changed cs s u) (target s u) (cond (ties_flip names_total names_exact c.set s t && ties_flip names_total names_exact c.user u t) c.number (n s u)))
-    ∙ go (eq_by_cmp name_cmp s c.set) (eq_by_cmp name_cmp u c.user) (is_changed cs s u) refl refl
-  where
-    go : (a b h : Bool) → eq_by_cmp name_cmp s c.set ≡ a → eq_by_cmp name_cmp u c.user ≡ b
-        → cond h (target s u) (cond (a && b) c.number (n s u)) ≡ cond ((a && b) || h) (target s u) (n s u)
-    go true true true p q = refl
-    go true true false p q = right.0 ∙ sym (λ t. target (one_key names_exact s c.set p t) (one_key names_exact u c.user q t))
-    go true false true p q = refl
-    go true false false p q = refl
-    go false b true p q = refl
-    go false b false p q = refl
+    let later = right_where_changed target cs right.1 (with_number c.set c.user c.number n) s u in
+    let set = ties_flip names_total names_exact c.set s in
+    let user = ties_flip names_total names_exact c.user u in
+    let same_set : eq_by_cmp name_cmp s c.set ≡ true → s ≡ c.set = one_key names_exact s c.set in
+    let same_user : eq_by_cmp name_cmp u c.user ≡ true → u ≡ c.user = one_key names_exact u c.user in
+    grind (arith, right.0)
 
 each_both : {X : Type 0} (P : X → Type 0) (xs ys : List X) → Each P xs → Each P ys → Each P (xs ++ ys)
 each_both P [] ys first second = second
@@ -68,15 +41,7 @@ each_both P (x ∷ xs) ys first second = (first.0, each_both P xs ys first.1 sec
 module _ (user : Name) (g : Name × RoleSet → ℕ) where
   row_changed : (sets : List (Name × RoleSet)) (s u : Name) → is_changed (row_changes (names_of sets) user (map g sets)) s u ≡ (has name_cmp s (names_of sets) && eq_by_cmp name_cmp u user)
   row_changed [] s u = refl
-  row_changed (e ∷ es) s u =
-      ap (λ b. (eq_by_cmp name_cmp s e.0 && eq_by_cmp name_cmp u user) || b) (row_changed es s u)
-      ∙ go (eq_by_cmp name_cmp s e.0) (eq_by_cmp name_cmp u user) (has name_cmp s (names_of es))
-    where
-      go : (a b h : Bool) → ((a && b) || (h && b)) ≡ ((a || h) && b)
-      go true true h = refl
-      go true false true = refl
-      go true false false = refl
-      go false b h = refl
+  row_changed (e ∷ es) s u = grind (arith, row_changed es s u)
 
   row_right : (target : Name → Name → ℕ) (sets : List (Name × RoleSet)) → Each (λ e. g e ≡ target e.0 user) sets → AreRight target (row_changes (names_of sets) user (map g sets))
   row_right target [] all = tt
@@ -88,19 +53,10 @@ module _ (sets : List (Name × RoleSet)) (f : Name → Name × RoleSet → ℕ) 
   given users = changes_of (names_of sets) users (map (λ user. map (f user) sets) users)
 
   all_changed : (users : List Name) (s u : Name) → is_changed (given users) s u ≡ (has name_cmp s (names_of sets) && has name_cmp u users)
-  all_changed [] s u = nothing (has name_cmp s (names_of sets))
-    where
-      nothing : (b : Bool) → false ≡ (b && false)
-      nothing true = refl
-      nothing false = refl
+  all_changed [] s u = grind arith
   all_changed (x ∷ xs) s u =
-      any-append (λ (c : CountChange). eq_by_cmp name_cmp s c.set && eq_by_cmp name_cmp u c.user) (row_changes (names_of sets) x (map (f x) sets)) (given xs)
-      ∙ (λ t. row_changed x (f x) sets s u t || all_changed xs s u t)
-      ∙ go (has name_cmp s (names_of sets)) (eq_by_cmp name_cmp u x) (has name_cmp u xs)
-    where
-      go : (h a b : Bool) → ((h && a) || (h && b)) ≡ (h && (a || b))
-      go true a b = refl
-      go false a b = refl
+      let both = any-append (λ (c : CountChange). eq_by_cmp name_cmp s c.set && eq_by_cmp name_cmp u c.user) (row_changes (names_of sets) x (map (f x) sets)) (given xs) in
+      grind (arith, row_changed x (f x) sets s u, all_changed xs s u)
 
   all_right : (target : Name → Name → ℕ) (users : List Name) → ((u : Name) → has name_cmp u users ≡ true → Each (λ e. f u e ≡ target e.0 u) sets) → AreRight target (given users)
   all_right target [] right = tt
@@ -127,74 +83,36 @@ module _ (below : List Name) (authorized : Name → Bool) where
 
   count_kept : (roles : List Name) → count_by (λ r. not (authorized r)) (filter (λ r. has name_cmp r below) roles) ≡ count_by is_new roles
   count_kept [] = refl
-  count_kept (x ∷ xs) = go (has name_cmp x below) refl (count_kept xs) ∙ sym (sum_by-cons (λ r. cond (is_new r) 1 0) x xs)
-    where
-      kept : List Name
-      kept = filter (λ r. has name_cmp r below) xs
-
-      go : (b : Bool) → has name_cmp x below ≡ b → count_by (λ r. not (authorized r)) kept ≡ count_by is_new xs
-          → count_by (λ r. not (authorized r)) (cond b (x ∷ kept) kept) ≡ cond {A = ℕ} (is_new x) 1 0 + count_by is_new xs
-      go true is later =
-          sum_by-cons (λ r. cond (not (authorized r)) 1 0) x kept
-          ∙ (λ i. cond {A = ℕ} (sym is i && not (authorized x)) 1 0 + later i)
-      go false is later = later ∙ (let none : count_by is_new xs ≡ 0 + count_by is_new xs = omega arith in none) ∙ (λ i. cond {A = ℕ} (sym is i && not (authorized x)) 1 0 + count_by is_new xs)
+  count_kept (x ∷ xs) =
+      let rest = count_kept xs in
+      let new = sum_by-cons (λ r. cond (is_new r) 1 0) x xs in
+      let kept = sum_by-cons (λ r. cond (not (authorized r)) 1 0) x (filter (λ r. has name_cmp r below) xs) in
+      grind arith
 
   none_new : (roles : List Name) → list_any (λ r. has name_cmp r below) roles ≡ false → count_by is_new roles ≡ 0
-  none_new roles none = no_count is_new roles (go roles none)
-    where
-      go : (roles : List Name) → list_any (λ r. has name_cmp r below) roles ≡ false → list_any is_new roles ≡ false
-      go [] e = refl
-      go (x ∷ xs) e = one (has name_cmp x below) (go xs) e
-        where
-          one : (b : Bool) → (list_any (λ r. has name_cmp r below) xs ≡ false → list_any is_new xs ≡ false) → (b || list_any (λ r. has name_cmp r below) xs) ≡ false → ((b && not (authorized x)) || list_any is_new xs) ≡ false
-          one true later e = absurd (false≢true (sym e))
-          one false later e = later e
+  none_new roles none = no_count is_new roles (none_among is_new (λ r. has name_cmp r below) (λ r new. (and_parts _ _ new).0) roles none)
 
   -- one of them is full with the roles besides where one of all sets is broken
   any_touched : (numbers : Name → ℕ) (sets : List (Name × RoleSet)) → Each (λ e. numbers e.0 ≡ count_by authorized e.1.roles) sets → Each (λ e. is_broken_by authorized e.1 ≡ false) sets
       → list_any (λ e. nat_le e.1.cardinality (numbers e.0 + count_by (λ r. not (authorized r)) e.1.roles)) (touched_sets below sets)
       ≡ list_any (λ e. is_broken_by (λ r. has name_cmp r below || authorized r) e.1) sets
   any_touched numbers [] are unbroken = refl
-  any_touched numbers (e ∷ es) are unbroken = go (touches below (Some e.1)) refl (any_touched numbers es are.1 unbroken.1)
-    where
-      whole : count_by (λ r. has name_cmp r below || authorized r) e.1.roles ≡ count_by authorized e.1.roles + count_by is_new e.1.roles
-      whole = count_split (λ r. has name_cmp r below) authorized e.1.roles
-
-      go : (b : Bool) → touches below (Some e.1) ≡ b → list_any (λ x. nat_le x.1.cardinality (numbers x.0 + count_by (λ r. not (authorized r)) x.1.roles)) (touched_sets below es) ≡ list_any (λ x. is_broken_by (λ r. has name_cmp r below || authorized r) x.1) es
-          → list_any (λ (x : Name × RoleSet). nat_le x.1.cardinality (numbers x.0 + count_by (λ r. not (authorized r)) x.1.roles)) (map {B = Name × RoleSet} (λ x. (x.0, cut_to below x.1)) (cond b (e ∷ filter (λ x. touches below (Some x.1)) es) (filter (λ x. touches below (Some x.1)) es)))
-          ≡ (is_broken_by (λ r. has name_cmp r below || authorized r) e.1 || list_any (λ x. is_broken_by (λ r. has name_cmp r below || authorized r) x.1) es)
-      go true is later = λ i. nat_le e.1.cardinality (((λ j. are.0 j + count_kept e.1.roles j) ∙ sym whole) i) || later i
-      go false is later =
-          later ∙ sym (ap (λ b. b || list_any (λ x. is_broken_by (λ r. has name_cmp r below || authorized r) x.1) es)
-          (ap (nat_le e.1.cardinality) (whole ∙ and_none (count_by authorized e.1.roles) (count_by is_new e.1.roles) (none_new e.1.roles is)) ∙ unbroken.0))
+  any_touched numbers (e ∷ es) are unbroken =
+      let whole = count_split (λ r. has name_cmp r below) authorized e.1.roles in
+      let kept = count_kept e.1.roles in
+      let none = none_new e.1.roles in
+      grind (arith, are.0, unbroken.0, any_touched numbers es are.1 unbroken.1)
 
   -- a set that is none of them has no new role
   untouched : (s : Name) (sets : List (Name × RoleSet)) → has name_cmp s (names_of (touched_sets below sets)) ≡ false → count_in is_new (find name_cmp s sets) ≡ 0
   untouched s [] none = refl
-  untouched s (e ∷ es) none = go (touches below (Some e.1)) refl (eq_by_cmp name_cmp s e.0) refl none (untouched s es)
-    where
-      neither : (a b : Bool) → (a || b) ≡ false → (a ≡ false) × (b ≡ false)
-      neither true b e = absurd (false≢true (sym e))
-      neither false b e = (refl, e)
-
-      go : (b : Bool) → touches below (Some e.1) ≡ b → (a : Bool) → eq_by_cmp name_cmp s e.0 ≡ a
-          → has name_cmp s (names_of (map {B = Name × RoleSet} (λ x. (x.0, cut_to below x.1)) (cond b (e ∷ filter (λ x. touches below (Some x.1)) es) (filter (λ x. touches below (Some x.1)) es)))) ≡ false
-          → (has name_cmp s (names_of (touched_sets below es)) ≡ false → count_in is_new (find name_cmp s es) ≡ 0)
-          → count_in is_new (cond a (Some e.1) (find name_cmp s es)) ≡ 0
-      go true is true same none later = absurd (false≢true (sym (neither _ _ none).0 ∙ same))
-      go true is false same none later = later (neither _ _ none).1
-      go false is true same none later = none_new e.1.roles is
-      go false is false same none later = later none
+  untouched s (e ∷ es) none = grind (arith, none_new e.1.roles, untouched s es)
 
 -- ---- What a user gains by what a role inherits
 
 module _ (s : State) (role : Name) (below : List Name) (are : (r : Name) → has name_cmp r below ≡ is_constrained_junior s role r) (user : Name) where
   constrained_is : (r : Name) → is_constrained r s.static_sets ≡ true → (inherits_in s role r || is_authorized s user r) ≡ (has name_cmp r below || is_authorized s user r)
-  constrained_is r m = ap (λ b. b || is_authorized s user r) (sym (are r ∙ ap (λ b. inherits_in s role r && b) m ∙ and_true (inherits_in s role r)))
-    where
-      and_true : (b : Bool) → (b && true) ≡ b
-      and_true true = refl
-      and_true false = refl
+  constrained_is r m = grind (arith, are r)
 
   pub gained : (after : Name → Bool) → ((r : Name) → after r ≡ (inherits_in s role r || is_authorized s user r)) → (set : Name)
       → count_in after (find name_cmp set s.static_sets) ≡ authorized_count s set user + count_in (λ r. has name_cmp r below && not (is_authorized s user r)) (find name_cmp set s.static_sets)
@@ -295,19 +213,19 @@ module _ (t : Tables) (v : Vocabulary) (counts : Counts) (h : IsSound (state_of 
       changes is set u
     where
       alone : (b : Bool) → (b || false) ≡ true → b ≡ true
-      alone true e = refl
-      alone false e = e
+      alone b e = grind arith
 
       not_alone : (b : Bool) → (b || false) ≡ false → b ≡ false
-      not_alone true e = e
-      not_alone false e = refl
+      not_alone b e = grind arith
 
   pub tells_inheritance : (a : Name) → has name_cmp a t.hierarchy.content.roles ≡ true → has name_cmp role t.hierarchy.content.roles ≡ true → (changes : List CountChange)
       → changes ≡ changes_of (names_of (touched_sets below t.static_sets.content)) (authorized_users_by t a) (map (counts_with t counts (touched_sets below t.static_sets.content)) (authorized_users_by t a))
       → TellsAfter (AddInheritance a role) changes (state_of t v)
   tells_inheritance a is_a is_role changes is set u =
-      told (authorized_users_by t a) (is_authorized then) (λ x r m. gives x r ∙ ap (λ b. is_authorized s x r || (b && inherits_in s role r)) (was_kept names_total names_exact (λ z. authorized_by t z a) t.sets.content.users x m).0 ∙ swap (is_authorized s x r) (inherits_in s role r))
-      (λ x r m. gives x r ∙ ap (λ b. is_authorized s x r || (b && inherits_in s role r)) (is_false _ (λ e. false≢true (sym m ∙ among_users s h x a ((is_authorized_iff s x a).0 e)))) ∙ left (is_authorized s x r) (inherits_in s role r))
+      told (authorized_users_by t a) (is_authorized then)
+      (λ x r m. let gives = pair_gives a role s is_a is_role x r in let among = (was_kept names_total names_exact (λ z. authorized_by t z a) t.sets.content.users x m).0 in grind arith)
+      (λ x r m. let gives = pair_gives a role s is_a is_role x r in
+      let apart = is_false _ (λ e. false≢true (sym m ∙ among_users s h x a ((is_authorized_iff s x a).0 e))) in grind arith)
       changes is set u
     where
       s : State
@@ -315,16 +233,3 @@ module _ (t : Tables) (v : Vocabulary) (counts : Counts) (h : IsSound (state_of 
 
       then : State
       then = change (AddInheritance a role) (state_of t v)
-
-      gives : (x r : Name) → is_authorized then x r ≡ (is_authorized s x r || (is_authorized s x a && inherits_in s role r))
-      gives x r = pair_gives a role s is_a is_role x r
-
-      swap : (x y : Bool) → (x || (true && y)) ≡ (y || x)
-      swap true true = refl
-      swap true false = refl
-      swap false true = refl
-      swap false false = refl
-
-      left : (x y : Bool) → (x || (false && y)) ≡ x
-      left true y = refl
-      left false y = refl

@@ -2,6 +2,7 @@ pub mod AffectedLemmas
 pub mod ApplyLemmas
 pub mod BreachLemmas
 pub mod CheckLemmas
+pub mod Common
 pub mod CountingLemmas
 pub mod CountingSteps
 pub mod EndingLemmas

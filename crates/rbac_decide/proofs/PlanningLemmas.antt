@@ -1,33 +1,12 @@
 -- What is planned of a command, and then what it takes out, is its change.
-use Rattle.std.proofs.Common.{◌≡◌, List, Bool, true, false, cond, not, ◌&&◌, ◌||◌, refl, sym, ap, ◌∙◌, subst}
-use Rattle.std.proofs.lemmas.Bool.{and_parts, not-false}
-use Rattle.sorted_keys.specs.Keys.{has, with_key, without}
-use Rattle.std.specs.List.{AllByRecursion as Each}
-use Rattle.std.specs.Ordering.{eq_by_cmp}
-use Rattle.sorted_keys.proofs.Kept.{still}
-use Rattle.sorted_keys.proofs.Members.{has-with_key, has-without}
-use Rattle.sorted_keys.proofs.Lists.{Each-weaker}
-use Rattle.rbac_terms.specs.Name.{Name, name_cmp, pair_cmp}
-use Rattle.rbac_terms.specs.Inheritance.{inherits}
-use Rattle.rbac_terms.specs.State.{State}
-use Rattle.rbac_terms.specs.Vocabulary.{Vocabulary}
-use Rattle.rbac_terms.specs.Rows.{preconditions}
-use Rattle.rbac_terms.specs.Change.{change}
-use Rattle.rbac_terms.specs.Sound.{IsSessionSound}
-use Rattle.rbac_terms.specs.declared.separation.Separation.TheVariants.{Static, Dynamic}
-use Rattle.rbac_terms.specs.declared.command.Command.{Command}
-use Rattle.rbac_terms.specs.declared.command.Command.TheVariants.{AddRole, DeleteRole, DeassignUser, AddInheritance, DeleteInheritance, AddAscendant, AddDescendant, CreateSet, AddRoleMember}
-use Rattle.rbac_terms.proofs.NameLemmas.{names_total, pairs_total}
-use Rattle.rbac_rules.proofs.InheritanceLemmas.{inherits_iff, inherits_still}
-use Rattle.rbac_rules.proofs.SoundParts.{none_fails}
-use Rattle.rbac_rules.proofs.SoundRoles.{is_there, not_inherited, inherits_nothing}
-use Rattle.rbac_rules.proofs.SoundSeparation.{is_false}
+use Rattle.std.proofs.Common.{◌≡◌, true, false, cond, not, ◌&&◌, refl, sym, ap, ◌∙◌, subst, arith}
+use Rattle.rbac_decide.proofs.Common.{Each, has, with_key, without, change, inherits, Name, name_cmp, pair_cmp, preconditions, IsSessionSound, State}
+use Rattle.rbac_decide.proofs.Common.{Vocabulary, Command, AddRole, DeleteRole, DeassignUser, AddInheritance, DeleteInheritance, AddAscendant, AddDescendant}
+use Rattle.rbac_decide.proofs.Common.{CreateSet, AddRoleMember, Static, Dynamic, Sets, Order, sets_after, order_after, role_sets_after, sessions_after}
+use Rattle.rbac_decide.proofs.Common.{taken_out, roles_left, TakesFromSound, IsGrown, state_of, HasSameRoles, IsUndenied, Tables, and_parts, not-false, still}
+use Rattle.rbac_decide.proofs.Common.{Each-weaker, names_total, inherits_iff, inherits_still, none_fails, is_there, not_inherited, inherits_nothing, is_false}
 use Rattle.rbac_hierarchy.specs.Changes.{with_pair}
-use Rattle.rbac_hierarchy.specs.Order.{Order}
-use Rattle.rbac_rolesets.specs.Sets.{Sets}
-use Rattle.rbac_decide.specs.declared.tables.Tables.{Tables}
-use Rattle.rbac_decide.specs.Planning.{sets_after, order_after, role_sets_after, sessions_after, taken_out, roles_left, TakesFromSound, IsGrown}
-use Rattle.rbac_decide.specs.Tables.{state_of, HasSameRoles, IsUndenied}
+use Rattle.rbac_decide.proofs.CountingSteps.{put_back}
 
 -- the state of tables with what a command makes of each
 abbrev grown : Command → Tables → Vocabulary → State
@@ -47,17 +26,7 @@ grown c t v =
     }
 
 grown_state : (c : Command) (t g : Tables) → IsGrown c t g → (v : Vocabulary) → state_of g v ≡ grown c t v
-grown_state c t g h v = λ i. record {
-  users = (h.sets i).users;
-  roles = (h.hierarchy i).roles;
-  assigned = (h.sets i).assigned;
-  granted = (h.sets i).granted;
-  declared = (h.hierarchy i).declared;
-  static_sets = h.static_sets i;
-  dynamic_sets = h.dynamic_sets i;
-  sessions = h.sessions i;
-  vocabulary = v;
-}
+grown_state c t g h v = cc
 
 -- a pair of two roles that closes no cycle is declared
 declares : (a d : Name) (h : Order) → has name_cmp a h.roles ≡ true → has name_cmp d h.roles ≡ true → inherits h.roles h.declared d a ≡ false
@@ -111,17 +80,6 @@ module _ (t : Tables) (v : Vocabulary) where
 pub made_by_plan : (c : Command) (t g : Tables) → IsGrown c t g → IsUndenied c t → (v : Vocabulary) → taken_out c (state_of g v) ≡ change c (state_of t v)
 made_by_plan c t g h u v = ap (taken_out c) (grown_state c t g h v) ∙ then_taken_out t v c u
 
--- what is taken out and added again was there
-put_back : (pair : Name × Name) (pairs : List (Name × Name)) (other : Name × Name) → has pair_cmp other pairs ≡ true → has pair_cmp other (with_key pair_cmp pair (without pair_cmp pair pairs)) ≡ true
-put_back pair pairs other is_there =
-    has-with_key pairs_total pair (without pair_cmp pair pairs) other
-    ∙ ap (λ b. eq_by_cmp pair_cmp other pair || b) (has-without pairs_total pair pairs other)
-    ∙ go (eq_by_cmp pair_cmp other pair) (has pair_cmp other pairs) is_there
-  where
-    go : (same there : Bool) → there ≡ true → (same || (not same && there)) ≡ true
-    go true there e = refl
-    go false there e = e
-
 -- what an assignment is taken out of is as it was before, sound, and so was what a pair is taken out of
 pub takes_from_sound : (c : Command) (t g : Tables) → IsGrown c t g → IsUndenied c t → TakesFromSound c g
 takes_from_sound (DeassignUser user role) t g h u = λ v.
@@ -147,11 +105,7 @@ takes_from_sound c t g h u = tt
 -- ---- The roles of the role sets go with those of the hierarchy
 
 with_pair_roles : (a d : Name) (h : Order) → (with_pair a d h).roles ≡ h.roles
-with_pair_roles a d h = go (has name_cmp a h.roles && (has name_cmp d h.roles && not (inherits h.roles h.declared d a)))
-  where
-    go : (b : Bool) → (cond b (record h { declared = with_key pair_cmp (a, d) h.declared }) h).roles ≡ h.roles
-    go true = refl
-    go false = refl
+with_pair_roles a d h = grind arith
 
 roles_after : (c : Command) (h : Order) (s : Sets) → h.roles ≡ s.roles → (order_after c h).roles ≡ roles_left c (sets_after c s).roles
 roles_after (AddRole role) h s same = ap (with_key name_cmp role) same

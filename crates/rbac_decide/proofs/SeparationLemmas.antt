@@ -1,33 +1,13 @@
 -- What separation of duty asks of the state after a change, asked of the state before it.
-use Rattle.std.proofs.Common.{List, [], ◌∷◌, Bool, true, false, not, cond, ◌||◌, ◌&&◌, ◌≡◌, Option, Some, None, is_some, refl, sym, ap, ◌∙◌, subst, ⊎_elim}
-use Rattle.std.proofs.lemmas.Bool.{or_cases, or_left, or_right, and_parts, and_from, false≢true}
-use Rattle.std.specs.declared.cmp.Ordering.{Ordering}
-use Rattle.std.specs.declared.cmp.Ordering.TheVariants.{Less, Equal, Greater}
-use Rattle.std.specs.List.{list_any, list_all, AllByRecursion as Each}
-use Rattle.std.specs.Ordering.{eq_by_cmp}
-use Rattle.std.specs.Option.{option_map_or}
-use Rattle.std.specs.FinMap.Entries.{find, put, by_order}
-use Rattle.sorted_keys.specs.Keys.{has, with_key, updated}
-use Rattle.sorted_keys.proofs.Members.{has-with_key}
-use Rattle.rbac_terms.specs.Name.{Name, name_cmp, pair_cmp}
-use Rattle.rbac_terms.specs.State.{State, Session}
-use Rattle.rbac_terms.specs.Separation.{RoleSet, is_well_sized, is_broken_by, is_broken, first_broken}
-use Rattle.rbac_terms.specs.Inheritance.{Inherits}
-use Rattle.rbac_terms.specs.Authorization.{is_authorized, inherits_in}
-use Rattle.rbac_terms.specs.Constraints.{sets_of, with_sets, breaks_static, breaks_dynamic, is_violated, is_badly_sized}
-use Rattle.rbac_terms.specs.Change.{change, with_active}
-use Rattle.rbac_terms.specs.Rows.{found_and}
-use Rattle.rbac_terms.specs.Sound.{IsSound, IsRoleSet}
-use Rattle.rbac_terms.specs.declared.separation.Separation.{Separation}
-use Rattle.rbac_terms.specs.declared.separation.Separation.TheVariants.{Static, Dynamic}
-use Rattle.rbac_terms.specs.declared.command.Command.TheVariants.{AssignUser, AddInheritance, CreateSession, AddActiveRole}
-use Rattle.sorted_keys.proofs.Ties.{one_key, ties_itself, same_bits, any_member, member_any}
-use Rattle.rbac_terms.proofs.NameLemmas.{names_total, names_exact, pairs_total, pairs_exact}
-use Rattle.rbac_rules.proofs.InheritanceLemmas.{joined, inherits_iff, inherits_still, inherits_over}
-use Rattle.rbac_rules.proofs.AuthorizationLemmas.{is_authorized_iff}
-use Rattle.sorted_keys.proofs.Kept.{still}
-use Rattle.rbac_rules.proofs.SoundSeparation.{is_false}
-use Rattle.rbac_decide.specs.Breaking.{breaks_with, breaks_below, breaks_set}
+use Rattle.std.proofs.Common.{List, [], ◌∷◌, Bool, true, false, not, ◌||◌, ◌&&◌, ◌≡◌, Option, Some, None, is_some, refl, sym, ap, ◌∙◌, subst, ⊎_elim, arith}
+use Rattle.rbac_decide.proofs.Common.{find, put, list_any, list_all, Each, option_map_or, eq_by_cmp, Ordering, has, with_key, updated, is_authorized}
+use Rattle.rbac_decide.proofs.Common.{inherits_in, change, with_active, sets_of, with_sets, breaks_static, breaks_dynamic, is_violated, is_badly_sized}
+use Rattle.rbac_decide.proofs.Common.{Inherits, Name, name_cmp, pair_cmp, found_and, RoleSet, is_well_sized, is_broken_by, is_broken, first_broken, IsSound}
+use Rattle.rbac_decide.proofs.Common.{IsRoleSet, State, Session, AssignUser, AddInheritance, CreateSession, AddActiveRole, Separation, Static, Dynamic}
+use Rattle.rbac_decide.proofs.Common.{breaks_with, breaks_below, breaks_set, or_cases, or_left, or_right, and_parts, and_from, false≢true, still, has-with_key}
+use Rattle.rbac_decide.proofs.Common.{one_key, ties_itself, same_bits, any_member, member_any, names_total, names_exact, pairs_total, pairs_exact}
+use Rattle.rbac_decide.proofs.Common.{is_authorized_iff, joined, inherits_iff, inherits_still, inherits_over, is_false}
+use Rattle.rbac_decide.proofs.CountingLemmas.{any_alike}
 
 -- ---- Sets
 
@@ -38,59 +18,20 @@ breaks_same p q same sets = ap (λ t. list_any (λ e. is_broken_by t e.1) sets) 
 -- a first broken set is there where some set is broken
 pub over_tells : (roles : List Name) (sets : List (Name × RoleSet)) → is_some (first_broken roles sets) ≡ list_any (λ e. is_broken roles e.1) sets
 over_tells roles [] = refl
-over_tells roles (e ∷ es) = go (is_broken roles e.1) (over_tells roles es)
-  where
-    go : (b : Bool) → is_some (first_broken roles es) ≡ list_any (λ x. is_broken roles x.1) es → is_some (cond b (Some e.0) (first_broken roles es)) ≡ (b || list_any (λ x. is_broken roles x.1) es)
-    go true rest = refl
-    go false rest = rest
+over_tells roles (e ∷ es) = grind (arith, over_tells roles es)
 
 -- ---- One entry of a map
 
 module _ {K X : Type 0} (R : K → K → Ordering) (p : X → Bool) where
   -- where no value passes, some passes after one is put exactly where that one does
   pub any_put : (k : K) (v : X) (es : List (K × X)) → list_any (λ e. p e.1) es ≡ false → list_any (λ e. p e.1) (put R k v es) ≡ p v
-  any_put k v [] none = or_none (p v)
-    where
-      or_none : (b : Bool) → (b || false) ≡ b
-      or_none true = refl
-      or_none false = refl
-  any_put k v (x ∷ xs) none = go (R k x.0) (any_put k v xs tail)
-    where
-      head : p x.1 ≡ false
-      head = is_false (p x.1) (λ t. false≢true (sym none ∙ or_left (p x.1) (list_any (λ e. p e.1) xs) t))
-
-      tail : list_any (λ e. p e.1) xs ≡ false
-      tail = is_false (list_any (λ e. p e.1) xs) (λ t. false≢true (sym none ∙ or_right (p x.1) (list_any (λ e. p e.1) xs) t))
-
-      with_rest : (b c : Bool) → c ≡ false → (b || c) ≡ b
-      with_rest true c e = refl
-      with_rest false c e = e
-
-      go : (r : Ordering) → list_any (λ e. p e.1) (put R k v xs) ≡ p v → list_any (λ e. p e.1) (by_order r ((k, v) ∷ x ∷ xs) ((x.0, v) ∷ xs) (x ∷ put R k v xs)) ≡ p v
-      go Less rest = with_rest (p v) (list_any (λ e. p e.1) (x ∷ xs)) none
-      go Equal rest = with_rest (p v) (list_any (λ e. p e.1) xs) tail
-      go Greater rest = (λ i. head i || rest i)
+  any_put k v [] none = grind arith
+  any_put k v (x ∷ xs) none = grind (arith, any_put k v xs)
 
   -- where all values pass, all do after one is put exactly where that one does
   all_put : (k : K) (v : X) (es : List (K × X)) → list_all (λ e. p e.1) es ≡ true → list_all (λ e. p e.1) (put R k v es) ≡ p v
-  all_put k v [] all = and_all (p v)
-    where
-      and_all : (b : Bool) → (b && true) ≡ b
-      and_all true = refl
-      and_all false = refl
-  all_put k v (x ∷ xs) all = go (R k x.0) (all_put k v xs (and_parts _ _ all).1)
-    where
-      with_rest : (b c : Bool) → c ≡ true → (b && c) ≡ b
-      with_rest true c e = e
-      with_rest false c e = refl
-
-      both : (p x.1 ≡ true) × (list_all (λ e. p e.1) xs ≡ true)
-      both = and_parts (p x.1) (list_all (λ e. p e.1) xs) all
-
-      go : (r : Ordering) → list_all (λ e. p e.1) (put R k v xs) ≡ p v → list_all (λ e. p e.1) (by_order r ((k, v) ∷ x ∷ xs) ((x.0, v) ∷ xs) (x ∷ put R k v xs)) ≡ p v
-      go Less rest = with_rest (p v) (list_all (λ e. p e.1) (x ∷ xs)) all
-      go Equal rest = with_rest (p v) (list_all (λ e. p e.1) xs) both.1
-      go Greater rest = (λ i. both.0 i && rest i)
+  all_put k v [] all = grind arith
+  all_put k v (x ∷ xs) all = grind (arith, all_put k v xs)
 
 -- where a key is found, a change of its value puts the changed one
 pub put_found : {K X : Type 0} (R : K → K → Ordering) (k : K) (f : X → X) (es : List (K × X)) (v : X) → find R k es ≡ Some v → updated R k f es ≡ put R k (f v) es
@@ -108,9 +49,7 @@ module _ (kind : Separation) (set : Name) (new : RoleSet) (s : State) (h : IsSou
       each : {X : Type 0} (test : X → Name → Bool) (sets : List (Name × RoleSet)) (xs : List X) → list_any (λ x. list_any (λ e. is_broken_by (test x) e.1) sets) xs ≡ false
           → list_any (λ x. list_any (λ e. is_broken_by (test x) e.1) (put name_cmp set new sets)) xs ≡ list_any (λ x. is_broken_by (test x) new) xs
       each test sets [] none = refl
-      each test sets (x ∷ xs) none = (λ i.
-          any_put name_cmp (is_broken_by (test x)) set new sets (is_false _ (λ t. false≢true (sym none ∙ or_left _ _ t))) i
-          || each test sets xs (is_false _ (λ t. false≢true (sym none ∙ or_right _ _ t))) i)
+      each test sets (x ∷ xs) none = grind (arith, any_put name_cmp (is_broken_by (test x)) set new sets, each test sets xs)
 
   pub put_sized : is_badly_sized kind (with_sets kind (put name_cmp set new (sets_of kind s)) s) ≡ not (is_well_sized new)
   put_sized = elim kind as (λ k. is_badly_sized k (with_sets k (put name_cmp set new (sets_of k s)) s) ≡ not (is_well_sized new)) [
@@ -122,27 +61,15 @@ module _ (kind : Separation) (set : Name) (new : RoleSet) (s : State) (h : IsSou
       all_sized roles [] all = refl
       all_sized roles (e ∷ es) all = and_from _ _ all.0.sized (all_sized roles es all.1)
 
-some_of : {X : Type 0} (o : Option X) → is_some o ≡ true → (x : X) × (o ≡ Some x)
-some_of None e = absurd (false≢true e)
-some_of (Some x) e = (x, refl)
-
 -- the same where a set that is found is changed
-module _ (kind : Separation) (set : Name) (f : RoleSet → RoleSet) (s : State) (h : IsSound s) (is : is_some (find name_cmp set (sets_of kind s)) ≡ true) where
-  there : (x : RoleSet) × (find name_cmp set (sets_of kind s) ≡ Some x)
-  there = some_of (find name_cmp set (sets_of kind s)) is
-
-  old : RoleSet
-  old = there.0
-
-  found : find name_cmp set (sets_of kind s) ≡ Some old
-  unfolding old
-  found = there.1
-
-  pub updated_sized : is_badly_sized kind (with_sets kind (updated name_cmp set f (sets_of kind s)) s) ≡ not (found_and (λ x. is_well_sized (f x)) (find name_cmp set (sets_of kind s)))
-  updated_sized =
-      ap (λ sets. is_badly_sized kind (with_sets kind sets s)) (put_found name_cmp set f (sets_of kind s) old found)
-      ∙ put_sized kind set (f old) s h
-      ∙ ap not (sym (ap (found_and (λ x. is_well_sized (f x))) found))
+pub updated_sized : (kind : Separation) (set : Name) (f : RoleSet → RoleSet) (s : State) → IsSound s → is_some (find name_cmp set (sets_of kind s)) ≡ true
+    → is_badly_sized kind (with_sets kind (updated name_cmp set f (sets_of kind s)) s) ≡ not (found_and (λ x. is_well_sized (f x)) (find name_cmp set (sets_of kind s)))
+updated_sized kind set f s h is = go (find name_cmp set (sets_of kind s)) refl is
+  where
+    go : (o : Option RoleSet) → find name_cmp set (sets_of kind s) ≡ o → is_some o ≡ true
+        → is_badly_sized kind (with_sets kind (updated name_cmp set f (sets_of kind s)) s) ≡ not (found_and (λ x. is_well_sized (f x)) o)
+    go None found there = absurd (false≢true there)
+    go (Some old) found there = ap (λ sets. is_badly_sized kind (with_sets kind sets s)) (put_found name_cmp set f (sets_of kind s) old found) ∙ put_sized kind set (f old) s h
 
 -- ---- Sessions
 
@@ -229,26 +156,9 @@ module _ (a d : Name) (s : State) (is_a : has name_cmp a s.roles ≡ true) (is_d
   pub below_one : IsSound s → (user : Name) → has name_cmp user s.users ≡ true → breaks_static declared_state user ≡ (is_authorized s user a && breaks_with s d user)
   below_one h user is = go (is_authorized s user a) refl
     where
-      swap : (x y : Bool) → (x || (true && y)) ≡ (y || x)
-      swap true true = refl
-      swap true false = refl
-      swap false true = refl
-      swap false false = refl
-
-      left : (x y : Bool) → (x || (false && y)) ≡ x
-      left true y = refl
-      left false y = refl
-
       go : (b : Bool) → is_authorized s user a ≡ b → breaks_static declared_state user ≡ (b && breaks_with s d user)
-      go true e = breaks_same (is_authorized declared_state user) (λ r. inherits_in s d r || is_authorized s user r)
-          (λ r. pair_gives user r ∙ ap (λ b. is_authorized s user r || (b && inherits_in s d r)) e ∙ swap (is_authorized s user r) (inherits_in s d r)) s.static_sets
-      go false e = breaks_same (is_authorized declared_state user) (is_authorized s user)
-          (λ r. pair_gives user r ∙ ap (λ b. is_authorized s user r || (b && inherits_in s d r)) e ∙ left (is_authorized s user r) (inherits_in s d r)) s.static_sets
-          ∙ unbroken s h user is
+      go true e = breaks_same (is_authorized declared_state user) (λ r. inherits_in s d r || is_authorized s user r) (λ r. grind (arith, pair_gives user r)) s.static_sets
+      go false e = breaks_same (is_authorized declared_state user) (is_authorized s user) (λ r. grind (arith, pair_gives user r)) s.static_sets ∙ unbroken s h user is
 
   pub declared_violated : IsSound s → is_violated Static (change (AddInheritance a d) s) ≡ breaks_below s a d
-  declared_violated h = members_same (breaks_static declared_state) (λ user. is_authorized s user a && breaks_with s d user) s.users (below_one h)
-    where
-      members_same : (p q : Name → Bool) (xs : List Name) → ((x : Name) → has name_cmp x xs ≡ true → p x ≡ q x) → list_any p xs ≡ list_any q xs
-      members_same p q [] same = refl
-      members_same p q (x ∷ xs) same = (λ i. same x (or_left _ _ (ties_itself names_total x)) i || members_same p q xs (λ y m. same y (or_right _ _ m)) i)
+  declared_violated h = any_alike (breaks_static declared_state) (λ user. is_authorized s user a && breaks_with s d user) s.users (below_one h)

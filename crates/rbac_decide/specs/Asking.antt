@@ -1,7 +1,6 @@
 -- Which commands ask and change nothing.
 use Rattle.std.specs.Prelude.{Bool, true, false}
-use Rattle.rbac_terms.specs.declared.command.Command.{Command}
-use Rattle.rbac_terms.specs.declared.command.Command.TheVariants.{CheckAccess, Review as ReviewCommand}
+use Rattle.rbac_decide.specs.Words.{Command, CheckAccess, ReviewCommand}
 
 -- CheckAccess
 abbrev pub is_check : Command → Bool

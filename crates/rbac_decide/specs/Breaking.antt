@@ -1,13 +1,7 @@
 -- What would break separation of duty, asked of the state before the change.
 use Rattle.std.specs.Prelude.{Bool, ◌||◌, ◌&&◌, Option}
-use Rattle.std.specs.List.{list_any, find as first_where}
-use Rattle.std.specs.Option.{option_map}
-use Rattle.rbac_terms.specs.Name.{Name}
-use Rattle.rbac_terms.specs.State.{State}
-use Rattle.rbac_terms.specs.Separation.{RoleSet, is_broken_by, is_broken, is_constrained}
-use Rattle.rbac_terms.specs.Authorization.{inherits_in, is_authorized}
-use Rattle.rbac_terms.specs.declared.separation.Separation.{Separation}
-use Rattle.rbac_terms.specs.declared.separation.Separation.TheVariants.{Static, Dynamic}
+use Rattle.rbac_decide.specs.Words.{list_any, first_where, option_map, inherits_in, is_authorized, Name, RoleSet, is_broken_by, is_broken, is_constrained}
+use Rattle.rbac_decide.specs.Words.{State, Separation, Static, Dynamic}
 
 -- the role inherits this one, which is in some static set
 abbrev pub is_constrained_junior : State → Name → Name → Bool

@@ -1,25 +1,9 @@
 -- The counts that a policy keeps: for each static set and each user, of how many of its roles the user has the authorization.
-use Rattle.std.specs.Prelude.{ℕ, List, [], ◌∷◌, map, Bool, true, false, ◌&&◌, ◌≡◌, Option, Some, None, count_by}
-use Rattle.std.specs.FinMap.Entries.{find}
-use Rattle.std.specs.List.{list_any, filter}
-use Rattle.std.specs.Ordering.{eq_by_cmp}
-use Rattle.sorted_keys.specs.Keys.{has}
-use Rattle.rbac_terms.specs.Name.{Name, name_cmp}
-use Rattle.rbac_terms.specs.Vocabulary.{Vocabulary}
-use Rattle.rbac_terms.specs.Separation.{RoleSet, is_broken_by}
-use Rattle.rbac_terms.specs.State.{State}
-use Rattle.rbac_terms.specs.Inheritance.{juniors}
-use Rattle.rbac_terms.specs.Authorization.{is_authorized}
-use Rattle.rbac_terms.specs.Change.{change}
-use Rattle.rbac_terms.specs.Rows.{first_denial}
-use Rattle.rbac_terms.specs.Sound.{IsSound}
-use Rattle.rbac_terms.specs.declared.separation.Separation.{Separation}
-use Rattle.rbac_terms.specs.declared.separation.Separation.TheVariants.{Static, Dynamic}
-use Rattle.rbac_terms.specs.declared.command.Command.{Command}
-use Rattle.rbac_terms.specs.declared.command.Command.TheVariants.{DeleteUser, DeleteRole, AssignUser, DeassignUser, AddInheritance, DeleteInheritance, CreateSet, DeleteSet, AddRoleMember, DeleteRoleMember}
-use Rattle.rbac_separation.specs.Numbered.{names_of}
-use Rattle.rbac_separation.specs.declared.count_plan.CountPlan.{CountPlan}
-use Rattle.rbac_separation.specs.Counts.{Counts, CountChange, ArePlaced, numbers_of, with_numbers, without_set, without_user}
+use Rattle.std.specs.Prelude.{ℕ, List, [], ◌∷◌, map, Bool, true, false, ◌&&◌, ◌≡◌, Option, Some, None, count_by, filter}
+use Rattle.rbac_decide.specs.Words.{find, list_any, eq_by_cmp, has, is_authorized, change, juniors, Name, name_cmp, first_denial, RoleSet, is_broken_by}
+use Rattle.rbac_decide.specs.Words.{IsSound, State, Vocabulary, Command, DeleteUser, DeleteRole, AssignUser, DeassignUser, AddInheritance, DeleteInheritance}
+use Rattle.rbac_decide.specs.Words.{CreateSet, DeleteSet, AddRoleMember, DeleteRoleMember, Separation, Static, Dynamic, Counts, CountChange, ArePlaced}
+use Rattle.rbac_decide.specs.Words.{numbers_of, with_numbers, without_set, without_user, names_of, CountPlan}
 use Rattle.rbac_decide.specs.declared.tables.Tables.{Tables}
 use Rattle.rbac_decide.specs.Tables.{state_of, state_of_roles}
 

@@ -1,11 +1,7 @@
 -- The counts that users come to by roles that they get besides.
-use Rattle.std.specs.Prelude.{ℕ, ◌+◌, ◌≡◌, List, map, Bool, true, false, not, ◌&&◌, Option, Some, None, count_by, nat_le, slice_get}
-use Rattle.std.specs.List.{list_any, filter, filter_map, find as first_where}
-use Rattle.std.specs.Option.{unwrap_or}
-use Rattle.rbac_terms.specs.Name.{Name}
-use Rattle.rbac_terms.specs.Separation.{RoleSet}
-use Rattle.rbac_separation.specs.Numbered.{names_of}
-use Rattle.rbac_separation.specs.Counts.{Counts, CountChange, numbers_of, at_place, changes_of}
+use Rattle.std.specs.Prelude.{ℕ, ◌+◌, ◌≡◌, List, map, Bool, true, false, not, ◌&&◌, Option, Some, None, count_by, nat_le, slice_get, filter}
+use Rattle.rbac_decide.specs.Words.{list_any, filter_map, first_where, unwrap_or, Name, RoleSet, Counts, CountChange, numbers_of, at_place, changes_of}
+use Rattle.rbac_decide.specs.Words.{names_of}
 use Rattle.rbac_decide.specs.declared.tables.Tables.{Tables}
 use Rattle.rbac_decide.specs.declared.gathered.Ground.{Ground}
 use Rattle.rbac_decide.specs.declared.gains.CountedSet.{CountedSet}

@@ -1,12 +1,6 @@
 -- What a decision gathers, and what is planned of the counts.
 use Rattle.std.specs.Prelude.{⊤, ◌≡◌, Bool, true, false}
-use Rattle.rbac_terms.specs.State.{State}
-use Rattle.rbac_terms.specs.Name.{Name}
-use Rattle.rbac_terms.specs.declared.command.Command.{Command}
-use Rattle.rbac_terms.specs.declared.command.Command.TheVariants.{AssignUser, AddInheritance}
-use Rattle.rbac_separation.specs.Numbered.{names_of}
-use Rattle.rbac_separation.specs.Counts.{Counts}
-use Rattle.rbac_separation.specs.declared.count_plan.CountPlan.{CountPlan}
+use Rattle.rbac_decide.specs.Words.{Name, State, Command, AssignUser, AddInheritance, Counts, names_of, CountPlan}
 use Rattle.rbac_decide.specs.Counting.{TellsAfter, IsCommandStep, AreCountsBy, may_change, gives_roles, affects}
 use Rattle.rbac_decide.specs.Gains.{changes_gathered}
 use Rattle.rbac_decide.specs.Tables.{state_of}

@@ -2,23 +2,11 @@
 -- beside the rows of preconditions (ANSI INCITS 359-2004, 6.1.1, 6.1.2 and 6.2 to 6.4; their names and their order are this project's
 -- own), and where a precondition fails for several names, the first in order is told.
 use Rattle.std.specs.Prelude.{◌≡◌, ⊤, List, [], ◌∷◌, Bool, true, false, not, if◌then◌else◌, Option, Some, None, Result, Ok, Err}
-use Rattle.std.specs.List.{find as first_where}
-use Rattle.std.specs.FinMap.Entries.{find}
-use Rattle.std.specs.Ordering.{eq_by_cmp}
-use Rattle.std.specs.Option.{option_map}
-use Rattle.sorted_keys.specs.Keys.{has}
-use Rattle.rbac_terms.specs.Name.{Name, name_cmp}
-use Rattle.rbac_terms.specs.Separation.{RoleSet, is_broken_by, is_broken, is_constrained}
-use Rattle.rbac_terms.specs.State.{State, Session}
-use Rattle.rbac_terms.specs.Authorization.{is_authorized}
-use Rattle.rbac_terms.specs.Constraints.{breaks_static, breaks_dynamic}
-use Rattle.rbac_terms.specs.Change.{change}
-use Rattle.rbac_terms.specs.Reviews.{active_roles}
-use Rattle.rbac_terms.specs.Rows.{first_denial}
-use Rattle.rbac_terms.specs.declared.separation.Separation.{Separation}
-use Rattle.rbac_terms.specs.declared.separation.Separation.TheVariants.{Static, Dynamic}
-use Rattle.rbac_terms.specs.declared.command.Command.{Command}
-use Rattle.rbac_terms.specs.declared.command.Command.TheVariants.{AddUser, DeleteUser, AddRole, DeleteRole, AssignUser, DeassignUser, GrantPermission, RevokePermission, AddInheritance, DeleteInheritance, AddAscendant, AddDescendant, CreateSet, DeleteSet, AddRoleMember, DeleteRoleMember, SetCardinality, CreateSession, DeleteSession, AddActiveRole, DropActiveRole, CheckAccess, Review as ReviewCommand}
+use Rattle.rbac_decide.specs.Words.{find, first_where, option_map, eq_by_cmp, has, is_authorized, change, breaks_static, breaks_dynamic, Name, name_cmp}
+use Rattle.rbac_decide.specs.Words.{active_roles, first_denial, RoleSet, is_broken_by, is_broken, is_constrained, State, Session, Command, AddUser, DeleteUser}
+use Rattle.rbac_decide.specs.Words.{AddRole, DeleteRole, AssignUser, DeassignUser, GrantPermission, RevokePermission, AddInheritance, DeleteInheritance}
+use Rattle.rbac_decide.specs.Words.{AddAscendant, AddDescendant, CreateSet, DeleteSet, AddRoleMember, DeleteRoleMember, SetCardinality, CreateSession}
+use Rattle.rbac_decide.specs.Words.{DeleteSession, AddActiveRole, DropActiveRole, CheckAccess, ReviewCommand, Separation, Static, Dynamic}
 use Rattle.rbac_terms.specs.declared.review.Review.{Review}
 use Rattle.rbac_terms.specs.declared.review.Review.TheVariants.{AssignedUsers, AssignedRoles, AuthorizedUsers, AuthorizedRoles, RolePermissions, UserPermissions, SessionRoles, SessionPermissions, RoleOperationsOnObject, UserOperationsOnObject, RoleSets, RoleSetRoles, RoleSetCardinality}
 use Rattle.rbac_terms.specs.declared.answer.Denial.{Denial}

@@ -1,25 +1,16 @@
 -- The change of a command in two parts: what may want memory, told for each table, and what is taken out after it, which wants none.
 use Rattle.std.specs.Prelude.{⊤, ◌≡◌, ◌≤◌, List, [], Option, length}
-use Rattle.std.specs.FinMap.Entries.{put}
-use Rattle.sorted_keys.specs.Keys.{has, with_key, without, updated}
+use Rattle.rbac_decide.specs.Words.{put, has, with_key, without, updated, purge, change, end_sessions, with_active, with_member, Name, name_cmp, pair_cmp}
+use Rattle.rbac_decide.specs.Words.{grant_cmp, RoleSet, State, Session, Command, AddUser, DeleteUser, AddRole, DeleteRole, AssignUser, DeassignUser}
+use Rattle.rbac_decide.specs.Words.{GrantPermission, RevokePermission, AddInheritance, DeleteInheritance, AddAscendant, AddDescendant, CreateSet, DeleteSet}
+use Rattle.rbac_decide.specs.Words.{AddRoleMember, DeleteRoleMember, SetCardinality, CreateSession, DeleteSession, AddActiveRole, DropActiveRole, Separation}
+use Rattle.rbac_decide.specs.Words.{Static, Dynamic, Sets, with_pair, made as made_order, Order}
 use Rattle.staged.specs.Entries.{after_entries}
 use Rattle.staged.specs.Made.{made_all}
-use Rattle.rbac_terms.specs.Name.{Name, name_cmp, pair_cmp, grant_cmp}
-use Rattle.rbac_terms.specs.Separation.{RoleSet}
-use Rattle.rbac_terms.specs.State.{State, Session}
 use Rattle.rbac_terms.specs.Relations.{without_role, without_pairs_of}
-use Rattle.rbac_terms.specs.Authorization.{purge}
-use Rattle.rbac_terms.specs.Change.{change, end_sessions, with_active, with_member}
-use Rattle.rbac_terms.specs.declared.separation.Separation.{Separation}
-use Rattle.rbac_terms.specs.declared.separation.Separation.TheVariants.{Static, Dynamic}
-use Rattle.rbac_terms.specs.declared.command.Command.{Command}
-use Rattle.rbac_terms.specs.declared.command.Command.TheVariants.{AddUser, DeleteUser, AddRole, DeleteRole, AssignUser, DeassignUser, GrantPermission, RevokePermission, AddInheritance, DeleteInheritance, AddAscendant, AddDescendant, CreateSet, DeleteSet, AddRoleMember, DeleteRoleMember, SetCardinality, CreateSession, DeleteSession, AddActiveRole, DropActiveRole}
 use Rattle.rbac_rolesets.specs.Changes.{made as made_sets}
-use Rattle.rbac_rolesets.specs.Sets.{Sets}
 use Rattle.rbac_rolesets.specs.declared.change.Step.{Step as SetsStep}
 use Rattle.rbac_hierarchy.specs.declared.change.Step.{Step as OrderStep}
-use Rattle.rbac_hierarchy.specs.Changes.{with_pair, made as made_order}
-use Rattle.rbac_hierarchy.specs.Order.{Order}
 use Rattle.rbac_separation.specs.Changes.{changed as changed_set}
 use Rattle.rbac_separation.specs.declared.set_plan.SetChange.{SetChange}
 use Rattle.rbac_decide.specs.declared.tables.Tables.{Tables}

@@ -1,7 +1,5 @@
 -- What holds of the parts of a policy.
-use Rattle.rbac_terms.specs.Vocabulary.{Vocabulary}
-use Rattle.rbac_terms.specs.Sound.{IsSound}
-use Rattle.rbac_separation.specs.Counts.{Counts}
+use Rattle.rbac_decide.specs.Words.{IsSound, Vocabulary, Counts}
 use Rattle.rbac_decide.specs.declared.tables.Tables.{Tables}
 use Rattle.rbac_decide.specs.Tables.{state_of, HasSameRoles}
 use Rattle.rbac_decide.specs.Counting.{AreCountsBy}

@@ -1,15 +1,7 @@
 -- The sets that commands change, with a vocabulary, as the state of a policy.
 use Rattle.std.specs.Prelude.{[], ◌≡◌, None}
-use Rattle.std.specs.List.{AllByRecursion as Each}
-use Rattle.sorted_keys.specs.Keys.{with_key}
-use Rattle.rbac_terms.specs.Name.{Name, pair_cmp}
-use Rattle.rbac_terms.specs.Vocabulary.{Vocabulary, no_vocabulary}
-use Rattle.rbac_terms.specs.State.{State}
-use Rattle.rbac_terms.specs.Rows.{first_denial}
-use Rattle.rbac_terms.specs.Sound.{IsSound, IsSessionSound}
-use Rattle.rbac_terms.specs.declared.command.Command.{Command}
-use Rattle.rbac_rolesets.specs.Sets.{Sets}
-use Rattle.rbac_hierarchy.specs.Order.{Order}
+use Rattle.rbac_decide.specs.Words.{Each, with_key, Name, pair_cmp, first_denial, IsSound, IsSessionSound, State, Vocabulary, no_vocabulary, Command, Sets}
+use Rattle.rbac_decide.specs.Words.{Order}
 use Rattle.rbac_decide.specs.declared.tables.Tables.{Tables}
 
 abbrev pub state_of : Tables → Vocabulary → State

@@ -1,11 +1,7 @@
 //! Who is authorized for a role, and which roles have a permission, by the sets of a policy.
 ghost use Rattle.std.specs.Prelude.{◌≡◌, ◌&&◌, ◌||◌, not, map, count_by, IfOk, OnOk};
-ghost use Rattle.sorted_keys.specs.Keys.{has};
-ghost use Rattle.rbac_terms.specs.Name.{Name as NameValue, name_cmp};
-ghost use Rattle.std.specs.List.{list_all, list_any, find as first_where};
-ghost use Rattle.std.specs.Option.{option_copied};
-ghost use Rattle.rbac_terms.specs.Inheritance.{inherits};
-ghost use Rattle.rbac_terms.specs.Authorization.{is_authorized, is_entitled};
+ghost use Rattle.rbac_decide.specs.Words.{list_all, list_any, first_where, option_copied, has, is_authorized, is_entitled, inherits, Name as NameValue};
+ghost use Rattle.rbac_decide.specs.Words.{name_cmp};
 ghost use Rattle.rbac_decide.specs.Tables.{state_of_roles};
 
 use rbac_hierarchy::{Hierarchy, RoleOrder};

@@ -1,5 +1,5 @@
 //! Which sessions would break a dynamic set.
-ghost use Rattle.rbac_terms.specs.Separation.{is_broken};
+ghost use Rattle.rbac_decide.specs.Words.{is_broken};
 
 use rbac_sessions::SessionTest;
 use rbac_terms::{Name, NameSet};

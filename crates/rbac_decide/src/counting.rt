@@ -2,8 +2,7 @@
 //! new counts were gathered when it was decided. Of the other commands names and room are planned, and the counts are taken after the
 //! change, from sets that no longer change.
 ghost use Rattle.std.specs.Prelude.{◌≡◌, false, not, count_by, IfOk};
-ghost use Rattle.rbac_terms.specs.Separation.{is_broken_by};
-ghost use Rattle.rbac_separation.specs.Counts.{numbers_of, ArePlaced};
+ghost use Rattle.rbac_decide.specs.Words.{is_broken_by, numbers_of, ArePlaced};
 ghost use Rattle.rbac_decide.specs.Counting.{authorized_by, count_by_tables, breaks_some, gives_roles, AreCountsBy, without_static, remaining};
 ghost use Rattle.rbac_decide.specs.Ground.{IsPlannedBy, IsPrepared};
 

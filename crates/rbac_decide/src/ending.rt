@@ -1,11 +1,6 @@
 //! Which sessions a deletion ends.
 ghost use Rattle.std.specs.Prelude.{◌≡◌, ◌&&◌, ◌||◌, not};
-ghost use Rattle.std.specs.List.{list_any};
-ghost use Rattle.std.specs.Ordering.{eq_by_cmp};
-ghost use Rattle.sorted_keys.specs.Keys.{has};
-ghost use Rattle.rbac_terms.specs.Name.{name_cmp};
-ghost use Rattle.rbac_terms.specs.Authorization.{is_entitled as is_entitled_in};
-ghost use Rattle.rbac_terms.specs.Inheritance.{inherits};
+ghost use Rattle.rbac_decide.specs.Words.{list_any, eq_by_cmp, has, is_entitled as is_entitled_in, inherits, name_cmp};
 ghost use Rattle.rbac_decide.specs.Tables.{state_of_roles};
 
 use crate::authorization::{inherits_one_of, is_entitled};

@@ -1,12 +1,8 @@
 //! The counts that users come to by roles that they get besides: each number that is kept, and how many of its set's roles are new to
 //! the user. Where one comes to its set's own number, the user would break the set.
 ghost use Rattle.std.specs.Prelude.{◌≡◌, List, true, false, map, filter, count_by, All, slice_get, IfOk, IfSome, IfNone, MatchOption};
-ghost use Rattle.std.specs.List.{list_any, filter_map};
-ghost use Rattle.std.specs.FinMap.Entries.{find};
-ghost use Rattle.std.specs.Option.{option_copied, unwrap_or};
-ghost use Rattle.sorted_keys.specs.Keys.{has};
-ghost use Rattle.rbac_terms.specs.Name.{Name as NameValue, name_cmp};
-ghost use Rattle.rbac_terms.specs.Vocabulary.{Vocabulary as VocabularyValue};
+ghost use Rattle.rbac_decide.specs.Words.{find, list_any, filter_map, option_copied, unwrap_or, has, Name as NameValue, name_cmp};
+ghost use Rattle.rbac_decide.specs.Words.{Vocabulary as VocabularyValue};
 ghost use Rattle.rbac_decide.specs.Breaking.{is_constrained_junior};
 ghost use Rattle.rbac_decide.specs.Counting.{cut_to, touched_sets};
 ghost use Rattle.rbac_decide.specs.Gains.{entry_of, number_with, reaches, counts_with, breaks_touched, receives, AreGains};

@@ -1,13 +1,7 @@
 //! A policy: what commands answer, and what they change.
 ghost use Rattle.std.specs.Prelude.{◌≡◌, ◌↔◌, false, IsTrue, IfOk, IfErr, OnOk, OnErr, Some, None};
-ghost use Rattle.std.specs.FinMap.Entries.{find};
-ghost use Rattle.sorted_keys.specs.Keys.{has};
-ghost use Rattle.rbac_terms.specs.Name.{name_cmp, pair_cmp};
-ghost use Rattle.rbac_terms.specs.State.{founding_state};
-ghost use Rattle.rbac_terms.specs.Rows.{first_denial};
-ghost use Rattle.rbac_terms.specs.Effect.{effect, reply, session_holds};
-ghost use Rattle.rbac_terms.specs.Reviews.{session_permissions};
-ghost use Rattle.rbac_terms.specs.Sound.{IsSound};
+ghost use Rattle.rbac_decide.specs.Words.{find, has, effect, reply, session_holds, name_cmp, pair_cmp, session_permissions, first_denial, IsSound};
+ghost use Rattle.rbac_decide.specs.Words.{founding_state};
 ghost use Rattle.rbac_decide.specs.Counting.{AreCounts};
 
 mod access;

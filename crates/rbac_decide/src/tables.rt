@@ -1,8 +1,6 @@
 //! The sets that commands change.
 ghost use Rattle.std.specs.Prelude.{◌≡◌, ◌↔◌, IsTrue, IfOk};
-ghost use Rattle.rbac_terms.specs.Change.{change};
-ghost use Rattle.rbac_terms.specs.Vocabulary.{Vocabulary as VocabularyValue};
-ghost use Rattle.rbac_terms.specs.State.{founding_state};
+ghost use Rattle.rbac_decide.specs.Words.{change, founding_state, Vocabulary as VocabularyValue};
 
 use crate::both::both;
 use crate::tables::planning::TablesPlan;

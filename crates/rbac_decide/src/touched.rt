@@ -1,10 +1,6 @@
 //! The sets that have one of some roles, gathered once for all users.
 ghost use Rattle.std.specs.Prelude.{◌≡◌, ◌&&◌, filter, IfOk};
-ghost use Rattle.std.specs.List.{list_any};
-ghost use Rattle.sorted_keys.specs.Keys.{has};
-ghost use Rattle.rbac_terms.specs.Name.{Name as NameValue, name_cmp};
-ghost use Rattle.rbac_terms.specs.Separation.{is_constrained};
-ghost use Rattle.rbac_terms.specs.Vocabulary.{Vocabulary as VocabularyValue};
+ghost use Rattle.rbac_decide.specs.Words.{list_any, has, Name as NameValue, name_cmp, is_constrained, Vocabulary as VocabularyValue};
 ghost use Rattle.rbac_decide.specs.Breaking.{is_constrained_junior};
 ghost use Rattle.rbac_decide.specs.Counting.{cut_to, touched_sets};
 ghost use Rattle.rbac_decide.specs.Tables.{state_of};

@@ -1,10 +1,7 @@
 //! The counts that a command may change and that are taken after the change: names and room are planned for each of some static sets
 //! with each of some users.
 ghost use Rattle.std.specs.Prelude.{◌≡◌, ◌∷◌, [], false, IfOk, IfSome, IfNone, Some};
-ghost use Rattle.std.specs.List.{list_any};
-ghost use Rattle.sorted_keys.specs.Keys.{has};
-ghost use Rattle.rbac_terms.specs.Name.{Name as NameValue, name_cmp};
-ghost use Rattle.rbac_separation.specs.Counts.{numbers_of};
+ghost use Rattle.rbac_decide.specs.Words.{list_any, has, Name as NameValue, name_cmp, numbers_of};
 ghost use Rattle.rbac_decide.specs.Counting.{authorized_by, authorized_users_by, juniors_by, touches, is_touched, of_touched, of_set, may_change, IsPlanOf};
 
 use crate::authorization::is_authorized;

@@ -1,12 +1,6 @@
 //! Who is authorized for a role, and what a session may do.
 ghost use Rattle.std.specs.Prelude.{◌≡◌, not, length};
-ghost use Rattle.sorted_keys.specs.Keys.{has};
-ghost use Rattle.std.specs.List.{find as first_where};
-ghost use Rattle.std.specs.Option.{option_copied};
-ghost use Rattle.rbac_terms.specs.Name.{name_cmp};
-ghost use Rattle.rbac_terms.specs.Authorization.{inherits_in, is_authorized as is_authorized_in};
-ghost use Rattle.rbac_terms.specs.Effect.{reply};
-ghost use Rattle.rbac_terms.specs.declared.command.Command.TheVariants.{CheckAccess};
+ghost use Rattle.rbac_decide.specs.Words.{first_where, option_copied, has, inherits_in, is_authorized as is_authorized_in, reply, name_cmp, CheckAccess};
 
 use crate::authorization::{first_unauthorized, is_authorized};
 use crate::policy::Policy;

@@ -1,19 +1,10 @@
 //! Who would break separation of duty by a change, and which set, asked before the change is made; and whether a set would be badly
 //! sized. Of a sound policy only what the change touches needs to be tried.
 ghost use Rattle.std.specs.Prelude.{◌≡◌, ◌||◌, true, false, IsTrue, IfOk, IfSome, IfNone, Some, slice_get};
-ghost use Rattle.rbac_terms.specs.State.{Session as SessionValue};
-ghost use Rattle.std.specs.FinMap.Entries.{find, put};
-ghost use Rattle.std.specs.List.{find as first_where};
-ghost use Rattle.std.specs.Option.{option_copied};
-ghost use Rattle.sorted_keys.specs.Keys.{has};
-ghost use Rattle.rbac_terms.specs.Name.{Name as NameValue, name_cmp};
-ghost use Rattle.rbac_terms.specs.Separation.{is_broken_by, is_broken};
-ghost use Rattle.rbac_terms.specs.Authorization.{inherits_in, is_authorized as is_authorized_in};
-ghost use Rattle.rbac_terms.specs.Change.{change};
-ghost use Rattle.rbac_terms.specs.Constraints.{sets_of, with_sets, is_violated, is_badly_sized, breaks_dynamic};
-ghost use Rattle.rbac_terms.specs.Rows.{is_set};
-ghost use Rattle.rbac_terms.specs.declared.separation.Separation.TheVariants.{Static, Dynamic};
-ghost use Rattle.rbac_terms.specs.declared.command.Command.TheVariants.{AssignUser, AddInheritance, CreateSession, AddActiveRole, CreateSet, AddRoleMember, DeleteRoleMember, SetCardinality};
+ghost use Rattle.rbac_decide.specs.Words.{find, put, first_where, option_copied, has, inherits_in, is_authorized as is_authorized_in, change, sets_of};
+ghost use Rattle.rbac_decide.specs.Words.{with_sets, is_violated, is_badly_sized, breaks_dynamic, Name as NameValue, name_cmp, is_set, is_broken_by, is_broken};
+ghost use Rattle.rbac_decide.specs.Words.{Session as SessionValue, AssignUser, AddInheritance, CreateSession, AddActiveRole, CreateSet, AddRoleMember};
+ghost use Rattle.rbac_decide.specs.Words.{DeleteRoleMember, SetCardinality, Static, Dynamic};
 ghost use Rattle.rbac_decide.specs.Breaking.{breaks_with, first_holder};
 ghost use Rattle.rbac_decide.specs.Counting.{TellsAfter};
 ghost use Rattle.rbac_decide.specs.Gains.{changes_gathered};
@@ -85,14 +76,8 @@ impl Policy {
         ensures gathered { IfOk result (λ breach. IfNone breach (TellsAfter (AssignUser user.now role.now) (changes_gathered gathered.new) self.now)) }
     {
         self.invariants();
-        match gains_by(
-            alloc,
-            &self.tables,
-            &self.counts,
-            from_ref(user),
-            None,
-            role,
-        )? {
+        let users = from_ref(user);
+        match gains_by(alloc, &self.tables, &self.counts, users, None, role)? {
             Gains::Told(told) => {
                 *gathered = told;
                 Ok(None)
@@ -164,11 +149,8 @@ impl Policy {
     fn user_breaking<'a>(&'a self, roles: &NameSet, n: u32) -> Option<&'a Name>
         ensures { option_copied result ≡ first_where (λ user. is_broken_by (is_authorized_in self.now user) (record { roles = roles.now; cardinality = n })) self.now.users }
     {
-        self.tables
-            .sets
-            .users()
-            .iter()
-            .find(|user| self.user_breaks(user, roles, n))
+        let users = self.tables.sets.users();
+        users.iter().find(|user| self.user_breaks(user, roles, n))
     }
 
     // The first user, or the first session, that would break a set of these roles with this number.

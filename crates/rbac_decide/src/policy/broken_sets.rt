@@ -1,7 +1,6 @@
 //! How many roles of a set a user is authorized for.
 ghost use Rattle.std.specs.Prelude.{◌≡◌, count_by};
-ghost use Rattle.rbac_terms.specs.Separation.{is_broken_by};
-ghost use Rattle.rbac_terms.specs.Authorization.{is_authorized as is_authorized_in};
+ghost use Rattle.rbac_decide.specs.Words.{is_authorized as is_authorized_in, is_broken_by};
 
 use crate::authorization::count_authorized;
 use crate::policy::Policy;

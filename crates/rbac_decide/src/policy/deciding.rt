@@ -1,6 +1,6 @@
 //! What is decided of each command: the table of its preconditions.
-ghost use Rattle.rbac_terms.specs.Rows.{first_denial};
 ghost use Rattle.std.specs.Prelude.{IfOk, OnOk};
+ghost use Rattle.rbac_decide.specs.Words.{first_denial};
 ghost use Rattle.rbac_decide.specs.Ground.{IsGround};
 ghost use Rattle.rbac_decide.specs.Hindrance.{DecidesUnless, DeniesUnless};
 

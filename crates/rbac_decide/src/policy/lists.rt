@@ -1,11 +1,6 @@
 //! What a policy holds: lists in order, and each session by its name.
 ghost use Rattle.std.specs.Prelude.{◌≡◌, length, map, filter, slice_get, IfOk};
-ghost use Rattle.std.specs.FinMap.Entries.{find};
-ghost use Rattle.std.specs.Option.{option_copied};
-ghost use Rattle.std.specs.Ordering.{eq_by_cmp};
-ghost use Rattle.sorted_keys.specs.Keys.{has};
-ghost use Rattle.rbac_terms.specs.Name.{name_cmp, pair_cmp, grant_cmp};
-ghost use Rattle.rbac_terms.specs.Constraints.{sets_of};
+ghost use Rattle.rbac_decide.specs.Words.{find, option_copied, eq_by_cmp, has, sets_of, name_cmp, pair_cmp, grant_cmp};
 
 use crate::policy::Policy;
 use digests::Digest;

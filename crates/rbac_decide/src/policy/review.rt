@@ -1,8 +1,6 @@
 //! The answers to reviews.
 ghost use Rattle.std.specs.Prelude.{◌≡◌, IfOk};
-ghost use Rattle.rbac_terms.specs.Effect.{reply};
-ghost use Rattle.rbac_terms.specs.Reviews.{review_answer};
-ghost use Rattle.rbac_terms.specs.declared.command.Command.TheVariants.{Review as ReviewCommand};
+ghost use Rattle.rbac_decide.specs.Words.{reply, review_answer, ReviewCommand};
 ghost use Rattle.rbac_review.specs.Parts.{state_of as state_of_parts};
 
 use crate::policy::Policy;

@@ -1,13 +1,7 @@
 //! The sets of separation of duty of each kind, their roles and their numbers.
 ghost use Rattle.std.specs.Prelude.{◌≡◌, ◌&&◌, nat_le, length};
-ghost use Rattle.std.specs.Option.{option_copied};
-ghost use Rattle.std.specs.FinMap.Entries.{find};
-ghost use Rattle.sorted_keys.specs.Keys.{without};
-ghost use Rattle.rbac_terms.specs.Name.{name_cmp};
-ghost use Rattle.rbac_terms.specs.Separation.{is_well_sized};
-ghost use Rattle.rbac_terms.specs.Change.{without_member, with_cardinality};
-ghost use Rattle.rbac_terms.specs.Constraints.{sets_of};
-ghost use Rattle.rbac_terms.specs.Rows.{found_and, is_set, is_member};
+ghost use Rattle.rbac_decide.specs.Words.{find, option_copied, without, without_member, with_cardinality, sets_of, name_cmp, found_and, is_set, is_member};
+ghost use Rattle.rbac_decide.specs.Words.{is_well_sized};
 
 use crate::policy::Policy;
 use rbac_separation::{RoleSet, SetTable};

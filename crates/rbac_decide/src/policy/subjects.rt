@@ -1,8 +1,6 @@
 //! Who may perform an operation on an object.
 ghost use Rattle.std.specs.Prelude.{◌≡◌, IfOk, filter};
-ghost use Rattle.std.specs.FinMap.Entries.{find};
-ghost use Rattle.rbac_terms.specs.Name.{name_cmp};
-ghost use Rattle.rbac_terms.specs.Effect.{session_holds};
+ghost use Rattle.rbac_decide.specs.Words.{find, session_holds, name_cmp};
 ghost use Rattle.rbac_terms.specs.Subjects.{permitted_users, permitted_sessions, session_names};
 
 use crate::policy::Policy;

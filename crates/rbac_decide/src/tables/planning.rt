@@ -1,10 +1,6 @@
 //! What a command changes of the tables, planned as far as it may want memory.
 ghost use Rattle.std.specs.Prelude.{IfOk};
-ghost use Rattle.sorted_keys.specs.Keys.{with_key};
-ghost use Rattle.rbac_terms.specs.Name.{name_cmp};
-ghost use Rattle.rbac_terms.specs.declared.separation.Separation.TheVariants.{Static, Dynamic};
-ghost use Rattle.rbac_rolesets.specs.Changes.{changed as changed_sets};
-ghost use Rattle.rbac_hierarchy.specs.Changes.{after, after_one};
+ghost use Rattle.rbac_decide.specs.Words.{with_key, name_cmp, Static, Dynamic, changed as changed_sets, after, after_one};
 ghost use Rattle.rbac_sessions.specs.Changes.{changed as changed_sessions};
 
 use crate::tables::Tables;

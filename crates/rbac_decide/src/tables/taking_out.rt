@@ -1,9 +1,7 @@
 //! What a command takes out, which wants no memory: what a deletion takes out, sessions that end, and the purge.
 ghost use Rattle.std.specs.Prelude.{◌≡◌};
-ghost use Rattle.rbac_terms.specs.Authorization.{purge};
-ghost use Rattle.rbac_terms.specs.Change.{change};
-ghost use Rattle.rbac_terms.specs.Vocabulary.{Vocabulary as VocabularyValue};
-ghost use Rattle.rbac_terms.specs.declared.command.Command.TheVariants.{DeleteUser, DeleteRole, DeassignUser, DeleteSet, DeleteRoleMember, SetCardinality};
+ghost use Rattle.rbac_decide.specs.Words.{purge, change, Vocabulary as VocabularyValue, DeleteUser, DeleteRole, DeassignUser, DeleteSet, DeleteRoleMember};
+ghost use Rattle.rbac_decide.specs.Words.{SetCardinality};
 
 use crate::ending::{ActiveOrUnentitled, BelowUnentitled, OwnedBy, OwnedUnentitled};
 use crate::tables::Tables;

@@ -1,6 +1,5 @@
 use Rattle.std.proofs.Common.{Bool, ◌+◌, ◌≡◌, ◌<◌, ◌∙◌, ◌||◌, ◌&&◌, List, length, get_or, drop, sym, ap, subst}
-use Rattle.sorted_keys.specs.Keys.{has}
-use Rattle.rbac_terms.specs.Name.{Name, name_cmp}
+use Rattle.rbac_decide.proofs.Common.{has, Name, name_cmp}
 use Rattle.rbac_decide.proofs.CountingLemmas.{dropped}
 use Rattle.rbac_decide.proofs.FreshLemmas.{kept_one, kept_none}
 use Rattle.rbac_decide.proofs.authorization.add_where.Goals as goal

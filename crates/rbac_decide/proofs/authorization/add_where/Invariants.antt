@@ -1,6 +1,5 @@
 use Rattle.std.proofs.Common.{◌≡◌, ◌||◌, ◌&&◌, drop}
-use Rattle.sorted_keys.specs.Keys.{has}
-use Rattle.rbac_terms.specs.Name.{Name, name_cmp}
+use Rattle.rbac_decide.proofs.Common.{has, Name, name_cmp}
 use Rattle.rbac_decide.proofs.authorization.add_where.Given as goal
 
 abbrev pub invariant-loop-name : goal.invariant-loop-name

@@ -1,7 +1,5 @@
 use Rattle.std.proofs.Common.{Bool, ◌∙◌, ap, count_by}
-use Rattle.rbac_terms.specs.Name.{Name}
-use Rattle.rbac_review.proofs.ReviewLemmas.{authorized_by_own}
-use Rattle.rbac_decide.specs.Tables.{state_of_roles}
+use Rattle.rbac_decide.proofs.Common.{Name, state_of_roles, authorized_by_own}
 use Rattle.rbac_decide.proofs.authorization.count_authorized.Goals as goal
 
 pub returns : goal.returns

@@ -1,8 +1,5 @@
 use Rattle.std.proofs.Common.{Bool, not, ◌∙◌, ap}
-use Rattle.std.specs.List.{find as first_where}
-use Rattle.rbac_terms.specs.Name.{Name}
-use Rattle.rbac_review.proofs.ReviewLemmas.{authorized_by_own}
-use Rattle.rbac_decide.specs.Tables.{state_of_roles}
+use Rattle.rbac_decide.proofs.Common.{first_where, Name, state_of_roles, authorized_by_own}
 use Rattle.rbac_decide.proofs.authorization.first_unauthorized.Goals as goal
 
 pub returns : goal.returns

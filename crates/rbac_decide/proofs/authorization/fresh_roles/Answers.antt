@@ -1,11 +1,5 @@
 use Rattle.std.proofs.Common.{◌≡◌, ◌∙◌, Bool, not, map, ap}
-use Rattle.std.specs.List.{list_any}
-use Rattle.rbac_terms.specs.Name.{Name}
-use Rattle.rbac_terms.specs.Authorization.{is_authorized}
-use Rattle.rbac_terms.specs.Inheritance.{inherits}
-use Rattle.rbac_hierarchy.proofs.LoopLemmas.{if_each}
-use Rattle.rbac_review.proofs.ReviewLemmas.{authorized_by_own}
-use Rattle.rbac_decide.specs.Tables.{state_of_roles}
+use Rattle.rbac_decide.proofs.Common.{list_any, is_authorized, inherits, Name, state_of_roles, if_each, authorized_by_own}
 use Rattle.rbac_decide.proofs.authorization.fresh_roles.Goals as goal
 
 pub returns : goal.returns

@@ -1,6 +1,5 @@
 use Rattle.std.proofs.Common.{◌∙◌}
-use Rattle.rbac_review.proofs.ReviewLemmas.{authorized_by_own}
-use Rattle.rbac_decide.specs.Tables.{state_of_roles}
+use Rattle.rbac_decide.proofs.Common.{state_of_roles, authorized_by_own}
 use Rattle.rbac_decide.proofs.authorization.is_authorized.Goals as goal
 
 pub returns : goal.returns

@@ -1,8 +1,5 @@
 use Rattle.std.proofs.Common.{Bool, ◌∙◌, ap}
-use Rattle.std.specs.List.{list_all}
-use Rattle.rbac_terms.specs.Name.{Name}
-use Rattle.rbac_review.proofs.ReviewLemmas.{authorized_by_own}
-use Rattle.rbac_decide.specs.Tables.{state_of_roles}
+use Rattle.rbac_decide.proofs.Common.{list_all, Name, state_of_roles, authorized_by_own}
 use Rattle.rbac_decide.proofs.authorization.is_authorized_for_all.Goals as goal
 
 pub returns : goal.returns

@@ -1,11 +1,5 @@
 use Rattle.std.proofs.Common.{◌∙◌, ◌&&◌, ap}
-use Rattle.std.specs.List.{list_all}
-use Rattle.sorted_keys.specs.Keys.{has}
-use Rattle.rbac_terms.specs.Name.{name_cmp}
-use Rattle.rbac_terms.specs.Authorization.{is_authorized}
-use Rattle.rbac_decide.specs.Tables.{state_of_roles}
-use Rattle.rbac_review.proofs.ReviewLemmas.{authorized_for_a_role}
-use Rattle.sorted_keys.proofs.Lists.{all-same}
+use Rattle.rbac_decide.proofs.Common.{list_all, has, is_authorized, name_cmp, state_of_roles, all-same, authorized_for_a_role}
 use Rattle.rbac_decide.proofs.authorization.is_entitled.Goals as goal
 
 pub returns : goal.returns

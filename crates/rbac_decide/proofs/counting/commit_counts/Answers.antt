@@ -1,10 +1,5 @@
 use Rattle.std.proofs.Common.{◌≡◌, ◌∙◌, true, false, not, subst, ap, sym}
-use Rattle.std.proofs.lemmas.Bool.{and_from}
-use Rattle.rbac_terms.specs.State.{State}
-use Rattle.rbac_separation.specs.Counts.{numbers_of, with_numbers, changes_of}
-use Rattle.rbac_decide.specs.Counting.{authorized_count, affects, gives_roles}
-use Rattle.rbac_decide.specs.Ground.{IsPlannedBy}
-use Rattle.rbac_decide.specs.Tables.{state_of}
+use Rattle.rbac_decide.proofs.Common.{State, numbers_of, with_numbers, changes_of, authorized_count, affects, gives_roles, IsPlannedBy, state_of, and_from}
 use Rattle.rbac_decide.proofs.AffectedLemmas.{recountable, tells_of}
 use Rattle.rbac_decide.proofs.counting.commit_counts.Goals as goal
 

@@ -1,9 +1,5 @@
 use Rattle.std.proofs.Common.{◌≡◌, false, sym}
-use Rattle.rbac_terms.specs.Name.{Name, name_cmp}
-use Rattle.rbac_terms.specs.Separation.{RoleSet, is_broken_by}
-use Rattle.sorted_keys.proofs.Kept.{each_found}
-use Rattle.rbac_rules.proofs.SoundSeparation.{none_passes}
-use Rattle.rbac_decide.specs.Counting.{authorized_by}
+use Rattle.rbac_decide.proofs.Common.{Name, name_cmp, RoleSet, is_broken_by, authorized_by, each_found, none_passes}
 use Rattle.rbac_decide.proofs.counting.count_of.Goals as goal
 
 pub count_in-requires : goal.count_in-requires

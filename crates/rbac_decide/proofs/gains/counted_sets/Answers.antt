@@ -1,13 +1,6 @@
 use Rattle.std.proofs.Common.{◌≡◌, ◌∙◌, ◌++◌, ◌∷◌, ◌<◌, List, [], map, take, All, length, get_or, sym, ap, subst}
-use Rattle.std.proofs.lemmas.List.{map-append}
-use Rattle.std.specs.FinMap.Entries.{find}
-use Rattle.rbac_terms.specs.Name.{Name, name_cmp}
-use Rattle.rbac_terms.specs.Separation.{RoleSet}
-use Rattle.rbac_hierarchy.proofs.Kept.{one_more}
+use Rattle.rbac_decide.proofs.Common.{find, Name, name_cmp, RoleSet, cut_to, entry_of, CountedSet, map-append, one_more}
 use Rattle.rbac_separation.proofs.NumberLemmas.{all_more}
-use Rattle.rbac_decide.specs.declared.gains.CountedSet.{CountedSet}
-use Rattle.rbac_decide.specs.Counting.{cut_to}
-use Rattle.rbac_decide.specs.Gains.{entry_of}
 use Rattle.rbac_decide.proofs.gains.counted_sets.Goals as goal
 
 pub loop-entry-preserved : goal.loop-entry-preserved

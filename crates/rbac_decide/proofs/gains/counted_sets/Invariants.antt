@@ -1,9 +1,5 @@
 use Rattle.std.proofs.Common.{◌≡◌, All, take, map}
-use Rattle.std.specs.FinMap.Entries.{find}
-use Rattle.rbac_terms.specs.Name.{Name, name_cmp}
-use Rattle.rbac_terms.specs.Separation.{RoleSet}
-use Rattle.rbac_decide.specs.Counting.{cut_to}
-use Rattle.rbac_decide.specs.Gains.{entry_of}
+use Rattle.rbac_decide.proofs.Common.{find, Name, name_cmp, RoleSet, cut_to, entry_of}
 use Rattle.rbac_decide.proofs.gains.counted_sets.Given as goal
 
 abbrev pub invariant-loop-entry : goal.invariant-loop-entry

@@ -1,10 +1,5 @@
 use Rattle.std.proofs.Common.{◌∙◌, List, map, ap, subst}
-use Rattle.std.specs.Option.{option_copied}
-use Rattle.rbac_terms.specs.Name.{Name}
-use Rattle.rbac_terms.specs.Separation.{RoleSet}
-use Rattle.rbac_hierarchy.proofs.LoopLemmas.{if_each}
-use Rattle.rbac_decide.specs.Counting.{cut_to}
-use Rattle.rbac_decide.specs.Gains.{entry_of, AreGains}
+use Rattle.rbac_decide.proofs.Common.{option_copied, Name, RoleSet, cut_to, entry_of, AreGains, if_each}
 use Rattle.rbac_decide.proofs.GainSteps.{cut_twice}
 use Rattle.rbac_decide.proofs.gains.gains_by.Goals as goal
 

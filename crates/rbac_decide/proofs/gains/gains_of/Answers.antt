@@ -1,24 +1,10 @@
-use Rattle.std.proofs.Common.{ℕ, ◌≡◌, ◌∙◌, ◌++◌, ◌∷◌, ◌+◌, ◌&&◌, List, [], Bool, true, false, Option, IfSome, IfNone, map, drop, sym, ap, subst, refl, append-nil}
-use Rattle.std.proofs.lemmas.Bool.{and_from}
-use Rattle.std.proofs.lemmas.List.{drop_all}
-use Rattle.std.specs.List.{filter, find as first_where}
-use Rattle.std.specs.Option.{option_copied}
-use Rattle.rbac_terms.specs.Name.{Name}
-use Rattle.rbac_separation.specs.Counts.{changes_of}
-use Rattle.rbac_decide.specs.declared.gains.CountedSet.{CountedSet}
+use Rattle.std.proofs.Common.{ℕ, ◌≡◌, ◌∙◌, ◌++◌, ◌∷◌, ◌+◌, ◌&&◌, List, [], true, false, Option, IfSome, IfNone, map, drop, sym, ap, subst, refl, append-nil, arith, filter}
+use Rattle.rbac_decide.proofs.Common.{first_where, option_copied, Name, changes_of, AreGains, entry_of, counts_with, breaks_touched, receives, CountedSet}
+use Rattle.rbac_decide.proofs.Common.{and_from, drop_all}
 use Rattle.rbac_decide.specs.declared.gains.Gains.TheVariants.{Told}
-use Rattle.rbac_decide.specs.Gains.{AreGains, entry_of, counts_with, breaks_touched, receives}
 use Rattle.rbac_decide.proofs.GainSteps.{user_told, user_passed, first_later, first_here, nothing_given, none_first, nothing_in, map_same, names_entries}
 use Rattle.rbac_decide.proofs.gains.gains_of.Goals as goal
 use Rattle.rbac_decide.proofs.gains.gains_of.Goals.{then-receives+in_ok-row+in-Some+in_ok-add-in-Some, else-receives}
-
--- a test that fails, or that passes
-fails_first : (a b : Bool) → a ≡ false → (a && b) ≡ false
-fails_first a b e = ap (λ z. z && b) e
-
-fails_then : (a b : Bool) → b ≡ false → (a && b) ≡ false
-fails_then true b e = e
-fails_then false b e = refl
 
 pub returns-then-is_empty : goal.returns-then-is_empty
 returns-then-is_empty c =
@@ -69,7 +55,7 @@ loop-user-preserved c =
             rows = (λ j. (w.gathered-is j).rows.items ++ map (counts_with t counts sets) rest)
                 ∙ ap (λ (l : List (List ℕ)). l ++ map (counts_with t counts sets) rest) (w.in_ok-add-in-Some.ensures.rows ∙ ap (λ (r : List ℕ). c.loop-user.gathered.rows.items ++ r ∷ []) gained.0)
                 ∙ user_told p (counts_with t counts sets) users i user lt is c.loop-user.gathered.rows.items (map (counts_with t counts sets) (filter p users)) so_far.rows passes;
-            first = so_far.first ∙ first_later (λ x. p x && breaks_touched t counts sets x) users i user lt is (fails_then (p user) _ gained.1);
+            first = so_far.first ∙ first_later (λ x. p x && breaks_touched t counts sets x) users i user lt is (let broken = gained.1 in grind arith);
           }
       | else-receives w ↦
           let fails : p user ≡ false = sym c.receives.ensures ∙ w.if-receives.false in
@@ -78,7 +64,7 @@ loop-user-preserved c =
                 ∙ user_passed p (λ (x : Name). x) users i user lt is c.loop-user.gathered.users.items (map (λ (x : Name). x) (filter p users)) so_far.users fails;
             rows = (λ j. (w.gathered-is j).rows.items ++ map (counts_with t counts sets) rest)
                 ∙ user_passed p (counts_with t counts sets) users i user lt is c.loop-user.gathered.rows.items (map (counts_with t counts sets) (filter p users)) so_far.rows fails;
-            first = so_far.first ∙ first_later (λ x. p x && breaks_touched t counts sets x) users i user lt is (fails_first (p user) _ fails);
+            first = so_far.first ∙ first_later (λ x. p x && breaks_touched t counts sets x) users i user lt is (grind (arith, fails));
           }
     ]
 

@@ -1,8 +1,5 @@
-use Rattle.std.proofs.Common.{◌≡◌, ◌++◌, ◌&&◌, drop, map}
-use Rattle.std.specs.List.{filter, find as first_where}
-use Rattle.std.specs.Option.{option_copied}
-use Rattle.rbac_terms.specs.Name.{Name}
-use Rattle.rbac_decide.specs.Gains.{entry_of, counts_with, breaks_touched, receives}
+use Rattle.std.proofs.Common.{◌≡◌, ◌++◌, ◌&&◌, drop, map, filter}
+use Rattle.rbac_decide.proofs.Common.{first_where, option_copied, Name, entry_of, counts_with, breaks_touched, receives}
 use Rattle.rbac_decide.proofs.gains.gains_of.Given as goal
 
 abbrev pub invariant-loop-user : goal.invariant-loop-user

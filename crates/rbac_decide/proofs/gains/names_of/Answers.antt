@@ -1,7 +1,5 @@
 use Rattle.std.proofs.Common.{◌∙◌, ◌++◌, ◌∷◌, [], map, take, sym, ap}
-use Rattle.std.proofs.lemmas.List.{map-append}
-use Rattle.rbac_hierarchy.proofs.Kept.{one_more}
-use Rattle.rbac_decide.specs.declared.gains.CountedSet.{CountedSet}
+use Rattle.rbac_decide.proofs.Common.{CountedSet, map-append, one_more}
 use Rattle.rbac_decide.proofs.gains.names_of.Goals as goal
 
 pub loop-set-preserved : goal.loop-set-preserved

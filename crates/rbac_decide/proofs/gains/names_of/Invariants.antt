@@ -1,5 +1,5 @@
 use Rattle.std.proofs.Common.{◌≡◌, take, map}
-use Rattle.rbac_decide.specs.declared.gains.CountedSet.{CountedSet}
+use Rattle.rbac_decide.proofs.Common.{CountedSet}
 use Rattle.rbac_decide.proofs.gains.names_of.Given as goal
 
 abbrev pub invariant-loop-set : goal.invariant-loop-set

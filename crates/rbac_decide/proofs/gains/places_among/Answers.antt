@@ -1,10 +1,6 @@
 use Rattle.std.proofs.Common.{◌≡◌, ◌∙◌, List, true, false, Some, Ok, Err, slice_get, sym, ap, subst}
-use Rattle.std.specs.List.{filter_map}
-use Rattle.std.specs.List.Sorted.{IsStrictlySortedBy}
-use Rattle.sorted_keys.specs.Keys.{has}
+use Rattle.rbac_decide.proofs.Common.{filter_map, IsStrictlySortedBy, has, Name, name_cmp, names_total}
 use Rattle.sorted_keys.proofs.KeyPlace.{key_place}
-use Rattle.rbac_terms.specs.Name.{Name, name_cmp}
-use Rattle.rbac_terms.proofs.NameLemmas.{names_total}
 use Rattle.rbac_decide.proofs.GainSteps.{found_there, placed_more, placed_none}
 use Rattle.rbac_decide.proofs.gains.places_among.Goals as goal
 use Rattle.rbac_decide.proofs.gains.places_among.Goals.{in-Ok+in_ok-push-in-Ok, in-Err}

@@ -1,7 +1,5 @@
-use Rattle.std.proofs.Common.{◌≡◌, take, slice_get}
-use Rattle.std.specs.List.{filter, filter_map}
-use Rattle.sorted_keys.specs.Keys.{has}
-use Rattle.rbac_terms.specs.Name.{Name, name_cmp}
+use Rattle.std.proofs.Common.{◌≡◌, take, slice_get, filter}
+use Rattle.rbac_decide.proofs.Common.{filter_map, has, Name, name_cmp}
 use Rattle.rbac_decide.proofs.gains.places_among.Given as goal
 
 abbrev pub invariant-loop-name : goal.invariant-loop-name

@@ -1,8 +1,5 @@
 use Rattle.std.proofs.Common.{◌∙◌, ◌++◌, ◌∷◌, ◌||◌, ◌+◌, [], map, take, drop, sym, ap}
-use Rattle.std.proofs.lemmas.List.{map-append, take_all, drop_all}
-use Rattle.std.specs.List.{list_any}
-use Rattle.rbac_hierarchy.proofs.Kept.{one_more}
-use Rattle.rbac_decide.specs.Gains.{number_with, reaches}
+use Rattle.rbac_decide.proofs.Common.{list_any, number_with, reaches, map-append, take_all, drop_all, one_more}
 use Rattle.rbac_decide.proofs.CountingLemmas.{dropped}
 use Rattle.rbac_decide.proofs.gains.row_with.Goals as goal
 

@@ -1,6 +1,5 @@
 use Rattle.std.proofs.Common.{◌≡◌, take, drop, map}
-use Rattle.std.specs.List.{list_any}
-use Rattle.rbac_decide.specs.Gains.{number_with, reaches}
+use Rattle.rbac_decide.proofs.Common.{list_any, number_with, reaches}
 use Rattle.rbac_decide.proofs.gains.row_with.Given as goal
 
 abbrev pub invariant-loop-set : goal.invariant-loop-set

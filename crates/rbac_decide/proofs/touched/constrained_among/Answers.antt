@@ -1,7 +1,5 @@
 use Rattle.std.proofs.Common.{◌+◌, ◌∙◌, ◌||◌, ◌&&◌, List, drop, sym, ap}
-use Rattle.sorted_keys.specs.Keys.{has}
-use Rattle.rbac_terms.specs.Name.{Name, name_cmp}
-use Rattle.rbac_terms.specs.Separation.{RoleSet, is_constrained}
+use Rattle.rbac_decide.proofs.Common.{has, Name, name_cmp, RoleSet, is_constrained}
 use Rattle.rbac_decide.proofs.CountingLemmas.{dropped}
 use Rattle.rbac_decide.proofs.FreshLemmas.{set_gathered}
 use Rattle.rbac_decide.proofs.touched.constrained_among.Goals as goal

@@ -1,7 +1,5 @@
 use Rattle.std.proofs.Common.{◌≡◌, ◌||◌, ◌&&◌, drop}
-use Rattle.sorted_keys.specs.Keys.{has}
-use Rattle.rbac_terms.specs.Name.{Name, name_cmp}
-use Rattle.rbac_terms.specs.Separation.{is_constrained}
+use Rattle.rbac_decide.proofs.Common.{has, Name, name_cmp, is_constrained}
 use Rattle.rbac_decide.proofs.touched.constrained_among.Given as goal
 
 abbrev pub invariant-loop-entry : goal.invariant-loop-entry

@@ -1,9 +1,5 @@
 use Rattle.std.proofs.Common.{◌∙◌, ◌&&◌, List, ap}
-use Rattle.sorted_keys.specs.Keys.{has}
-use Rattle.rbac_terms.specs.Name.{Name, name_cmp}
-use Rattle.rbac_terms.specs.Separation.{RoleSet, is_constrained}
-use Rattle.rbac_decide.specs.Tables.{state_of}
-use Rattle.rbac_decide.specs.Counting.{touched_sets}
+use Rattle.rbac_decide.proofs.Common.{has, Name, name_cmp, RoleSet, is_constrained, touched_sets, state_of}
 use Rattle.rbac_decide.proofs.FreshLemmas.{gathered, both_swapped}
 use Rattle.rbac_decide.proofs.TouchedLemmas.{constrained_touched, touched_by_constrained}
 use Rattle.rbac_decide.proofs.touched.constrained_below.Goals as goal

@@ -1,7 +1,5 @@
 use Rattle.std.proofs.Common.{List, ap, ◌∙◌}
-use Rattle.std.specs.List.{list_any}
-use Rattle.sorted_keys.specs.Keys.{has}
-use Rattle.rbac_terms.specs.Name.{Name, name_cmp}
+use Rattle.rbac_decide.proofs.Common.{list_any, has, Name, name_cmp}
 use Rattle.rbac_decide.proofs.TouchedLemmas.{in_common}
 use Rattle.rbac_decide.proofs.touched.have_common.Goals as goal
 

@@ -1,5 +1,4 @@
-use Rattle.sorted_keys.specs.Keys.{has}
-use Rattle.rbac_terms.specs.Name.{name_cmp}
+use Rattle.rbac_decide.proofs.Common.{has, name_cmp}
 use Rattle.rbac_decide.proofs.TouchedLemmas.{names_filtered}
 use Rattle.rbac_decide.proofs.touched.roles_among.Goals as goal
 

@@ -1,7 +1,5 @@
 use Rattle.std.proofs.Common.{◌+◌, ◌++◌, ◌∙◌, ◌∷◌, List, [], drop, sym, ap}
-use Rattle.rbac_terms.specs.Name.{Name}
-use Rattle.rbac_terms.specs.Separation.{RoleSet}
-use Rattle.rbac_decide.specs.Counting.{touched_sets}
+use Rattle.rbac_decide.proofs.Common.{Name, RoleSet, touched_sets}
 use Rattle.rbac_decide.proofs.TouchedLemmas.{one_touched, none_touched}
 use Rattle.rbac_decide.proofs.touched.touched_sets.Goals as goal
 use Rattle.rbac_decide.proofs.touched.touched_sets.Goals.{then-touches+in_ok-cut_to+in_ok-push, else-touches}

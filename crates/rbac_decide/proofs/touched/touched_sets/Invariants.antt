@@ -1,5 +1,5 @@
 use Rattle.std.proofs.Common.{◌≡◌, ◌++◌, drop}
-use Rattle.rbac_decide.specs.Counting.{touched_sets}
+use Rattle.rbac_decide.proofs.Common.{touched_sets}
 use Rattle.rbac_decide.proofs.touched.touched_sets.Given as goal
 
 abbrev pub invariant-loop-entry : goal.invariant-loop-entry

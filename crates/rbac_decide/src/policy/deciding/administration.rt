@@ -1,16 +1,9 @@
 //! The first failing precondition of each command about users, roles, assignments and permissions (ANSI INCITS 359-2004, 6.1.1).
 ghost use Rattle.std.specs.Prelude.{◌≡◌, ◌||◌, OnOk};
+ghost use Rattle.rbac_decide.specs.Words.{first_where, option_copied, has, change, is_violated, name_cmp, is_constrained, AddUser, DeleteUser, AddRole};
+ghost use Rattle.rbac_decide.specs.Words.{DeleteRole, AssignUser, DeassignUser, GrantPermission, RevokePermission, Static};
 ghost use Rattle.rbac_decide.specs.Counting.{TellsAfter};
 ghost use Rattle.rbac_decide.specs.Gains.{changes_gathered};
-ghost use Rattle.std.specs.List.{find as first_where};
-ghost use Rattle.std.specs.Option.{option_copied};
-ghost use Rattle.sorted_keys.specs.Keys.{has};
-ghost use Rattle.rbac_terms.specs.Name.{name_cmp};
-ghost use Rattle.rbac_terms.specs.Separation.{is_constrained};
-ghost use Rattle.rbac_terms.specs.Change.{change};
-ghost use Rattle.rbac_terms.specs.Constraints.{is_violated};
-ghost use Rattle.rbac_terms.specs.declared.separation.Separation.TheVariants.{Static};
-ghost use Rattle.rbac_terms.specs.declared.command.Command.TheVariants.{AddUser, DeleteUser, AddRole, DeleteRole, AssignUser, DeassignUser, GrantPermission, RevokePermission};
 ghost use Rattle.rbac_decide.specs.Hindrance.{Decides, DecidesUnless, Denies, Tells, constraint_of, static_breach};
 
 use crate::gathered::Ground;
@@ -33,13 +26,10 @@ impl Policy {
     pub(crate) fn may_add_user<'a>(&'a self, user: &'a Name) -> Result<(), Hindrance<'a>>
         ensures { Decides (AddUser user.now) self.now result }
     {
+        let known = self.tables.sets.has_user(user);
+        deny_if(known, Denial::UserExists, Named::User { user })?;
         let counted = Counted::Users;
         let full = self.tables.sets.user_count() >= MOST_USERS;
-        deny_if(
-            self.tables.sets.has_user(user),
-            Denial::UserExists,
-            Named::User { user },
-        )?;
         deny_if(full, Denial::Limit, Named::Count { counted })
     }
 
@@ -62,17 +52,13 @@ impl Policy {
     {
         let kind = Separation::Static;
         if let Some(entry) = set_with(self.separation_sets(kind), role) {
-            return Some(Named::Set {
-                kind,
-                set: &entry.0,
-            });
+            let set = &entry.0;
+            return Some(Named::Set { kind, set });
         }
         let kind = Separation::Dynamic;
         if let Some(entry) = set_with(self.separation_sets(kind), role) {
-            return Some(Named::Set {
-                kind,
-                set: &entry.0,
-            });
+            let set = &entry.0;
+            return Some(Named::Set { kind, set });
         }
         None
     }

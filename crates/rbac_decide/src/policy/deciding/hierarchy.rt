@@ -1,16 +1,9 @@
 //! The first failing precondition of each command about the role hierarchy (ANSI INCITS 359-2004, 6.2).
 ghost use Rattle.std.specs.Prelude.{◌≡◌, OnOk};
+ghost use Rattle.rbac_decide.specs.Words.{first_where, option_copied, eq_by_cmp, change, is_violated, name_cmp, is_limited_at, AddInheritance};
+ghost use Rattle.rbac_decide.specs.Words.{DeleteInheritance, AddAscendant, AddDescendant, Static};
 ghost use Rattle.rbac_decide.specs.Counting.{TellsAfter};
 ghost use Rattle.rbac_decide.specs.Gains.{changes_gathered};
-ghost use Rattle.std.specs.List.{find as first_where};
-ghost use Rattle.std.specs.Option.{option_copied};
-ghost use Rattle.std.specs.Ordering.{eq_by_cmp};
-ghost use Rattle.rbac_terms.specs.Name.{name_cmp};
-ghost use Rattle.rbac_terms.specs.Rows.{is_limited_at};
-ghost use Rattle.rbac_terms.specs.Change.{change};
-ghost use Rattle.rbac_terms.specs.Constraints.{is_violated};
-ghost use Rattle.rbac_terms.specs.declared.separation.Separation.TheVariants.{Static};
-ghost use Rattle.rbac_terms.specs.declared.command.Command.TheVariants.{AddInheritance, DeleteInheritance, AddAscendant, AddDescendant};
 ghost use Rattle.rbac_decide.specs.Hindrance.{Decides, DecidesUnless, Denies, Tells, first_descendant, static_breach};
 ghost use Rattle.rbac_decide.specs.Hindrance.Named.{a_pair};
 

@@ -1,11 +1,7 @@
 //! What a command names has to be there.
 ghost use Rattle.std.specs.Prelude.{◌≡◌, not, nat_le, length, IfOk};
-ghost use Rattle.std.specs.FinMap.Entries.{find};
-ghost use Rattle.std.specs.Ordering.{eq_by_cmp};
-ghost use Rattle.sorted_keys.specs.Keys.{has};
-ghost use Rattle.rbac_terms.specs.Name.{name_cmp, pair_cmp};
+ghost use Rattle.rbac_decide.specs.Words.{find, eq_by_cmp, has, name_cmp, pair_cmp, is_session, is_set};
 ghost use Rattle.rbac_terms.specs.Limits.{most_roles};
-ghost use Rattle.rbac_terms.specs.Rows.{is_session, is_set};
 ghost use Rattle.rbac_decide.specs.Hindrance.{Denies};
 ghost use Rattle.rbac_decide.specs.Hindrance.Named.{a_user, a_role, a_session, a_permission, a_set, a_count};
 
@@ -46,11 +42,8 @@ impl Policy {
     pub(crate) fn deny_role<'a>(&'a self, role: &'a Name) -> Result<(), Hindrance<'a>>
         ensures { Denies (has name_cmp role.now self.now.roles) (record { denial = Denial.RoleExists; named = a_role role.now }) result }
     {
-        deny_if(
-            self.has_role(role),
-            Denial::RoleExists,
-            Named::Role { role },
-        )
+        let known = self.has_role(role);
+        deny_if(known, Denial::RoleExists, Named::Role { role })
     }
 
     /// Denies where there may be no role more.

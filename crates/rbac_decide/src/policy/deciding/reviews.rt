@@ -1,5 +1,5 @@
 //! The preconditions of each review (ANSI INCITS 359-2004, 6.1.3, 6.1.4 and the review functions of 6.2 to 6.4).
-ghost use Rattle.rbac_terms.specs.declared.command.Command.TheVariants.{Review as ReviewCommand};
+ghost use Rattle.rbac_decide.specs.Words.{ReviewCommand};
 ghost use Rattle.rbac_decide.specs.Hindrance.{Decides};
 
 use crate::hindrance::{Hindrance, deny_if};

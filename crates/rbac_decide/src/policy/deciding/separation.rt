@@ -1,13 +1,7 @@
 //! The first failing precondition of each command about sets of separation (ANSI INCITS 359-2004, 6.3 and 6.4), for both kinds.
 ghost use Rattle.std.specs.Prelude.{◌≡◌, not, IsTrue};
-ghost use Rattle.std.specs.List.{list_all, find as first_where};
-ghost use Rattle.std.specs.Option.{option_copied};
-ghost use Rattle.sorted_keys.specs.Keys.{has};
-ghost use Rattle.rbac_terms.specs.Name.{name_cmp};
-ghost use Rattle.rbac_terms.specs.Change.{change};
-ghost use Rattle.rbac_terms.specs.Constraints.{violation, is_violated};
-ghost use Rattle.rbac_terms.specs.Rows.{is_set};
-ghost use Rattle.rbac_terms.specs.declared.command.Command.TheVariants.{CreateSet, DeleteSet, AddRoleMember, DeleteRoleMember, SetCardinality};
+ghost use Rattle.rbac_decide.specs.Words.{list_all, first_where, option_copied, has, change, violation, is_violated, name_cmp, is_set, CreateSet, DeleteSet};
+ghost use Rattle.rbac_decide.specs.Words.{AddRoleMember, DeleteRoleMember, SetCardinality};
 ghost use Rattle.rbac_decide.specs.Hindrance.{Decides, DecidesUnless, Denies, Tells, breach_of, missing_role};
 ghost use Rattle.rbac_decide.specs.Hindrance.Named.{a_role};
 
@@ -98,11 +92,8 @@ impl Policy {
     ) -> Result<(), Hindrance<'a>>
         ensures { Decides (CreateSet kind set.now roles.now n) self.now result }
     {
-        deny_if(
-            self.is_set(kind, set),
-            Denial::SetExists,
-            Named::Set { kind, set },
-        )?;
+        let there = self.is_set(kind, set);
+        deny_if(there, Denial::SetExists, Named::Set { kind, set })?;
         self.deny_missing(roles)?;
         let misfits = self.creation_sizes_badly(kind, set, roles, n);
         deny_if(misfits, Denial::BadCardinality, Named::Set { kind, set })?;

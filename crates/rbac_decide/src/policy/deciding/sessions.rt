@@ -1,18 +1,9 @@
 //! The first failing precondition of each command about sessions, and of a check (ANSI INCITS 359-2004, 6.1.2).
 ghost use Rattle.std.specs.Prelude.{◌≡◌, IfErr, IfOk, OnOk, Ok, Err, Some, None, not, if◌then◌else◌, map, filter};
-ghost use Rattle.std.specs.FinMap.Entries.{find};
-ghost use Rattle.std.specs.Ordering.{eq_by_cmp};
-ghost use Rattle.sorted_keys.specs.Keys.{has};
-ghost use Rattle.rbac_terms.specs.Name.{name_cmp, pair_cmp};
-ghost use Rattle.rbac_terms.specs.Rows.{first_denial};
-ghost use Rattle.rbac_terms.specs.Change.{change};
-ghost use Rattle.rbac_terms.specs.Constraints.{is_violated};
-ghost use Rattle.rbac_terms.specs.declared.separation.Separation.TheVariants.{Dynamic};
-ghost use Rattle.rbac_terms.specs.declared.command.Command.TheVariants.{CreateSession, DeleteSession, AddActiveRole, DropActiveRole, CheckAccess};
+ghost use Rattle.rbac_decide.specs.Words.{find, list_all, eq_by_cmp, has, is_authorized, change, is_violated, name_cmp, pair_cmp, first_denial, CreateSession};
+ghost use Rattle.rbac_decide.specs.Words.{DeleteSession, AddActiveRole, DropActiveRole, CheckAccess, Dynamic};
 ghost use Rattle.rbac_decide.specs.Hindrance.{Decides, DecidesUnless, Denies, Tells, dynamic_breach, first_name};
 ghost use Rattle.rbac_decide.specs.Hindrance.Named.{a_role};
-ghost use Rattle.std.specs.List.{list_all};
-ghost use Rattle.rbac_terms.specs.Authorization.{is_authorized};
 
 use crate::hindrance::{Hindrance, Obstacle, deny_for, deny_if};
 use crate::named::{Counted, Named};
@@ -54,10 +45,8 @@ impl Policy {
     ) -> Result<(), Hindrance<'a>>
         ensures { let after = change (CreateSession user.now session.now roles.now) self.now in Denies (is_violated Dynamic after) (record { denial = Denial.DsdViolated; named = dynamic_breach after }) result }
     {
-        deny_for(
-            self.session_breach(user, session, roles),
-            Denial::DsdViolated,
-        )
+        let breach = self.session_breach(user, session, roles);
+        deny_for(breach, Denial::DsdViolated)
     }
 
     // Denies where the session breaks a dynamic set with the role active besides.

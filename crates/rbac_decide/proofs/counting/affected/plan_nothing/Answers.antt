@@ -1,5 +1,5 @@
 use Rattle.std.proofs.Common.{[], false, refl}
-use Rattle.rbac_terms.specs.Name.{Name}
+use Rattle.rbac_decide.proofs.Common.{Name}
 use Rattle.rbac_decide.proofs.AffectedLemmas.{plan_of}
 use Rattle.rbac_decide.proofs.counting.affected.plan_nothing.Goals as goal
 

@@ -1,16 +1,10 @@
-use Rattle.std.proofs.Common.{◌≡◌, ◌∙◌, ◌&&◌, ◌||◌, Bool, true, false, IfOk, refl, ap, sym, subst}
-use Rattle.std.specs.Ordering.{eq_by_cmp}
-use Rattle.sorted_keys.specs.Keys.{has}
-use Rattle.rbac_terms.specs.Name.{name_cmp}
-use Rattle.rbac_terms.specs.declared.separation.Separation.{Separation}
-use Rattle.rbac_terms.specs.declared.separation.Separation.TheVariants.{Static}
-use Rattle.rbac_decide.specs.Counting.{of_set, IsPlanOf}
+use Rattle.std.proofs.Common.{◌≡◌, ◌∙◌, ◌&&◌, ◌||◌, Bool, false, IfOk, ap, sym, subst, arith}
+use Rattle.rbac_decide.proofs.Common.{eq_by_cmp, has, name_cmp, Separation, Static, of_set, IsPlanOf}
 use Rattle.rbac_decide.proofs.AffectedLemmas.{plan_of}
 use Rattle.rbac_decide.proofs.counting.affected.plan_set.Goals as goal
 
 alone : (b : Bool) → (b || false) ≡ b
-alone true = refl
-alone false = refl
+alone b = grind arith
 
 pub returns-in-Static-clause-planned : goal.returns-in-Static-clause-planned
 returns-in-Static-clause-planned c =

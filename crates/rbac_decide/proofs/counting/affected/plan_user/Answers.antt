@@ -1,7 +1,5 @@
 use Rattle.std.proofs.Common.{◌≡◌, ◌∙◌, ◌&&◌, ◌∷◌, List, [], Option, IfSome, ap, subst}
-use Rattle.sorted_keys.specs.Keys.{has}
-use Rattle.rbac_terms.specs.Name.{Name, name_cmp}
-use Rattle.rbac_decide.specs.Counting.{juniors_by, is_touched, of_touched}
+use Rattle.rbac_decide.proofs.Common.{has, Name, name_cmp, juniors_by, is_touched, of_touched}
 use Rattle.rbac_decide.proofs.AffectedLemmas.{plan_of, plan_of_nothing}
 use Rattle.rbac_decide.proofs.counting.affected.plan_user.Goals as goal
 

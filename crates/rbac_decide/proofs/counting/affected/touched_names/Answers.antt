@@ -1,7 +1,5 @@
 use Rattle.std.proofs.Common.{◌≡◌, ◌<◌, ◌∙◌, ◌++◌, ◌∷◌, List, [], length, get_or, sym, ap, subst}
-use Rattle.sorted_keys.specs.Keys.{has}
-use Rattle.rbac_terms.specs.Name.{Name, name_cmp}
-use Rattle.rbac_terms.specs.Separation.{RoleSet}
+use Rattle.rbac_decide.proofs.Common.{has, Name, name_cmp, RoleSet}
 use Rattle.rbac_decide.proofs.AffectedLemmas.{touched_more, untouched_more}
 use Rattle.rbac_decide.proofs.counting.affected.touched_names.Goals as goal
 use Rattle.rbac_decide.proofs.counting.affected.touched_names.Goals.{then-touches+in_ok-copy+in_ok-push, else-touches}

@@ -1,7 +1,5 @@
 use Rattle.std.proofs.Common.{◌≡◌, take}
-use Rattle.sorted_keys.specs.Keys.{has}
-use Rattle.rbac_terms.specs.Name.{Name, name_cmp}
-use Rattle.rbac_decide.specs.Counting.{is_touched}
+use Rattle.rbac_decide.proofs.Common.{has, Name, name_cmp, is_touched}
 use Rattle.rbac_decide.proofs.counting.affected.touched_names.Given as goal
 
 abbrev pub invariant-loop-entry : goal.invariant-loop-entry

@@ -1,8 +1,5 @@
 use Rattle.std.proofs.Common.{◌≡◌, ◌∙◌, false, Some, sym}
-use Rattle.std.specs.List.{list_any}
-use Rattle.rbac_terms.specs.Name.{Name}
-use Rattle.rbac_terms.specs.Separation.{RoleSet}
-use Rattle.rbac_decide.specs.Counting.{touches, juniors_by}
+use Rattle.rbac_decide.proofs.Common.{list_any, Name, RoleSet, touches, juniors_by}
 use Rattle.rbac_decide.proofs.AffectedLemmas.{nowhere_touched}
 use Rattle.rbac_decide.proofs.counting.affected.touching_juniors.Goals as goal
 

@@ -1,14 +1,6 @@
 use Rattle.std.proofs.Common.{rules, ◌≡◌, ◌∙◌, List, length, ap, subst}
-use Rattle.std.proofs.lemmas.List.{nil_from_length}
-use Rattle.std.specs.List.{list_any}
-use Rattle.sorted_keys.specs.Keys.{with_key}
-use Rattle.rbac_terms.specs.Name.{Name, name_cmp}
-use Rattle.rbac_terms.specs.State.{Session}
-use Rattle.rbac_terms.specs.Separation.{RoleSet, is_broken}
-use Rattle.rbac_terms.specs.Constraints.{breaks_dynamic}
-use Rattle.rbac_terms.specs.declared.separation.Separation.TheVariants.{Dynamic}
-use Rattle.rbac_decide.specs.Hindrance.{Tells, first_entry}
-use Rattle.rbac_decide.specs.Hindrance.Named.{a_breach}
+use Rattle.rbac_decide.proofs.Common.{list_any, with_key, breaks_dynamic, Name, name_cmp, RoleSet, is_broken, Session, Dynamic, Tells, first_entry, a_breach}
+use Rattle.rbac_decide.proofs.Common.{nil_from_length}
 use Rattle.rbac_decide.proofs.SeparationLemmas.{activated_violated}
 use Rattle.rbac_decide.proofs.BreachLemmas.{tells_so, activation_named}
 use Rattle.rbac_decide.proofs.policy.Policy.activation_breach.Goals as goal

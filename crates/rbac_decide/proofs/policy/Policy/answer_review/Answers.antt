@@ -1,4 +1,4 @@
-use Rattle.rbac_terms.specs.declared.command.Command.TheVariants.{Review as ReviewCommand}
+use Rattle.rbac_decide.proofs.Common.{ReviewCommand}
 use Rattle.rbac_decide.proofs.ApplyLemmas.{denied-reply}
 use Rattle.rbac_decide.proofs.HindranceLemmas.{denial_of_hindrance}
 use Rattle.rbac_decide.proofs.policy.Policy.answer_review.Goals as goal

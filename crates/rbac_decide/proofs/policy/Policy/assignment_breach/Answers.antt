@@ -1,20 +1,7 @@
-use Rattle.std.proofs.Common.{◌≡◌, ◌∙◌, List, [], ◌∷◌, Bool, true, false, cond, Some, None, refl, sym, ap, subst}
-use Rattle.std.proofs.lemmas.Option.{cond_some}
-use Rattle.std.specs.List.{find as first_where}
-use Rattle.sorted_keys.specs.Keys.{has}
-use Rattle.rbac_terms.specs.Name.{Name, name_cmp}
-use Rattle.rbac_terms.specs.Sound.{IsSound}
-use Rattle.rbac_terms.specs.Vocabulary.{Vocabulary}
-use Rattle.rbac_terms.specs.declared.separation.Separation.TheVariants.{Static}
-use Rattle.rbac_separation.specs.Counts.{Counts}
-use Rattle.rbac_terms.specs.State.{State}
-use Rattle.rbac_terms.specs.declared.command.Command.TheVariants.{AssignUser}
-use Rattle.rbac_decide.specs.Breaking.{breaks_with, is_constrained_junior}
-use Rattle.rbac_decide.specs.Counting.{TellsAfter, touched_sets, AreCountsBy}
-use Rattle.rbac_decide.specs.Gains.{AreGains, breaks_touched, changes_gathered}
-use Rattle.rbac_decide.specs.Hindrance.Named.{a_breach}
-use Rattle.rbac_decide.specs.Tables.{state_of}
-use Rattle.rbac_decide.specs.declared.tables.Tables.{Tables}
+use Rattle.std.proofs.Common.{◌≡◌, ◌∙◌, List, [], ◌∷◌, Bool, true, false, cond, Some, None, sym, ap, subst, arith}
+use Rattle.rbac_decide.proofs.Common.{first_where, has, Name, name_cmp, IsSound, State, Vocabulary, AssignUser, Static, Counts, breaks_with}
+use Rattle.rbac_decide.proofs.Common.{is_constrained_junior, TellsAfter, touched_sets, AreCountsBy, AreGains, breaks_touched, changes_gathered, a_breach}
+use Rattle.rbac_decide.proofs.Common.{state_of, Tables, cond_some}
 use Rattle.rbac_decide.proofs.GainSteps.{named_so}
 use Rattle.rbac_decide.proofs.GainLemmas.{breaks_so, tells_assignment}
 use Rattle.rbac_decide.proofs.SeparationLemmas.{assigned_violated}
@@ -23,11 +10,10 @@ use Rattle.rbac_decide.proofs.policy.Policy.assignment_breach.Goals as goal
 
 -- of one alone none passes
 none_alone : {X : Type 0} (b : Bool) (x : X) → cond b (Some x) None ≡ None → b ≡ false
-none_alone true x e = absurd (let f : ⊥ = cc in f)
-none_alone false x e = refl
+none_alone b x e = grind arith
 
-pub returns-in-Told-clause-breach : goal.returns-in-Told-clause-breach
-returns-in-Told-clause-breach c =
+pub returns-in-Told : goal.returns-in-Told
+returns-in-Told c =
     let t = c.self.inside.tables in
     let v = c.self.inside.vocabulary in
     let counts = c.self.inside.counts in
@@ -36,23 +22,13 @@ returns-in-Told-clause-breach c =
     let below = c.in_ok-told.ensures.0 in
     let are = c.in_ok-told.ensures.1 v in
     let is = subst (AreGains t counts (touched_sets below t.static_sets.content) None (user ∷ [])) c.in-Told.is
-    (subst (λ (users : List Name). AreGains t counts (touched_sets below t.static_sets.content) None users c.in_ok-told.field-0) c.from_ref.ensures.value c.in_ok-told.ensures.2) in
+    (subst (λ (users : List Name). AreGains t counts (touched_sets below t.static_sets.content) None users c.in_ok-told.field-0) c.from_ref-users.ensures.value c.in_ok-told.ensures.2) in
     let unbroken = subst (λ (seen : State). breaks_with seen role user ≡ false) c.self.view_is (sym (breaks_so t v counts c.self.invariant.sound c.self.invariant.counted role below are user) ∙ none_alone _ user is.1) in
-    assigned_violated user role c.args.self.now c.invariants.ensures c.requires.user ∙ unbroken
-
-pub returns-in-Told-clause-gathered : goal.returns-in-Told-clause-gathered
-returns-in-Told-clause-gathered c =
-    let t = c.self.inside.tables in
-    let v = c.self.inside.vocabulary in
-    let counts = c.self.inside.counts in
-    let user = c.args.user.now in
-    let role = c.args.role.now in
-    let below = c.in_ok-told.ensures.0 in
-    let are = c.in_ok-told.ensures.1 v in
-    let is = subst (AreGains t counts (touched_sets below t.static_sets.content) None (user ∷ [])) c.in-Told.is
-    (subst (λ (users : List Name). AreGains t counts (touched_sets below t.static_sets.content) None users c.in_ok-told.field-0) c.from_ref.ensures.value c.in_ok-told.ensures.2) in
-    subst (λ (seen : State). TellsAfter (AssignUser user role) (changes_gathered c.in-Told.told) seen) c.self.view_is
-    (tells_assignment t v counts c.self.invariant.sound c.self.invariant.counted role below are user (changes_gathered c.in-Told.told) is.0)
+    record {
+      breach = assigned_violated user role c.args.self.now c.invariants.ensures c.requires.user ∙ unbroken;
+      gathered = subst (λ (seen : State). TellsAfter (AssignUser user role) (changes_gathered c.in-Told.told) seen) c.self.view_is
+          (tells_assignment t v counts c.self.invariant.sound c.self.invariant.counted role below are user (changes_gathered c.in-Told.told) is.0);
+    }
 
 -- the user that is named is the one that the role is assigned, and it breaks a set
 module _ (t : Tables) (v : Vocabulary) (counts : Counts) (sound : IsSound (state_of t v)) (counted : AreCountsBy t counts) (s : State) (view_is : state_of t v ≡ s)
@@ -66,8 +42,8 @@ module _ (t : Tables) (v : Vocabulary) (counts : Counts) (sound : IsSound (state
       subst (λ (seen : State). breaks_with seen role user ≡ true) view_is
       (sym (breaks_so t v counts sound counted role below are user) ∙ (cond_some (breaks_touched t counts (touched_sets below t.static_sets.content) user) user named first).0)
 
-pub returns-in-Broken-clause-breach : goal.returns-in-Broken-clause-breach
-returns-in-Broken-clause-breach c =
+pub returns-in-Broken : goal.returns-in-Broken
+returns-in-Broken c =
     let t = c.self.inside.tables in
     let v = c.self.inside.vocabulary in
     let counts = c.self.inside.counts in
@@ -78,27 +54,14 @@ returns-in-Broken-clause-breach c =
     let below = c.in_ok-told.ensures.0 in
     let are = c.in_ok-told.ensures.1 v in
     let is = subst (AreGains t counts (touched_sets below t.static_sets.content) None (user ∷ [])) c.in-Broken.is
-    (subst (λ (users : List Name). AreGains t counts (touched_sets below t.static_sets.content) None users c.in_ok-told.field-0) c.from_ref.ensures.value c.in_ok-told.ensures.2) in
+    (subst (λ (users : List Name). AreGains t counts (touched_sets below t.static_sets.content) None users c.in_ok-told.field-0) c.from_ref-users.ensures.value c.in_ok-told.ensures.2) in
     let same : user ≡ named = is_named t v counts c.self.invariant.sound c.self.invariant.counted s c.self.view_is role below are user named is in
-    tells_so _ _ _ _ c.breach_with.result
-    (assigned_violated user role s c.invariants.ensures c.requires.user ∙ ap (breaks_with s role) same)
-    (λ broken. sym (ap (λ (x : Name). a_breach Static x (first_with s role x)) same) ∙ assignment_named user role s c.invariants.ensures c.requires.user (ap (breaks_with s role) same ∙ broken))
-    c.breach_with.ensures
-
-pub returns-in-Broken-clause-gathered : goal.returns-in-Broken-clause-gathered
-returns-in-Broken-clause-gathered c =
-    let t = c.self.inside.tables in
-    let v = c.self.inside.vocabulary in
-    let counts = c.self.inside.counts in
-    let s = c.args.self.now in
-    let user = c.args.user.now in
-    let named = c.in-Broken.user.now in
-    let role = c.args.role.now in
-    let below = c.in_ok-told.ensures.0 in
-    let are = c.in_ok-told.ensures.1 v in
-    let is = subst (AreGains t counts (touched_sets below t.static_sets.content) None (user ∷ [])) c.in-Broken.is
-    (subst (λ (users : List Name). AreGains t counts (touched_sets below t.static_sets.content) None users c.in_ok-told.field-0) c.from_ref.ensures.value c.in_ok-told.ensures.2) in
-    let same : user ≡ named = is_named t v counts c.self.invariant.sound c.self.invariant.counted s c.self.view_is role below are user named is in
-    named_so (breaks_with s role named) (a_breach Static named (first_with s role named)) c.breach_with.result _
-    (sym (ap (breaks_with s role) same) ∙ breaks_so_named t v counts c.self.invariant.sound c.self.invariant.counted s c.self.view_is role below are user named is)
-    c.breach_with.ensures
+    record {
+      breach = tells_so _ _ _ _ c.breach_with.result
+          (assigned_violated user role s c.invariants.ensures c.requires.user ∙ ap (breaks_with s role) same)
+          (λ broken. sym (ap (λ (x : Name). a_breach Static x (first_with s role x)) same) ∙ assignment_named user role s c.invariants.ensures c.requires.user (ap (breaks_with s role) same ∙ broken))
+          c.breach_with.ensures;
+      gathered = named_so (breaks_with s role named) (a_breach Static named (first_with s role named)) c.breach_with.result _
+          (sym (ap (breaks_with s role) same) ∙ breaks_so_named t v counts c.self.invariant.sound c.self.invariant.counted s c.self.view_is role below are user named is)
+          c.breach_with.ensures;
+    }

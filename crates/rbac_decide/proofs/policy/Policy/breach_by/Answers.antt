@@ -1,8 +1,5 @@
 use Rattle.std.proofs.Common.{rules, ◌≡◌, ◌∙◌, is_some, Some, None, sym, ap}
-use Rattle.rbac_terms.specs.Name.{Name}
-use Rattle.rbac_terms.specs.Separation.{first_broken}
-use Rattle.rbac_terms.specs.declared.separation.Separation.TheVariants.{Dynamic}
-use Rattle.rbac_decide.specs.Hindrance.Named.{a_breach}
+use Rattle.rbac_decide.proofs.Common.{Name, first_broken, Dynamic, a_breach}
 use Rattle.rbac_decide.proofs.SeparationLemmas.{over_tells}
 use Rattle.rbac_decide.proofs.BreachLemmas.{first_broken_is}
 use Rattle.rbac_decide.proofs.policy.Policy.breach_by.Goals as goal

@@ -1,10 +1,5 @@
 use Rattle.std.proofs.Common.{rules, ◌≡◌, Some, None, sym, ap}
-use Rattle.std.specs.List.{find as first_where}
-use Rattle.rbac_terms.specs.Name.{Name}
-use Rattle.rbac_terms.specs.Separation.{RoleSet}
-use Rattle.rbac_terms.specs.declared.separation.Separation.TheVariants.{Static}
-use Rattle.rbac_decide.specs.Hindrance.{name_of}
-use Rattle.rbac_decide.specs.Hindrance.Named.{a_breach}
+use Rattle.rbac_decide.proofs.Common.{first_where, Name, RoleSet, Static, name_of, a_breach}
 use Rattle.rbac_decide.proofs.BreachLemmas.{some_first, none_first, breaking_with}
 use Rattle.rbac_decide.proofs.policy.Policy.breach_with.Goals as goal
 

@@ -1,5 +1,5 @@
 use Rattle.std.proofs.Common.{◌∙◌, sym, ap, not}
-use Rattle.rbac_terms.specs.Change.{with_cardinality}
+use Rattle.rbac_decide.proofs.Common.{with_cardinality}
 use Rattle.rbac_decide.proofs.SeparationLemmas.{updated_sized}
 use Rattle.rbac_decide.proofs.policy.Policy.cardinality_sizes_badly.Goals as goal
 

@@ -1,10 +1,5 @@
 use Rattle.std.proofs.Common.{◌≡◌, ◌∙◌, subst, sym, ap}
-use Rattle.rbac_terms.specs.State.{State}
-use Rattle.rbac_terms.specs.Change.{change}
-use Rattle.rbac_decide.specs.Ground.{IsGround}
-use Rattle.rbac_terms.specs.Sound.{IsSound}
-use Rattle.rbac_terms.specs.Rows.{first_denial}
-use Rattle.rbac_decide.specs.Tables.{state_of}
+use Rattle.rbac_decide.proofs.Common.{change, first_denial, IsSound, State, IsGround, state_of}
 use Rattle.rbac_decide.proofs.ApplyLemmas.{sound_then}
 use Rattle.rbac_decide.proofs.TablesLemmas.{same_state, roles_stay_same, counts_stay_right}
 use Rattle.rbac_decide.proofs.policy.Policy.change.Goals as goal

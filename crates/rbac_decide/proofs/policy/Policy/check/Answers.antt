@@ -1,10 +1,5 @@
 use Rattle.std.proofs.Common.{ap, ◌∙◌}
-use Rattle.std.specs.List.{list_any}
-use Rattle.rbac_terms.specs.Authorization.{inherits_in, has_permission}
-use Rattle.rbac_terms.specs.Name.{Permission}
-use Rattle.rbac_terms.specs.State.{State}
-use Rattle.rbac_rules.proofs.ReviewLemmas.{holds_what_is_listed}
-use Rattle.rbac_decide.specs.Tables.{state_of}
+use Rattle.rbac_decide.proofs.Common.{list_any, inherits_in, has_permission, Permission, State, state_of, holds_what_is_listed}
 use Rattle.rbac_decide.proofs.CheckLemmas.{has_by_grants}
 use Rattle.rbac_decide.proofs.policy.Policy.check.Goals as goal
 

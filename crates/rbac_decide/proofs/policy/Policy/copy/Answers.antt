@@ -1,7 +1,5 @@
 use Rattle.std.proofs.Common.{◌≡◌, Ok, IfOk, subst, sym, ap, ◌∙◌}
-use Rattle.rbac_terms.specs.Sound.{IsSound}
-use Rattle.rbac_separation.specs.Counts.{numbers_of}
-use Rattle.rbac_decide.specs.Tables.{state_of, HaveSameSets}
+use Rattle.rbac_decide.proofs.Common.{IsSound, numbers_of, state_of, HaveSameSets}
 use Rattle.rbac_decide.proofs.TablesLemmas.{same_state, roles_stay_same, counts_stay_right}
 use Rattle.rbac_decide.proofs.policy.Policy.copy.Goals as goal
 

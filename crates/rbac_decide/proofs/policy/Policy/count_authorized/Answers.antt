@@ -1,6 +1,5 @@
 use Rattle.std.proofs.Common.{◌∙◌, ap, count_by}
-use Rattle.rbac_terms.specs.State.{State}
-use Rattle.rbac_terms.specs.Authorization.{is_authorized}
+use Rattle.rbac_decide.proofs.Common.{is_authorized, State}
 use Rattle.rbac_decide.proofs.policy.Policy.count_authorized.Goals as goal
 
 pub returns : goal.returns

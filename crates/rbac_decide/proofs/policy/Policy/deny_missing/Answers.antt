@@ -1,10 +1,5 @@
 use Rattle.std.proofs.Common.{rules, ◌≡◌, Bool, Option, Some, None, not, sym, ap}
-use Rattle.std.specs.List.{find as first_where}
-use Rattle.sorted_keys.specs.Keys.{has}
-use Rattle.rbac_terms.specs.Name.{Name, name_cmp}
-use Rattle.rbac_terms.specs.declared.answer.Denial.TheVariants.{NoRole}
-use Rattle.rbac_decide.specs.Hindrance.{Hindrance, name_found}
-use Rattle.rbac_decide.specs.Hindrance.Named.{a_role}
+use Rattle.rbac_decide.proofs.Common.{first_where, has, Name, name_cmp, NoRole, Hindrance, name_found, a_role}
 use Rattle.rbac_decide.proofs.HindranceLemmas.{all_where_none, not_all_where_some}
 use Rattle.rbac_decide.proofs.policy.Policy.deny_missing.Goals as goal
 

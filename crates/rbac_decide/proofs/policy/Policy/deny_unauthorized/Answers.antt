@@ -1,10 +1,5 @@
 use Rattle.std.proofs.Common.{rules, ◌≡◌, Bool, Option, Some, None, not, sym, ap}
-use Rattle.std.specs.List.{find as first_where}
-use Rattle.rbac_terms.specs.Name.{Name}
-use Rattle.rbac_terms.specs.Authorization.{is_authorized}
-use Rattle.rbac_terms.specs.declared.answer.Denial.TheVariants.{NotAuthorized}
-use Rattle.rbac_decide.specs.Hindrance.{Hindrance, name_found}
-use Rattle.rbac_decide.specs.Hindrance.Named.{a_role}
+use Rattle.rbac_decide.proofs.Common.{first_where, is_authorized, Name, NotAuthorized, Hindrance, name_found, a_role}
 use Rattle.rbac_decide.proofs.HindranceLemmas.{all_where_none, not_all_where_some}
 use Rattle.rbac_decide.proofs.policy.Policy.deny_unauthorized.Goals as goal
 

@@ -1,7 +1,6 @@
 use Rattle.std.proofs.Common.{◌∙◌, List, length, refl, ap}
+use Rattle.rbac_decide.proofs.Common.{Name, false≢true}
 use Rattle.std.specs.Bool.{◌==◌}
-use Rattle.std.proofs.lemmas.Bool.{false≢true}
-use Rattle.rbac_terms.specs.Name.{Name}
 use Rattle.rbac_decide.proofs.CheckLemmas.{granted_is_known}
 use Rattle.rbac_decide.proofs.policy.Policy.deny_unknown.Goals as goal
 

@@ -1,8 +1,5 @@
 use Rattle.std.proofs.Common.{subst, sym, ap, ◌∙◌}
-use Rattle.rbac_terms.specs.State.{State}
-use Rattle.rbac_terms.specs.Sound.{IsSound}
-use Rattle.rbac_rules.proofs.SoundLemmas.{sound_founding}
-use Rattle.rbac_decide.specs.Counting.{authorized_count}
+use Rattle.rbac_decide.proofs.Common.{IsSound, State, authorized_count, sound_founding}
 use Rattle.rbac_decide.proofs.policy.Policy.found.Goals as goal
 
 pub invariant_of-result : goal.invariant_of-result

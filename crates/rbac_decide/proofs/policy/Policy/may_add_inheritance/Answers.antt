@@ -1,10 +1,4 @@
-use Rattle.rbac_terms.specs.Constraints.{is_violated}
-use Rattle.rbac_terms.specs.Change.{change}
-use Rattle.rbac_terms.specs.declared.separation.Separation.TheVariants.{Static}
-use Rattle.rbac_terms.specs.declared.command.Command.TheVariants.{AddInheritance}
-use Rattle.rbac_decide.specs.Counting.{TellsAfter}
-use Rattle.rbac_decide.specs.Gains.{changes_gathered}
-use Rattle.rbac_decide.specs.Hindrance.{static_breach}
+use Rattle.rbac_decide.proofs.Common.{change, is_violated, AddInheritance, Static, TellsAfter, changes_gathered, static_breach}
 use Rattle.rbac_decide.proofs.GainSteps.{gathered_so}
 use Rattle.rbac_decide.proofs.policy.Policy.may_add_inheritance.Goals as goal
 

@@ -1,5 +1,5 @@
 use Rattle.std.proofs.Common.{◌∙◌, sym, ap, not}
-use Rattle.rbac_terms.specs.Change.{without_member}
+use Rattle.rbac_decide.proofs.Common.{without_member}
 use Rattle.rbac_decide.proofs.SeparationLemmas.{updated_sized}
 use Rattle.rbac_decide.proofs.policy.Policy.removal_sizes_badly.Goals as goal
 

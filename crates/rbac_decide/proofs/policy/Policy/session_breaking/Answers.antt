@@ -1,8 +1,5 @@
 use Rattle.std.proofs.Common.{rules, ◌≡◌, ◌∙◌, false, sym}
-use Rattle.std.specs.List.{list_any}
-use Rattle.rbac_terms.specs.Name.{Name}
-use Rattle.rbac_terms.specs.State.{Session}
-use Rattle.rbac_terms.specs.Separation.{RoleSet, is_broken}
+use Rattle.rbac_decide.proofs.Common.{list_any, Name, RoleSet, is_broken, Session}
 use Rattle.rbac_decide.proofs.BreachLemmas.{none_any, first_here, first_later}
 use Rattle.rbac_decide.proofs.policy.Policy.session_breaking.Goals as goal
 

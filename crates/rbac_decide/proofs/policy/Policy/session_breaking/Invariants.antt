@@ -1,8 +1,5 @@
 use Rattle.std.proofs.Common.{◌≡◌, drop}
-use Rattle.std.specs.List.{find as first_where}
-use Rattle.rbac_terms.specs.Name.{Name}
-use Rattle.rbac_terms.specs.State.{Session}
-use Rattle.rbac_terms.specs.Separation.{is_broken}
+use Rattle.rbac_decide.proofs.Common.{first_where, Name, is_broken, Session}
 use Rattle.rbac_decide.proofs.policy.Policy.session_breaking.Given as goal
 
 abbrev pub invariant-loop-place : goal.invariant-loop-place

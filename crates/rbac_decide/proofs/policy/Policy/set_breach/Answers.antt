@@ -1,7 +1,5 @@
 use Rattle.std.proofs.Common.{rules, ◌≡◌, Some, None}
-use Rattle.rbac_terms.specs.Name.{Name}
-use Rattle.rbac_terms.specs.Separation.{RoleSet}
-use Rattle.rbac_decide.specs.Breaking.{first_holder}
+use Rattle.rbac_decide.proofs.Common.{Name, RoleSet, first_holder}
 use Rattle.rbac_decide.proofs.BreachLemmas.{put_named, put_unbroken}
 use Rattle.rbac_decide.proofs.policy.Policy.set_breach.Goals as goal
 

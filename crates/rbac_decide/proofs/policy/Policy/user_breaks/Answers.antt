@@ -1,5 +1,5 @@
 use Rattle.std.proofs.Common.{◌∙◌, ap, nat_le, count_by}
-use Rattle.rbac_terms.specs.Authorization.{is_authorized}
+use Rattle.rbac_decide.proofs.Common.{is_authorized}
 use Rattle.rbac_decide.proofs.policy.Policy.user_breaks.Goals as goal
 
 pub returns : goal.returns

@@ -1,12 +1,5 @@
 use Rattle.std.proofs.Common.{◌||◌, ◌&&◌, not, ap, sym, ◌∙◌}
-use Rattle.std.specs.Ordering.{eq_by_cmp}
-use Rattle.sorted_keys.specs.Keys.{has}
-use Rattle.rbac_terms.specs.Name.{name_cmp}
-use Rattle.rbac_terms.specs.State.{State}
-use Rattle.rbac_terms.specs.Authorization.{is_entitled}
-use Rattle.rbac_terms.specs.Change.{end_sessions}
-use Rattle.rbac_rolesets.specs.Sets.{Sets}
-use Rattle.rbac_decide.specs.Tables.{state_of, state_of_roles}
+use Rattle.rbac_decide.proofs.Common.{eq_by_cmp, has, is_entitled, end_sessions, name_cmp, State, Sets, state_of, state_of_roles}
 use Rattle.rbac_decide.proofs.EndingLemmas.{ends_own}
 use Rattle.rbac_decide.proofs.tables.Tables.deassign_user.Goals as goal
 

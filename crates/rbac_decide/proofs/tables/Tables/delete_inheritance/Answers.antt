@@ -1,6 +1,5 @@
 use Rattle.std.proofs.Common.{sym, ◌∙◌}
-use Rattle.rbac_terms.specs.State.{State}
-use Rattle.rbac_decide.specs.Tables.{state_of}
+use Rattle.rbac_decide.proofs.Common.{State, state_of}
 use Rattle.rbac_decide.proofs.EndingLemmas.{ends_below}
 use Rattle.rbac_decide.proofs.tables.Tables.delete_inheritance.Goals as goal
 

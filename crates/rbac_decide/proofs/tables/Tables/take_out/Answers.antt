@@ -1,7 +1,5 @@
 use Rattle.std.proofs.Common.{◌∙◌, sym, ap, subst}
-use Rattle.rbac_terms.specs.declared.command.Command.{Command}
-use Rattle.rbac_decide.specs.Planning.{taken_out, TakesFromSound}
-use Rattle.rbac_decide.specs.Tables.{state_of}
+use Rattle.rbac_decide.proofs.Common.{Command, taken_out, TakesFromSound, state_of}
 use Rattle.rbac_decide.proofs.tables.Tables.take_out.Goals as goal
 
 pub returns-in-DeleteUser-clause-state : goal.returns-in-DeleteUser-clause-state
