@@ -42,16 +42,6 @@ use Rattle.rbac_reasons.specs.Path.{LeadsTo, NoneLeads}
 use Rattle.rbac_reasons.proofs.ToldLemmas.{told_parts, refuted, passed, failed, not_false, any_first}
 use Rattle.rbac_reasons.proofs.WalkLemmas.{path_of_chain, chain_of_path}
 
--- what is found by a key is the value of the first entry with it
-pub found_by_name : (k : Name) (es : List (Name × RoleSet)) → find name_cmp k es ≡ option_map (λ e. e.1) (first_where (λ e. eq_by_cmp name_cmp k e.0) es)
-found_by_name k [] = refl
-found_by_name k (x ∷ xs) = go (eq_by_cmp name_cmp k x.0) (found_by_name k xs)
-  where
-    go : (b : Bool) → find name_cmp k xs ≡ option_map (λ e. e.1) (first_where (λ e. eq_by_cmp name_cmp k e.0) xs)
-        → cond b (Some x.1) (find name_cmp k xs) ≡ option_map (λ e. e.1) (cond b (Some x) (first_where (λ e. eq_by_cmp name_cmp k e.0) xs))
-    go true rest = refl
-    go false rest = rest
-
 -- ---- The breach of a state
 
 first_in : (p : Name → Bool) (xs : List Name) (y : Name) → first_where p xs ≡ Some y → has name_cmp y xs ≡ true
@@ -383,31 +373,19 @@ module _ (s : State) (h : IsSound s) (told : Separation) (holder set : Name) whe
       of (ReviewCommand review) e names = absurd (refuted (λ x. is_breach (named (ReviewCommand review) s x)) (review_preconditions review s) d (no_review review) e (ap is_breach names))
       of c e names = absurd (refuted (λ x. is_breach (named c s x)) (preconditions c s) d refl e (ap is_breach names))
 
--- ---- The commands that may size a set badly, or close a cycle
+-- ---- The commands that may size a set badly
 
 abbrev is_size : Denial → Bool
 is_size denial.BadCardinality = true
 is_size d = false
 
-abbrev is_cycle : Denial → Bool
-is_cycle denial.Cycle = true
-is_cycle d = false
-
 no_size : (kind : Separation) → is_size (violation kind) ≡ false
 no_size Static = refl
 no_size Dynamic = refl
 
-no_cycle : (kind : Separation) → is_cycle (violation kind) ≡ false
-no_cycle Static = refl
-no_cycle Dynamic = refl
-
 no_review_sizes : (review : Review) (s : State) → list_any (λ p. is_size p.denial) (review_preconditions review s) ≡ false
 no_review_sizes (AssignedUsers role) s = refl
 no_review_sizes review s = refl
-
-no_review_closes : (review : Review) (s : State) → list_any (λ p. is_cycle p.denial) (review_preconditions review s) ≡ false
-no_review_closes (AssignedUsers role) s = refl
-no_review_closes review s = refl
 
 pub record IsSized (c : Command) (s : State) (kind : Separation) (set : Name) : Type 0 where
   pub makes : find name_cmp set (sets_of kind (change c s)) ≡ changed_set c (find name_cmp set (sets_of kind s))
@@ -454,30 +432,6 @@ module _ (s : State) (h : IsSound s) (told : Separation) (set : Name) where
           absurd (refuted is_size (preconditions (AddRoleMember kind name role) s) denial.BadCardinality (ap (λ b. b || false) (no_size kind)) e refl)
       of (ReviewCommand review) e names = absurd (refuted is_size (review_preconditions review s) denial.BadCardinality (no_review_sizes review s) e refl)
       of c e names = absurd (refuted is_size (preconditions c s) denial.BadCardinality refl e refl)
-
--- a pair that would close a cycle is one whose descendant inherits its ascendant
-pub told_cycle : (c : Command) (s : State) (a d : Name) → first_hindrance c s ≡ Some (record { denial = denial.Cycle; named = a_pair a d }) → inherits_in s d a ≡ true
-told_cycle c s a d e = let parts = told_parts c s (record { denial = denial.Cycle; named = a_pair a d }) e in of c parts.0 parts.1
-  where
-    of : (c : Command) → first_denial c s ≡ Some denial.Cycle → named c s denial.Cycle ≡ a_pair a d → inherits_in s d a ≡ true
-    of (AddInheritance ascendant descendant) e names =
-        let p1 = passed is_cycle _ denial.NoRole _ denial.Cycle refl refl e in
-        let p2 = passed is_cycle _ denial.Inherits _ denial.Cycle refl refl p1.1 in
-        let same : a_pair ascendant descendant ≡ a_pair a d = names in
-        let ascendant_is : ascendant ≡ a = cc in
-        let descendant_is : descendant ≡ d = cc in
-        subst (λ z. inherits_in s z a ≡ true) descendant_is (subst (λ z. inherits_in s descendant z ≡ true) ascendant_is (closes _ _ _ p2.1))
-      where
-        closes : (b l v : Bool) → cond b (Some denial.Cycle) (cond l (Some denial.Limited) (cond v (Some denial.SsdViolated) None)) ≡ Some denial.Cycle → b ≡ true
-        closes true l v e = refl
-        closes false true v e = absurd (let f : ⊥ = cc in f)
-        closes false false true e = absurd (let f : ⊥ = cc in f)
-        closes false false false e = absurd (let f : ⊥ = cc in f)
-    of (CreateSet kind name roles n) e names = absurd (refuted is_cycle (preconditions (CreateSet kind name roles n) s) denial.Cycle (ap (λ b. b || false) (no_cycle kind)) e refl)
-    of (AddRoleMember kind name role) e names = absurd (refuted is_cycle (preconditions (AddRoleMember kind name role) s) denial.Cycle (ap (λ b. b || false) (no_cycle kind)) e refl)
-    of (SetCardinality kind name n) e names = absurd (refuted is_cycle (preconditions (SetCardinality kind name n) s) denial.Cycle (ap (λ b. b || false) (no_cycle kind)) e refl)
-    of (ReviewCommand review) e names = absurd (refuted is_cycle (review_preconditions review s) denial.Cycle (no_review_closes review s) e refl)
-    of c e names = absurd (refuted is_cycle (preconditions c s) denial.Cycle refl e refl)
 
 -- ---- The chain of a cycle
 

@@ -1,5 +1,5 @@
 -- What is reached from a role alone, down the declared pairs and up them, and what is granted to it.
-use Rattle.std.proofs.Common.{◌≡◌, Bool, true, false, cond, ◌||◌, ◌&&◌, List, [], ◌∷◌, ◌++◌, map, refl, sym, ◌∙◌, subst, ⊎_elim}
+use Rattle.std.proofs.Common.{◌≡◌, Bool, true, false, cond, ◌||◌, ◌&&◌, List, [], ◌∷◌, ◌++◌, map, refl, sym, arith, ◌∙◌, subst, ⊎_elim}
 use Rattle.std.proofs.Math.Bool.{and_comm}
 use Rattle.std.proofs.lemmas.Bool.{and_parts, and_from, or_cases, or_left, false≢true}
 use Rattle.std.specs.List.Sorted.{IsStrictlySortedBy}
@@ -18,7 +18,7 @@ use Rattle.rbac_terms.proofs.NameLemmas.{names_total, names_exact, pairs_total, 
 use Rattle.rbac_rules.proofs.InheritanceLemmas.{chain_role, chain_end, inherits_iff}
 use Rattle.rbac_reasons.specs.Lists.{turned, granted_to}
 use Rattle.rbac_reasons.specs.Path.{IsPath, AreReached}
-use Rattle.rbac_reasons.proofs.WalkLemmas.{path_of_chain, chain_of_path, path_on}
+use Rattle.rbac_reasons.proofs.WalkLemmas.{one_name, path_of_chain, chain_of_path, path_on}
 
 -- ---- Down the declared pairs
 
@@ -28,15 +28,11 @@ module _ (s : State) (sound : IsSound s) (role : Name) where
   alone = cond (has name_cmp role s.roles) (role ∷ []) []
 
   starts_there : has name_cmp role s.roles ≡ true → has name_cmp role alone ≡ true
-  starts_there is = rw is (or_left _ _ (ties_itself names_total role))
+  starts_there is = grind (arith, ties_itself names_total role)
 
   -- whatever it begins with is the role, and a role
   pub begins_at : (r : Name) → has name_cmp r alone ≡ true → (r ≡ role) × (has name_cmp role s.roles ≡ true)
-  begins_at r m = go (has name_cmp role s.roles) refl m
-    where
-      go : (b : Bool) → has name_cmp role s.roles ≡ b → has name_cmp r (cond b (role ∷ []) []) ≡ true → (r ≡ role) × (has name_cmp role s.roles ≡ true)
-      go true e m = (⊎_elim (λ t. one_key names_exact r role t) (λ none. absurd (false≢true none)) (or_cases _ _ m), e)
-      go false e m = absurd (false≢true m)
+  begins_at r m = (grind (arith, one_name r role), grind arith)
 
   pub juniors_are : (names : List Name) → IsStrictlySortedBy name_cmp names → AreReached s.declared alone names → names ≡ juniors s.roles s.declared role
   juniors_are names sorted reached =
@@ -118,8 +114,4 @@ module _ (s : State) (sound : IsSound s) (role : Name) (others : List (Name × N
 
 -- each permission that is granted is one of the founding's
 pub are_granted : (s : State) → IsSound s → (role : Name) (permission : Permission) → has pair_cmp permission (granted_to s role) ≡ has grant_cmp (permission, role) s.granted
-are_granted s sound role permission = has-filter pairs_exact (λ p. has grant_cmp (p, role) s.granted) s.vocabulary.permissions permission ∙ go (has grant_cmp (permission, role) s.granted) refl
-  where
-    go : (b : Bool) → has grant_cmp (permission, role) s.granted ≡ b → (b && has pair_cmp permission s.vocabulary.permissions) ≡ b
-    go true e = (sound.references.granted permission role e).0
-    go false e = refl
+are_granted s sound role permission = grind (arith, has-filter pairs_exact (λ p. has grant_cmp (p, role) s.granted) s.vocabulary.permissions permission, sound.references.granted permission role)

@@ -1,9 +1,7 @@
 //! What a command would make of a set of separation, and of the roles that a user or a session has.
 ghost use Rattle.std.specs.Prelude.{◌≡◌, ◌∷◌, [], IfOk};
 ghost use Rattle.std.specs.FinMap.Entries.{find};
-ghost use Rattle.std.specs.List.{find as first_where};
 ghost use Rattle.std.specs.Option.{option_copied, option_map};
-ghost use Rattle.std.specs.Ordering.{eq_by_cmp};
 ghost use Rattle.sorted_keys.specs.Keys.{has};
 ghost use Rattle.rbac_terms.specs.Name.{Name as NameValue, name_cmp};
 ghost use Rattle.rbac_terms.specs.Constraints.{sets_of};
@@ -17,21 +15,16 @@ use rbac_decide::{Policy, RoleSet};
 use rbac_terms::{Command, Name, NameSet, Separation};
 use std::alloc::{AllocError, Global};
 
-// The set of this name, with the name.
-fn entry_called<'a>(sets: &'a [(Name, RoleSet)], set: &Name) -> Option<&'a (Name, RoleSet)>
-    ensures { option_copied result ≡ first_where (λ e. eq_by_cmp name_cmp set.now e.0) sets.now }
-{
-    sets.iter().find(|entry| set.cmp(&entry.0).is_eq())
-}
-
 // The set of this name.
 fn set_called<'a>(sets: &'a [(Name, RoleSet)], set: &Name) -> Option<&'a RoleSet>
     ensures { option_copied result ≡ find name_cmp set.now sets.now }
 {
-    match entry_called(sets, set) {
-        Some(entry) => Some(&entry.1),
-        None => None,
+    for entry in sets {
+        if set.cmp(&entry.0).is_eq() {
+            return Some(&entry.1);
+        }
     }
+    None
 }
 
 // A set as a command would change it.

@@ -23,13 +23,6 @@ pub fn authorized_roles(alloc: Global, policy: &Policy, user: &Name) -> Result<N
     reached(alloc, policy.declarations(), &starts)
 }
 
-// Whether the name is among these or those.
-fn is_in_one(name: &Name, these: &NameSet, those: &NameSet) -> bool
-    ensures { result ≡ (has name_cmp name.now these.now || has name_cmp name.now those.now) }
-{
-    these.contains(name) || those.contains(name)
-}
-
 /// Those of the names that are among these or those.
 pub(crate) fn among(
     alloc: Global,
@@ -41,7 +34,7 @@ pub(crate) fn among(
 {
     let mut kept = NameSet::new(alloc);
     for name in names.names() {
-        if is_in_one(name, these, those) {
+        if these.contains(name) || those.contains(name) {
             kept.add_copy(name)?;
         }
     }

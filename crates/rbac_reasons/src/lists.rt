@@ -63,22 +63,13 @@ pub fn juniors(alloc: Global, policy: &Policy, role: &Name) -> Result<NameSet, A
     Ok(names)
 }
 
-// A pair turned round.
-fn turned_pair(pair: &(Name, Name)) -> Result<(Name, Name), AllocError>
-    ensures { IfOk result (λ other. other ≡ turned pair.now) }
-{
-    let first = pair.1.copy()?;
-    let second = pair.0.copy()?;
-    Ok((first, second))
-}
-
 // Pairs turned round, in the order of the pairs.
 fn turned_pairs(alloc: Global, pairs: &[(Name, Name)]) -> Result<Vec<(Name, Name)>, AllocError>
     ensures { IfOk result (λ others. others.items ≡ map turned pairs.now) }
 {
     let mut others = Vec::new(alloc);
     for pair in pairs {
-        others.push(turned_pair(pair)?)?;
+        others.push((pair.1.copy()?, pair.0.copy()?))?;
     }
     Ok(others)
 }

@@ -77,20 +77,6 @@ impl Walk {
         }
         Ok(())
     }
-
-    // The roles that were found.
-    fn into_found(self) -> NameSet
-        ensures { result ≡ self.found }
-    {
-        self.found
-    }
-
-    // The pairs by which roles were found.
-    fn into_pairs(self) -> Vec<(Name, Name)>
-        ensures { reverse result.items ≡ self.trail }
-    {
-        self.pairs
-    }
 }
 
 // The chain by which a role was found: the pairs by which roles were found lead back to a role that the walk began with.
@@ -123,7 +109,7 @@ pub(crate) fn find_chain(
     let mut walk = Walk::begin(alloc, starts)?;
     while let Some(role) = walk.next() {
         if goals.contains(&role) {
-            return Ok(Some(chain_to(alloc, walk.into_pairs(), role)?));
+            return Ok(Some(chain_to(alloc, walk.pairs, role)?));
         }
         walk.visit_all(beginning_with(declared, &role))?;
     }
@@ -143,5 +129,5 @@ pub(crate) fn reached(
     while let Some(role) = walk.next() {
         walk.visit_all(beginning_with(declared, &role))?;
     }
-    Ok(walk.into_found())
+    Ok(walk.found)
 }

@@ -2,7 +2,7 @@ use Rattle.std.proofs.Common.{ap, ◌∙◌}
 use Rattle.std.proofs.lemmas.List.{take_all}
 use Rattle.sorted_keys.specs.Keys.{has}
 use Rattle.rbac_terms.specs.Name.{name_cmp}
-use Rattle.rbac_reasons.proofs.PairLemmas.{name_more}
+use Rattle.rbac_reasons.proofs.MemberLemmas.{name_more}
 use Rattle.rbac_reasons.proofs.granted.names_of.Goals as goal
 
 pub loop-name-preserved : goal.loop-name-preserved

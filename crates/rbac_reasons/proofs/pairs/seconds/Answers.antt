@@ -1,7 +1,7 @@
 use Rattle.std.proofs.Common.{ap, ◌∙◌}
 use Rattle.std.proofs.lemmas.List.{take_all}
 use Rattle.std.specs.List.{list_any}
-use Rattle.rbac_reasons.proofs.PairLemmas.{ends_in, second_among, second_more}
+use Rattle.rbac_reasons.proofs.MemberLemmas.{ends_in, second_among, second_more}
 use Rattle.rbac_reasons.proofs.pairs.seconds.Goals as goal
 
 pub loop-pair-preserved : goal.loop-pair-preserved

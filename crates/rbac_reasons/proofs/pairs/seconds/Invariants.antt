@@ -2,7 +2,7 @@ use Rattle.std.proofs.Common.{◌≡◌, take}
 use Rattle.std.specs.List.{list_any}
 use Rattle.sorted_keys.specs.Keys.{has}
 use Rattle.rbac_terms.specs.Name.{Name, name_cmp}
-use Rattle.rbac_reasons.proofs.PairLemmas.{ends_in}
+use Rattle.rbac_reasons.proofs.MemberLemmas.{ends_in}
 use Rattle.rbac_reasons.proofs.pairs.seconds.Given as goal
 
 abbrev pub invariant-loop-pair : goal.invariant-loop-pair

@@ -1,7 +1,7 @@
 use Rattle.std.proofs.Common.{sym, ap, ◌∙◌, ◌≡◌, reverse, Some, subst, true}
 use Rattle.sorted_keys.specs.Keys.{has}
 use Rattle.rbac_terms.specs.Name.{name_cmp}
-use Rattle.rbac_reasons.specs.Walk.{IsTrail, found_by, next_of}
+use Rattle.rbac_reasons.specs.Walk.{Walk, IsTrail, found_by, next_of}
 use Rattle.rbac_reasons.proofs.WalkLemmas.{was_pending, walk_goes_on, walk_shrinks, walk_ends}
 use Rattle.rbac_reasons.proofs.walk.find_chain.Goals as goal
 
@@ -14,7 +14,7 @@ returns-then-contains-clause-found c =
     let role = c.in-Some.role in
     let h = c.loop-role.invariant in
     let taken : next_of w ≡ Some role = sym c.in-Some.ensures.next in
-    let trail_is : reverse c.into_pairs.result.items ≡ w.trail = c.into_pairs.ensures ∙ ap (λ x. x.trail) c.next.ensures.rest in
+    let trail_is : reverse c.walk.inside.pairs.items ≡ w.trail = ap (λ (x : Walk). x.trail) (c.walk.view_is ∙ c.next.ensures.rest) in
     let there : has name_cmp role (found_by starts w.trail) ≡ true = sym (h.members role) ∙ h.pending role (was_pending starts goals declared role w taken) in
     let leads = c.in_ok-chain_to.ensures starts declared (subst (IsTrail starts declared) (sym trail_is) h.trail) (subst (λ t. has name_cmp role (found_by starts t) ≡ true) (sym trail_is) there) in
     record {

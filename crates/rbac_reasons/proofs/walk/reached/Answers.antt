@@ -1,4 +1,6 @@
-use Rattle.std.proofs.Common.{sym, refl, []}
+use Rattle.std.proofs.Common.{sym, refl, [], subst, ◌∙◌}
+use Rattle.rbac_reasons.specs.Path.{AreReached}
+use Rattle.rbac_reasons.specs.Walk.{Walk}
 use Rattle.rbac_reasons.proofs.WalkLemmas.{walk_goes_on, walk_shrinks, walk_reaches}
 use Rattle.rbac_reasons.proofs.walk.reached.Goals as goal
 
@@ -12,4 +14,6 @@ loop-role-preserved c =
     (walk_goes_on c.args.starts.now [] c.args.declared.now c.in-Some.role c.loop-role.walk (sym c.in-Some.ensures.next) refl c.loop-role.invariant)
 
 pub returns : goal.returns
-returns c = rw (c.into_found.ensures, c.next.ensures.rest) (walk_reaches c.args.starts.now [] c.args.declared.now c.loop-role.walk (sym c.in_default.ensures.next) c.loop-role.invariant)
+returns c =
+    subst (λ (w : Walk). AreReached c.args.declared.now c.args.starts.now w.found) (sym (c.walk-2.view_is ∙ c.next.ensures.rest))
+    (walk_reaches c.args.starts.now [] c.args.declared.now c.loop-role.walk (sym c.in_default.ensures.next) c.loop-role.invariant)
