@@ -32,7 +32,7 @@ use Rattle.rbac_terms.proofs.NameLemmas.{names_total, names_exact}
 use Rattle.rbac_rules.proofs.InheritanceLemmas.{inherits_iff, chain_role, chain_end}
 use Rattle.rbac_decide.specs.Breaking.{breaks_with, breaks_set, first_holder}
 use Rattle.rbac_decide.specs.Hindrance.{Named, named, name_found, name_of, static_breach, dynamic_breach, breach_of, first_hindrance, first_entry, first_set_of, first_set_in}
-use Rattle.rbac_decide.specs.Hindrance.Named.{a_breach, a_set, a_pair}
+use Rattle.rbac_decide.specs.Hindrance.Named.{a_breach, a_set}
 use Rattle.rbac_decide.proofs.SeparationLemmas.{put_found, put_violated, put_sized, created_violated, activated_violated, assigned_violated, declared_violated, user_gains, pair_gives}
 use Rattle.rbac_decide.proofs.BreachLemmas.{some_first, first_found, first_with, assignment_named, pair_named, put_named, session_named, activation_named}
 use Rattle.rbac_reasons.specs.declared.chain.Chain.{Chain}

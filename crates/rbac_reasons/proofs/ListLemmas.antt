@@ -1,7 +1,7 @@
 -- What is reached from a role alone, down the declared pairs and up them, and what is granted to it.
-use Rattle.std.proofs.Common.{◌≡◌, Bool, true, false, cond, ◌||◌, ◌&&◌, List, [], ◌∷◌, ◌++◌, map, refl, sym, arith, ◌∙◌, subst, ⊎_elim}
+use Rattle.std.proofs.Common.{◌≡◌, true, false, cond, ◌||◌, List, [], ◌∷◌, ◌++◌, map, refl, sym, arith, ◌∙◌, subst}
 use Rattle.std.proofs.Math.Bool.{and_comm}
-use Rattle.std.proofs.lemmas.Bool.{and_parts, and_from, or_cases, or_left, false≢true}
+use Rattle.std.proofs.lemmas.Bool.{and_parts, and_from}
 use Rattle.std.specs.List.Sorted.{IsStrictlySortedBy}
 use Rattle.std.proofs.lemmas.List.Sorted.{IsPermutation-refl}
 use Rattle.std.specs.Ordering.{eq_by_cmp}
@@ -9,7 +9,7 @@ use Rattle.sorted_keys.specs.Keys.{has, repeats}
 use Rattle.sorted_keys.proofs.Members.{has-filter, same_keys}
 use Rattle.std.proofs.lemmas.List.Kept.{IsStrictlySortedBy-filter}
 use Rattle.sorted_keys.proofs.Gathered.{unrepeated_if_sorted}
-use Rattle.sorted_keys.proofs.Ties.{one_key, ties_itself, ties-pair, same_bits}
+use Rattle.sorted_keys.proofs.Ties.{ties_itself, ties-pair, same_bits}
 use Rattle.rbac_terms.specs.Name.{Name, Permission, name_cmp, pair_cmp, grant_cmp}
 use Rattle.rbac_terms.specs.Inheritance.{inherits, juniors, seniors}
 use Rattle.rbac_terms.specs.State.{State}

@@ -1,5 +1,5 @@
 -- A walk down the declared pairs: how it begins, goes on and ends, and how its trail leads back.
-use Rattle.std.proofs.Common.{◌&&◌, ℕ, ◌≡◌, ◌+◌, ◌<◌, ◌≤◌, ◌⊎◌, inl, inr, ⊎_elim, true, false, cond, List, [], ◌∷◌, ◌++◌, ◌||◌, length, reverse, Some, None, refl, sym, ap, ◌∙◌, subst, arith, length-append}
+use Rattle.std.proofs.Common.{◌&&◌, ℕ, ◌≡◌, ◌+◌, ◌<◌, ◌≤◌, ◌⊎◌, ⊎_elim, true, false, cond, List, [], ◌∷◌, ◌++◌, ◌||◌, length, reverse, Some, None, refl, sym, ap, ◌∙◌, subst, arith, length-append}
 use Rattle.std.proofs.lemmas.List.{reverse-append}
 use Rattle.std.proofs.lemmas.List.Folds.{list_any-append}
 use Rattle.std.proofs.lemmas.Bool.{and_parts, or_cases, or_left, or_right, false≢true}
@@ -13,7 +13,7 @@ use Rattle.rbac_terms.specs.Inheritance.{IsChain}
 use Rattle.rbac_terms.proofs.NameLemmas.{names_total, names_exact, pairs_total, pairs_exact}
 use Rattle.rbac_reasons.specs.Path.{IsPath, LeadsFrom, NoneLeads, Reaches, AreReached}
 use Rattle.rbac_reasons.specs.declared.chain.Chain.{Chain}
-use Rattle.rbac_reasons.specs.Walk.{Walk, begun_at, first_of, after_first, next_of, after_next, visited, all_visited, found_by, IsTrail}
+use Rattle.rbac_reasons.specs.Walk.{Walk, after_first, next_of, after_next, visited, all_visited, found_by, IsTrail}
 
 -- ---- Chains among roles, and without them
 
@@ -166,7 +166,8 @@ module _ (starts goals : List Name) (declared : List (Name × Name)) where
 
     pub walk_shrinks : weight declared (all_visited (pairs_from role) (after_next w)) < weight declared w
     walk_shrinks =
-        let less = all_shrink (pairs_from role) (λ p m. (and_parts _ _ (sym (from_role role p) ∙ m)).1) (after_next w) in
+        let less : weight declared (all_visited (pairs_from role) (after_next w)) ≤ weight declared (after_next w) =
+        all_shrink (pairs_from role) (λ p m. (and_parts (eq_by_cmp name_cmp role p.0) (has pair_cmp p declared) (sym (from_role role p) ∙ m)).1) (after_next w) in
         let one : length w.pending ≡ length (role ∷ after_first w.pending) = ap length head_is in
         omega arith
 
