@@ -1,7 +1,7 @@
 //! What a command would make of a set of separation, and of the roles that a user or a session has.
 ghost use Rattle.std.specs.Prelude.{◌≡◌, ◌∷◌, [], IfOk};
 ghost use Rattle.std.specs.FinMap.Entries.{find};
-ghost use Rattle.std.specs.Option.{option_copied, option_map};
+ghost use Rattle.std.specs.Option.{option_copied};
 ghost use Rattle.sorted_keys.specs.Keys.{has};
 ghost use Rattle.rbac_terms.specs.Name.{Name as NameValue, name_cmp};
 ghost use Rattle.rbac_terms.specs.Constraints.{sets_of};
@@ -53,19 +53,6 @@ fn changed(command: &Command, set: &RoleSet) -> Result<RoleSet, AllocError>
     }
 }
 
-// The same of a set that may be there.
-fn changed_if_there(
-    command: &Command,
-    found: Option<&RoleSet>,
-) -> Result<Option<RoleSet>, AllocError>
-    ensures { IfOk result (λ new. new ≡ option_map (changed command.now) (option_copied found.entry)) }
-{
-    match found {
-        Some(set) => Ok(Some(changed(command, set)?)),
-        None => Ok(None),
-    }
-}
-
 /// The set of this name of a kind as the command would create or change it, if it is its set.
 pub(crate) fn set_after(
     policy: &Policy,
@@ -75,13 +62,13 @@ pub(crate) fn set_after(
 ) -> Result<Option<RoleSet>, AllocError>
     ensures { IfOk result (λ new. new ≡ changed_set command.now (find name_cmp set.now (sets_of kind policy.now))) }
 {
-    let found = set_called(policy.separation_sets(kind), set);
-    match command {
-        Command::CreateSet { roles, n, .. } => Ok(Some(RoleSet {
+    match (command, set_called(policy.separation_sets(kind), set)) {
+        (Command::CreateSet { roles, n, .. }, _) => Ok(Some(RoleSet {
             roles: roles.copy()?,
             cardinality: *n,
         })),
-        _ => changed_if_there(command, found),
+        (_, Some(found)) => Ok(Some(changed(command, found)?)),
+        (_, None) => Ok(None),
     }
 }
 

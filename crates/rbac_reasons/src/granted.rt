@@ -21,21 +21,7 @@ fn is_granted(policy: &Policy, session: &Name, operation: &Name, object: &Name) 
     ensures granted { IsTrue result ↔ (reply (CheckAccess session.now operation.now object.now) policy.now ≡ Granted) }
     ensures held { result ≡ true → session_holds (find name_cmp session.now policy.now.sessions) policy.now (operation.now, object.now) ≡ true }
 {
-    match policy.check(session, operation, object) {
-        Ok(granted) => granted,
-        Err(_) => false,
-    }
-}
-
-// The set of these names.
-fn names_of(alloc: Global, names: &[Name]) -> Result<NameSet, AllocError>
-    ensures { IfOk result (λ set. (name : NameValue) → has name_cmp name set ≡ has name_cmp name names.now) }
-{
-    let mut set = NameSet::new(alloc);
-    for name in names {
-        set.add_copy(name)?;
-    }
-    Ok(set)
+    policy.check(session, operation, object).unwrap_or(false)
 }
 
 // The roles that are granted the permission.
@@ -47,7 +33,12 @@ fn goals_of(
 ) -> Result<NameSet, AllocError>
     ensures { IfOk result (λ goals. (role : NameValue) → has name_cmp role goals ≡ has grant_cmp ((operation.now, object.now), role) policy.now.granted) }
 {
-    names_of(alloc, policy.granted_roles(operation, object))
+    let roles = policy.granted_roles(operation, object);
+    let mut goals = NameSet::new(alloc);
+    for role in roles {
+        goals.add_copy(role)?;
+    }
+    Ok(goals)
 }
 
 /// Why a check of access is granted: a role that is active in the session, and the roles from it down the declared pairs to one

@@ -7,6 +7,7 @@ ghost use Rattle.rbac_terms.specs.Name.{Name as NameValue, Permission, name_cmp,
 ghost use Rattle.rbac_terms.specs.Inheritance.{juniors, seniors};
 ghost use Rattle.rbac_reasons.specs.Lists.{turned, granted_to};
 
+use crate::after::lone;
 use crate::pairs::beginning_with;
 use crate::walk::reached;
 use rbac_decide::Policy;
@@ -41,12 +42,10 @@ fn has_role(policy: &Policy, role: &Name) -> bool
 fn alone(alloc: Global, policy: &Policy, role: &Name) -> Result<NameSet, AllocError>
     ensures { IfOk result (λ names. names ≡ (if has name_cmp role.now policy.now.roles then role.now ∷ [] else [])) }
 {
-    let mut names = NameSet::new(alloc);
-    if !has_role(policy, role) {
-        return Ok(names);
+    match has_role(policy, role) {
+        true => lone(alloc, role),
+        false => Ok(NameSet::new(alloc)),
     }
-    names.add_copy(role)?;
-    Ok(names)
 }
 
 /// The roles that a role inherits, itself among them; none where it is no role.
