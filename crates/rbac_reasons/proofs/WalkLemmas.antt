@@ -1,5 +1,5 @@
 -- A walk down the declared pairs: how it begins, goes on and ends, and how its trail leads back.
-use Rattle.std.proofs.Common.{◌&&◌, ℕ, ◌≡◌, ◌+◌, ◌<◌, ◌≤◌, ◌⊎◌, ⊎_elim, true, false, cond, List, [], ◌∷◌, ◌++◌, ◌||◌, length, reverse, Some, None, refl, sym, ap, ◌∙◌, subst, arith, length-append}
+use Rattle.std.proofs.Common.{◌&&◌, ℕ, ◌≡◌, ◌+◌, ◌<◌, ◌≤◌, ◌⊎◌, ⊎_elim, true, false, cond, List, [], ◌∷◌, ◌++◌, ◌||◌, length, reverse, Option, Some, None, refl, sym, ap, ◌∙◌, subst, arith, length-append}
 use Rattle.std.proofs.lemmas.List.{reverse-append}
 use Rattle.std.proofs.lemmas.List.Folds.{list_any-append}
 use Rattle.std.proofs.lemmas.Bool.{and_parts, or_cases, or_left, or_right, false≢true}
@@ -64,86 +64,66 @@ module _ (found : List Name) (p : Name × Name) where
 -- ---- The walk
 
 module _ (starts goals : List Name) (declared : List (Name × Name)) where
-  -- what is found was found by the trail; and what is not pending is no goal, and its descendants are found
-  pub record IsWalk (w : Walk) : Type 0 where
+  -- what is found was found by the trail; and what is not pending is no goal, and its descendants are found, but for one whose are looked at
+  pub record IsWalk (but : Option Name) (w : Walk) : Type 0 where
     pub trail : IsTrail starts declared w.trail
     pub members : (q : Name) → has name_cmp q w.found ≡ has name_cmp q (found_by starts w.trail)
     pub pending : (q : Name) → has name_cmp q w.pending ≡ true → has name_cmp q w.found ≡ true
-    pub closed : (a b : Name) → has pair_cmp (a, b) declared ≡ true → has name_cmp a w.found ≡ true → (has name_cmp a w.pending ≡ true) ⊎ (has name_cmp b w.found ≡ true)
+    pub closed : (a b : Name) → has pair_cmp (a, b) declared ≡ true → has name_cmp a w.found ≡ true → (has name_cmp a w.pending ≡ true) ⊎ ((has name_cmp b w.found ≡ true) ⊎ (but ≡ Some a))
     pub failed : (q : Name) → has name_cmp q w.found ≡ true → (has name_cmp q w.pending ≡ true) ⊎ (has name_cmp q goals ≡ false)
-
-  -- the same while the descendants of one are looked at
-  record IsPassing (role : Name) (w : Walk) : Type 0 where
-    pub trail : IsTrail starts declared w.trail
-    pub members : (q : Name) → has name_cmp q w.found ≡ has name_cmp q (found_by starts w.trail)
-    pub pending : (q : Name) → has name_cmp q w.pending ≡ true → has name_cmp q w.found ≡ true
-    pub closed : (a b : Name) → has pair_cmp (a, b) declared ≡ true → has name_cmp a w.found ≡ true → (has name_cmp a w.pending ≡ true) ⊎ ((has name_cmp b w.found ≡ true) ⊎ (a ≡ role))
-    pub failed : (q : Name) → has name_cmp q w.found ≡ true → (has name_cmp q w.pending ≡ true) ⊎ (has name_cmp q goals ≡ false)
-    pub here : has name_cmp role w.found ≡ true
-
-  passes : (role : Name) (rest : List Name) (w : Walk) → w.pending ≡ role ∷ rest → has name_cmp role goals ≡ false → IsWalk w → IsPassing role (record w { pending = rest })
-  passes role rest w taken no_goal h = record {
-    trail = h.trail;
-    members = h.members;
-    pending = λ q m. grind (arith, h.pending q);
-    closed = λ a b is_pair m. grind (arith, h.closed a b is_pair m, one_name a role);
-    failed = λ q m. grind (arith, h.failed q m, one_name q role);
-    here = grind (arith, h.pending role, ties_itself names_total role);
-  }
-
-  visit_passes : (p : Name × Name) (w : Walk) → has pair_cmp p declared ≡ true → IsPassing p.0 w → IsPassing p.0 (visited p w)
-  visit_passes p w is_declared h = record {
-    trail = elim (has name_cmp p.1 w.found) as (λ b. IsTrail starts declared (cond b w (record { found = with_key name_cmp p.1 w.found; trail = p ∷ w.trail; pending = w.pending ++ p.1 ∷ [] })).trail) [
-      | true ↦ h.trail
-      | false ↦ (is_declared, sym (h.members p.0) ∙ h.here, h.trail)
-    ];
-    members = λ q. grind (arith, h.members q, has-with_key names_total p.1 w.found q);
-    pending = λ q m. grind (arith, h.pending q, has_pushed w.pending p.1 q, has-with_key names_total p.1 w.found q);
-    closed = λ a b is_pair m. grind (arith, h.closed a b is_pair, has_pushed w.pending p.1 a, has-with_key names_total p.1 w.found a, has-with_key names_total p.1 w.found b);
-    failed = λ q m. grind (arith, h.failed q, has_pushed w.pending p.1 q, has-with_key names_total p.1 w.found q);
-    here = grind (arith, h.here, has-with_key names_total p.1 w.found p.0);
-  }
-
-  visit_keeps : (p : Name × Name) (w : Walk) (q : Name) → has name_cmp q w.found ≡ true → has name_cmp q (visited p w).found ≡ true
-  visit_keeps p w q m = grind (arith, has-with_key names_total p.1 w.found q)
-
-  visit_finds : (p : Name × Name) (w : Walk) → has name_cmp p.1 (visited p w).found ≡ true
-  visit_finds p w = grind (arith, has-with_key names_total p.1 w.found p.1, ties_itself names_total p.1)
-
-  visit_shrinks : (p : Name × Name) (w : Walk) → has pair_cmp p declared ≡ true → weight declared (visited p w) ≤ weight declared w
-  visit_shrinks p w is_declared =
-      let less = λ (e : has name_cmp p.1 w.found ≡ false). unfound_less w.found p e declared is_declared in
-      grind (arith, less, length-append w.pending (p.1 ∷ []))
-
-  all_pass : (role : Name) (ps : List (Name × Name)) → ((p : Name × Name) → has pair_cmp p ps ≡ true → (has pair_cmp p declared ≡ true) × (p.0 ≡ role)) → (w : Walk) → IsPassing role w → IsPassing role (all_visited ps w)
-  all_pass role [] each w h = h
-  all_pass role (p ∷ ps) each w h =
-      let first = each p (or_left _ _ (ties_itself pairs_total p)) in
-      all_pass role ps (λ q m. each q (or_right _ _ m)) (visited p w) (subst (λ z. IsPassing z (visited p w)) first.1 (visit_passes p w first.0 (subst (λ z. IsPassing z w) (sym first.1) h)))
-
-  all_keep : (ps : List (Name × Name)) (w : Walk) (q : Name) → has name_cmp q w.found ≡ true → has name_cmp q (all_visited ps w).found ≡ true
-  all_keep [] w q m = m
-  all_keep (p ∷ ps) w q m = all_keep ps (visited p w) q (visit_keeps p w q m)
-
-  all_find : (ps : List (Name × Name)) (w : Walk) (p : Name × Name) → has pair_cmp p ps ≡ true → has name_cmp p.1 (all_visited ps w).found ≡ true
-  all_find [] w p m = absurd (false≢true m)
-  all_find (x ∷ ps) w p m = ⊎_elim
-      (λ e. all_keep ps (visited x w) p.1 (subst (λ z. has name_cmp z.1 (visited x w).found ≡ true) (sym (one_key pairs_exact p x e)) (visit_finds x w)))
-      (all_find ps (visited x w) p)
-      (or_cases _ _ m)
-
-  all_shrink : (ps : List (Name × Name)) → ((p : Name × Name) → has pair_cmp p ps ≡ true → has pair_cmp p declared ≡ true) → (w : Walk) → weight declared (all_visited ps w) ≤ weight declared w
-  all_shrink [] each w = omega arith
-  all_shrink (p ∷ ps) each w =
-      let here = visit_shrinks p w (each p (or_left _ _ (ties_itself pairs_total p))) in
-      let rest = all_shrink ps (λ q m. each q (or_right _ _ m)) (visited p w) in
-      omega arith
 
   abbrev pairs_from : Name → List (Name × Name)
   pairs_from role = filter (λ (p : Name × Name). eq_by_cmp name_cmp role p.0) declared
 
   from_role : (role : Name) (p : Name × Name) → has pair_cmp p (pairs_from role) ≡ (eq_by_cmp name_cmp role p.0 && has pair_cmp p declared)
   from_role role p = has-filter pairs_exact (λ (x : Name × Name). eq_by_cmp name_cmp role x.0) declared p
+
+  passes : (role : Name) (rest : List Name) (w : Walk) → w.pending ≡ role ∷ rest → has name_cmp role goals ≡ false → IsWalk None w → IsWalk (Some role) (record w { pending = rest })
+  passes role rest w taken no_goal h = record {
+    trail = h.trail;
+    members = h.members;
+    pending = λ q m. grind (arith, h.pending q);
+    closed = λ a b is_pair m. grind (arith, h.closed a b is_pair m, one_name a role);
+    failed = λ q m. grind (arith, h.failed q m, one_name q role);
+  }
+
+  visit_passes : (role : Name) (p : Name × Name) (w : Walk) → has pair_cmp p (pairs_from role) ≡ true → has name_cmp role w.found ≡ true → IsWalk (Some role) w → IsWalk (Some role) (visited p w)
+  visit_passes role p w mine here h = record {
+    trail = elim (has name_cmp p.1 w.found) as (λ b. IsTrail starts declared (cond b w (record { found = with_key name_cmp p.1 w.found; trail = p ∷ w.trail; pending = w.pending ++ p.1 ∷ [] })).trail) [
+      | true ↦ h.trail
+      | false ↦ (grind (arith, from_role role p), grind (arith, from_role role p, h.members p.0, one_name role p.0), h.trail)
+    ];
+    members = λ q. grind (arith, h.members q, has-with_key names_total p.1 w.found q);
+    pending = λ q m. grind (arith, h.pending q, has_pushed w.pending p.1 q, has-with_key names_total p.1 w.found q);
+    closed = λ a b is_pair m. grind (arith, h.closed a b is_pair, has_pushed w.pending p.1 a, has-with_key names_total p.1 w.found a, has-with_key names_total p.1 w.found b);
+    failed = λ q m. grind (arith, h.failed q, has_pushed w.pending p.1 q, has-with_key names_total p.1 w.found q);
+  }
+
+  all_keep : (ps : List (Name × Name)) (w : Walk) (q : Name) → has name_cmp q w.found ≡ true → has name_cmp q (all_visited ps w).found ≡ true
+  all_keep [] w q m = m
+  all_keep (p ∷ ps) w q m = all_keep ps (visited p w) q (grind (arith, has-with_key names_total p.1 w.found q))
+
+  all_find : (ps : List (Name × Name)) (w : Walk) (p : Name × Name) → has pair_cmp p ps ≡ true → has name_cmp p.1 (all_visited ps w).found ≡ true
+  all_find [] w p m = absurd (false≢true m)
+  all_find (x ∷ ps) w p m =
+      grind (arith, all_keep ps (visited x w) p.1, has-with_key names_total x.1 w.found p.1, ties_itself names_total p.1, one_key pairs_exact p x, all_find ps (visited x w) p)
+
+  module _ (role : Name) where
+    abbrev AreMine : List (Name × Name) → Type 0
+    AreMine ps = (p : Name × Name) → has pair_cmp p ps ≡ true → has pair_cmp p (pairs_from role) ≡ true
+
+    all_pass : (ps : List (Name × Name)) → AreMine ps → (w : Walk) → has name_cmp role w.found ≡ true → IsWalk (Some role) w → IsWalk (Some role) (all_visited ps w)
+    all_pass [] each w here h = h
+    all_pass (p ∷ ps) each w here h =
+        let first = visit_passes role p w (each p (or_left _ _ (ties_itself pairs_total p))) here h in
+        all_pass ps (λ q m. each q (or_right _ _ m)) (visited p w) (all_keep (p ∷ []) w role here) first
+
+    all_shrink : (ps : List (Name × Name)) → AreMine ps → (w : Walk) → weight declared (all_visited ps w) ≤ weight declared w
+    all_shrink [] each w = omega arith
+    all_shrink (p ∷ ps) each w =
+        let rest = all_shrink ps (λ q m. each q (or_right _ _ m)) (visited p w) in
+        let less = λ (e : has name_cmp p.1 w.found ≡ false) (m : has pair_cmp p declared ≡ true). unfound_less w.found p e declared m in
+        grind (arith, rest, less, each p, from_role role p, ties_itself pairs_total p, length-append w.pending (p.1 ∷ []))
 
   module _ (role : Name) (w : Walk) (taken : next_of w ≡ Some role) where
     head_is : w.pending ≡ role ∷ after_first w.pending
@@ -152,10 +132,9 @@ module _ (starts goals : List Name) (declared : List (Name × Name)) where
     pub was_pending : has name_cmp role w.pending ≡ true
     was_pending = grind (arith, head_is, ties_itself names_total role)
 
-    pub walk_goes_on : has name_cmp role goals ≡ false → IsWalk w → IsWalk (all_visited (pairs_from role) (after_next w))
+    pub walk_goes_on : has name_cmp role goals ≡ false → IsWalk None w → IsWalk None (all_visited (pairs_from role) (after_next w))
     walk_goes_on no_goal h =
-        let of_role = λ (p : Name × Name) (m : has pair_cmp p (pairs_from role) ≡ true). and_parts _ _ (sym (from_role role p) ∙ m) in
-        let then = all_pass role (pairs_from role) (λ p m. ((of_role p m).1, sym (one_key names_exact role p.0 (of_role p m).0))) (after_next w) (passes role (after_first w.pending) w head_is no_goal h) in
+        let then = all_pass role (pairs_from role) (λ p m. m) (after_next w) (h.pending role was_pending) (passes role (after_first w.pending) w head_is no_goal h) in
         record {
           trail = then.trail;
           members = then.members;
@@ -165,27 +144,20 @@ module _ (starts goals : List Name) (declared : List (Name × Name)) where
         }
 
     pub walk_shrinks : weight declared (all_visited (pairs_from role) (after_next w)) < weight declared w
-    walk_shrinks =
-        let less : weight declared (all_visited (pairs_from role) (after_next w)) ≤ weight declared (after_next w) =
-        all_shrink (pairs_from role) (λ p m. (and_parts (eq_by_cmp name_cmp role p.0) (has pair_cmp p declared) (sym (from_role role p) ∙ m)).1) (after_next w) in
-        let one : length w.pending ≡ length (role ∷ after_first w.pending) = ap length head_is in
-        omega arith
+    walk_shrinks = grind (arith, all_shrink role (pairs_from role) (λ p m. m) (after_next w), head_is)
 
   begun : (trail : List (Name × Name)) (q : Name) → has name_cmp q starts ≡ true → has name_cmp q (found_by starts trail) ≡ true
   begun [] q m = m
   begun (p ∷ older) q m = or_right _ _ (begun older q m)
 
   -- where nothing is pending, all that a chain leads to is found
-  module _ (w : Walk) (none : next_of w ≡ None) (h : IsWalk w) where
-    no_more : (q : Name) → has name_cmp q w.pending ≡ false
-    no_more q = grind arith
-
+  module _ (w : Walk) (none : next_of w ≡ None) (h : IsWalk None w) where
     walk_finds : (r : Name) (rest : List Name) (q : Name) → has name_cmp r w.found ≡ true → IsPath declared r rest q → has name_cmp q w.found ≡ true
-    walk_finds r [] q m path = subst (λ z. has name_cmp z w.found ≡ true) path m
-    walk_finds r (p ∷ rest) q m path = walk_finds p rest q (⊎_elim (λ k. absurd (false≢true (sym (no_more r) ∙ k))) (λ f. f) (h.closed r p path.0 m)) path.1
+    walk_finds r [] q m path = grind arith
+    walk_finds r (p ∷ rest) q m path = walk_finds p rest q (grind (arith, h.closed r p path.0 m)) path.1
 
     pub walk_ends : NoneLeads declared starts goals
-    walk_ends r rest q m path = grind (arith, h.failed q (walk_finds r rest q (h.members r ∙ begun w.trail r m) path), no_more q)
+    walk_ends r rest q m path = grind (arith, h.failed q (walk_finds r rest q (h.members r ∙ begun w.trail r m) path))
 
     trail_reaches : (trail : List (Name × Name)) → IsTrail starts declared trail → (q : Name) → has name_cmp q (found_by starts trail) ≡ true → Reaches declared starts q
     trail_reaches [] t q m = (q, [], m, refl)
@@ -209,33 +181,22 @@ module _ (starts : List Name) (declared : List (Name × Name)) where
     pub path : IsPath declared first (reverse rest) last
 
   module _ (last : Name) (older : List (Name × Name)) (pair : Name × Name) (first : Name) (rest : List Name) (h : IsBack last (older ++ pair ∷ []) first rest) where
-    turned : reverse (older ++ pair ∷ []) ≡ pair ∷ reverse older
-    turned = reverse-append older (pair ∷ [])
-
     trail_there : IsTrail starts declared (pair ∷ reverse older)
-    trail_there = subst (IsTrail starts declared) turned h.trail
-
-    found_there : has name_cmp first (pair.1 ∷ found_by starts (reverse older)) ≡ true
-    found_there = subst (λ t. has name_cmp first (found_by starts t) ≡ true) turned h.found
+    trail_there = subst (IsTrail starts declared) (reverse-append older (pair ∷ [])) h.trail
 
     pub back_by : eq_by_cmp name_cmp pair.1 first ≡ true → IsBack last older pair.0 (rest ++ first ∷ [])
     back_by same = record {
       trail = trail_there.2;
       found = trail_there.1;
-      path = subst (λ names. IsPath declared pair.0 names last) (sym (reverse-append rest (first ∷ [])))
-          (subst (λ z. has pair_cmp (pair.0, z) declared ≡ true) (one_key names_exact pair.1 first same) trail_there.0, h.path);
+      path = rw (reverse-append rest (first ∷ [])) (grind (arith, trail_there.0, one_name pair.1 first), h.path);
     }
 
     pub back_past : eq_by_cmp name_cmp pair.1 first ≡ false → IsBack last older first rest
     back_past other = record {
       trail = trail_there.2;
-      found = grind (arith, found_there, ties_flip names_total names_exact pair.1 first);
+      found = grind (arith, h.found, reverse-append older (pair ∷ []), ties_flip names_total names_exact pair.1 first);
       path = h.path;
     }
 
   pub back_ends : (last first : Name) (rest : List Name) (chain : Chain) → chain.first ≡ first → chain.rest.items ≡ reverse rest → chain.last ≡ last → IsBack last [] first rest → LeadsFrom declared starts last chain
-  back_ends last first rest chain is_first is_rest is_last h = record {
-    first = subst (λ z. has name_cmp z starts ≡ true) (sym is_first) h.found;
-    path = rw (is_first, is_rest, is_last) h.path;
-    last_is = is_last;
-  }
+  back_ends last first rest chain is_first is_rest is_last h = record { first = grind (arith, h.found); path = rw (is_first, is_rest, is_last) h.path; last_is = is_last }
