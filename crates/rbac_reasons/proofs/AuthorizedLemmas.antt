@@ -22,6 +22,4 @@ authorized_is s refs user starts names are reached role = same_bits _ _
     let from = (reached role).0 m in
     let assigned : has pair_cmp (user, from.0) s.assigned ≡ true = sym (are from.0) ∙ from.2 in
     (is_authorized_iff s user role).1 (from.0, assigned, (from.1, chain_of_path s.roles s.declared refs.declared from.0 from.1 role (refs.assigned user from.0 assigned).1 from.3)))
-    (λ e.
-    let a = (is_authorized_iff s user role).0 e in
-    (reached role).1 (a.0, a.2.0, are a.0 ∙ a.1, path_of_chain s.roles s.declared a.0 a.2.0 role a.2.1))
+    (λ e. let a = (is_authorized_iff s user role).0 e in (reached role).1 (a.0, a.2.0, are a.0 ∙ a.1, path_of_chain s.roles s.declared a.0 a.2.0 role a.2.1))

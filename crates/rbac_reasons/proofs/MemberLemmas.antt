@@ -17,9 +17,7 @@ use Rattle.rbac_reasons.proofs.WalkLemmas.{one_name}
 -- whether a test passes for one of the elements up to the next
 any_more : {X : Type 0} (passes : X → Bool) (xs : List X) (i : ℕ) (x : X) → i < length xs → x ≡ get_or xs i x → list_any passes (take (i + 1) xs) ≡ (list_any passes (take i xs) || (passes x || false))
 any_more passes xs i x within is =
-    ap (list_any passes) (take_more xs i x within)
-    ∙ list_any-append passes (take i xs) (get_or xs i x ∷ [])
-    ∙ ap (λ z. list_any passes (take i xs) || (passes z || false)) (sym is)
+    grind (arith, take_more xs i x within, list_any-append passes (take i xs) (x ∷ []))
 
 -- one name more of a list
 pub name_more : (name : Name) (names : List Name) (i : ℕ) (more : Name) (set : List Name) → i < length names → more ≡ get_or names i more → has name_cmp name set ≡ has name_cmp name (take i names)

@@ -1,8 +1,8 @@
 -- A walk down the declared pairs: how it begins, goes on and ends, and how its trail leads back.
-use Rattle.std.proofs.Common.{◌&&◌, ℕ, ◌≡◌, ◌+◌, ◌<◌, ◌≤◌, ◌⊎◌, ⊎_elim, true, false, cond, List, [], ◌∷◌, ◌++◌, ◌||◌, length, reverse, Option, Some, None, refl, sym, ap, ◌∙◌, subst, arith, length-append}
+use Rattle.std.proofs.Common.{◌&&◌, ℕ, ◌≡◌, ◌+◌, ◌<◌, ◌≤◌, ◌⊎◌, ⊎_elim, true, false, cond, List, [], ◌∷◌, ◌++◌, ◌||◌, length, reverse, Option, Some, None, refl, sym, ap, ◌∙◌, arith, length-append}
 use Rattle.std.proofs.lemmas.List.{reverse-append}
 use Rattle.std.proofs.lemmas.List.Folds.{list_any-append}
-use Rattle.std.proofs.lemmas.Bool.{and_parts, or_cases, or_left, or_right, false≢true}
+use Rattle.std.proofs.lemmas.Bool.{or_cases, or_left, or_right, false≢true}
 use Rattle.std.specs.List.{filter}
 use Rattle.std.specs.Ordering.{eq_by_cmp}
 use Rattle.sorted_keys.specs.Keys.{has, with_key}
@@ -28,7 +28,7 @@ chain_of_path roles declared ranges r (x ∷ rest) q is p = (is, p.0, chain_of_p
 
 -- a path that goes on by one pair
 pub path_on : (declared : List (Name × Name)) (r : Name) (rest : List Name) (p q : Name) → IsPath declared r rest p → has pair_cmp (p, q) declared ≡ true → IsPath declared r (rest ++ q ∷ []) q
-path_on declared r [] p q path pair = (subst (λ z. has pair_cmp (z, q) declared ≡ true) (sym path) pair, refl)
+path_on declared r [] p q path pair = (grind arith, refl)
 path_on declared r (x ∷ rest) p q path pair = (path.0, path_on declared x rest p q path.1 pair)
 
 -- ---- Members of lists
@@ -164,7 +164,7 @@ module _ (starts goals : List Name) (declared : List (Name × Name)) where
     trail_reaches (p ∷ older) t q m = ⊎_elim
         (λ e.
         let before = trail_reaches older t.2 p.0 t.1 in
-        subst (Reaches declared starts) (sym (one_key names_exact q p.1 e)) (before.0, before.1 ++ p.1 ∷ [], before.2, path_on declared before.0 before.1 p.0 p.1 before.3 t.0))
+        (before.0, before.1 ++ q ∷ [], before.2, path_on declared before.0 before.1 p.0 q before.3 (grind (arith, t.0, one_key names_exact q p.1 e))))
         (trail_reaches older t.2 q)
         (or_cases _ _ m)
 
@@ -182,7 +182,7 @@ module _ (starts : List Name) (declared : List (Name × Name)) where
 
   module _ (last : Name) (older : List (Name × Name)) (pair : Name × Name) (first : Name) (rest : List Name) (h : IsBack last (older ++ pair ∷ []) first rest) where
     trail_there : IsTrail starts declared (pair ∷ reverse older)
-    trail_there = subst (IsTrail starts declared) (reverse-append older (pair ∷ [])) h.trail
+    trail_there = rw (reverse-append older (pair ∷ [])) at h.trail
 
     pub back_by : eq_by_cmp name_cmp pair.1 first ≡ true → IsBack last older pair.0 (rest ++ first ∷ [])
     back_by same = record {

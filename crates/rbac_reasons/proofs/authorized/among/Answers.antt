@@ -1,4 +1,4 @@
-use Rattle.std.proofs.Common.{◌&&◌, ◌||◌, Bool, ap, ◌∙◌, arith}
+use Rattle.std.proofs.Common.{◌||◌, Bool, arith}
 use Rattle.std.proofs.lemmas.List.{take_all}
 use Rattle.sorted_keys.specs.Keys.{has}
 use Rattle.rbac_terms.specs.Name.{Name, name_cmp}
@@ -13,6 +13,6 @@ loop-name-preserved c = λ q.
 pub returns : goal.returns
 returns c =
     let test : Name → Bool = λ name. has name_cmp name c.args.these.now || has name_cmp name c.args.those.now in
-    let whole = take_all c.loop-name.name-index c.names-name-items.result.now c.loop-name-test.false ∙ c.names-name-items.ensures.names in
+    let whole = take_all c.loop-name.name-index c.names-name-items.result.now c.loop-name-test.false in
     kept_whole test c.args.names.now c.loop-name.kept c.names-name-items.ensures.in_order c.names-in_order.ensures.in_order
-    (λ q. c.loop-name.invariant q ∙ ap (λ names. test q && has name_cmp q names) whole)
+    (λ q. grind (arith, c.loop-name.invariant q, whole, c.names-name-items.ensures.names))

@@ -1,7 +1,5 @@
-use Rattle.std.proofs.Common.{◌≡◌, ap, ◌∙◌}
+use Rattle.std.proofs.Common.{arith}
 use Rattle.std.proofs.lemmas.List.{take_all}
-use Rattle.sorted_keys.specs.Keys.{has}
-use Rattle.rbac_terms.specs.Name.{name_cmp}
 use Rattle.rbac_decide.proofs.CheckLemmas.{among_granted}
 use Rattle.rbac_reasons.proofs.MemberLemmas.{name_more}
 use Rattle.rbac_reasons.proofs.granted.goals_of.Goals as goal
@@ -13,5 +11,5 @@ loop-role-preserved c = λ name.
 
 pub returns : goal.returns
 returns c = λ role.
-    c.loop-role.invariant role ∙ ap (has name_cmp role) (take_all c.loop-role.role-index c.granted_roles-roles.result.now c.loop-role-test.false ∙ c.granted_roles-roles.ensures)
-    ∙ among_granted c.args.policy.now (c.args.operation.now, c.args.object.now) role
+    let whole = take_all c.loop-role.role-index c.granted_roles-roles.result.now c.loop-role-test.false in
+    grind (arith, c.loop-role.invariant role, whole, c.granted_roles-roles.ensures, among_granted c.args.policy.now (c.args.operation.now, c.args.object.now) role)

@@ -1,7 +1,6 @@
-use Rattle.std.proofs.Common.{ap, ◌∙◌}
+use Rattle.std.proofs.Common.{arith}
 use Rattle.std.proofs.lemmas.List.{take_all}
-use Rattle.std.specs.List.{list_any}
-use Rattle.rbac_reasons.proofs.MemberLemmas.{ends_in, second_among, second_more}
+use Rattle.rbac_reasons.proofs.MemberLemmas.{second_among, second_more}
 use Rattle.rbac_reasons.proofs.pairs.seconds.Goals as goal
 
 pub loop-pair-preserved : goal.loop-pair-preserved
@@ -11,6 +10,6 @@ loop-pair-preserved g c = λ name.
 
 pub returns : goal.returns
 returns g c = λ name.
-    c.loop-pair.invariant name
-    ∙ ap (list_any (ends_in g.A.Ord.cmp name)) (take_all c.loop-pair.pair-index c.beginning_with-pair-items.result.now c.loop-pair-test.false ∙ c.beginning_with-pair-items.ensures)
-    ∙ second_among g.A.Ord.cmp (g.P.Probe.sought c.args.first.now) name c.args.pairs.now
+    let whole = take_all c.loop-pair.pair-index c.beginning_with-pair-items.result.now c.loop-pair-test.false in
+    let among = second_among g.A.Ord.cmp (g.P.Probe.sought c.args.first.now) name c.args.pairs.now in
+    grind (arith, c.loop-pair.invariant name, whole, c.beginning_with-pair-items.ensures, among)

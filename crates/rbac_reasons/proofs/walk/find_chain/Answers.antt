@@ -1,4 +1,4 @@
-use Rattle.std.proofs.Common.{sym, ap, ◌∙◌, ◌≡◌, reverse, Some, subst, true}
+use Rattle.std.proofs.Common.{sym, ap, ◌∙◌, ◌≡◌, reverse, Some, subst, true, arith}
 use Rattle.sorted_keys.specs.Keys.{has}
 use Rattle.rbac_terms.specs.Name.{name_cmp}
 use Rattle.rbac_reasons.specs.Walk.{Walk, IsTrail, found_by, next_of}
@@ -16,12 +16,9 @@ returns-then-contains-clause-found c =
     let taken : next_of w ≡ Some role = sym c.in-Some.ensures.next in
     let trail_is : reverse c.walk.inside.pairs.items ≡ w.trail = ap (λ (x : Walk). x.trail) (c.walk.view_is ∙ c.next.ensures.rest) in
     let there : has name_cmp role (found_by starts w.trail) ≡ true = sym (h.members role) ∙ h.pending role (was_pending starts goals declared role w taken) in
-    let leads = c.in_ok-chain_to.ensures starts declared (subst (IsTrail starts declared) (sym trail_is) h.trail) (subst (λ t. has name_cmp role (found_by starts t) ≡ true) (sym trail_is) there) in
-    record {
-      first = leads.first;
-      path = leads.path;
-      last = subst (λ z. has name_cmp z goals ≡ true) (sym leads.last_is) (sym c.contains.ensures ∙ c.if-contains.true);
-    }
+    let leads = c.in_ok-chain_to.ensures starts declared (subst (IsTrail starts declared) (sym trail_is) h.trail)
+    (subst (λ t. has name_cmp role (found_by starts t) ≡ true) (sym trail_is) there) in
+    record { first = leads.first; path = leads.path; last = grind (arith, leads.last_is, c.contains.ensures) }
 
 pub loop-role-smaller : goal.loop-role-smaller
 loop-role-smaller c =
