@@ -1,5 +1,5 @@
 -- What the first hindrance of a command tells of its preconditions.
-use Rattle.std.proofs.Common.{◌≡◌, Bool, true, false, not, cond, List, [], ◌∷◌, Option, Some, None, refl, arith}
+use Rattle.std.proofs.Common.{◌≡◌, Bool, true, false, not, cond, ◌||◌, List, [], ◌∷◌, Option, Some, None, refl, arith}
 use Rattle.std.proofs.lemmas.Bool.{false≢true}
 use Rattle.std.specs.List.{list_any, find as first_where}
 use Rattle.std.specs.Option.{option_map}
@@ -41,7 +41,7 @@ not_false b e = grind arith
 module _ {X : Type 0} (p : X → Bool) where
   pub any_first : (xs : List X) → list_any p xs ≡ true → (x : X) × (first_where p xs ≡ Some x)
   any_first [] e = absurd (false≢true e)
-  any_first (x ∷ xs) e = elim (first_where p (x ∷ xs)) as (λ o. first_where p (x ∷ xs) ≡ o → (y : X) × (first_where p (x ∷ xs) ≡ Some y)) [
-    | Some y ↦ λ is. (y, is)
-    | None ↦ λ is. (x, grind (arith, any_first xs))
-  ] refl
+  any_first (x ∷ xs) e = elim (p x) as (λ b. (b || list_any p xs) ≡ true → (y : X) × (cond b (Some x) (first_where p xs) ≡ Some y)) [
+    | true ↦ λ e. (x, refl)
+    | false ↦ any_first xs
+  ] e

@@ -106,7 +106,8 @@ module _ (starts goals : List Name) (declared : List (Name × Name)) where
   all_find : (ps : List (Name × Name)) (w : Walk) (p : Name × Name) → has pair_cmp p ps ≡ true → has name_cmp p.1 (all_visited ps w).found ≡ true
   all_find [] w p m = absurd (false≢true m)
   all_find (x ∷ ps) w p m =
-      grind (arith, all_keep ps (visited x w) p.1, has-with_key names_total x.1 w.found p.1, ties_itself names_total p.1, one_key pairs_exact p x, all_find ps (visited x w) p)
+      let keeps = all_keep ps (visited x w) p.1 in
+      grind (arith, keeps, has-with_key names_total x.1 w.found p.1, ties_itself names_total p.1, one_key pairs_exact p x, all_find ps (visited x w) p)
 
   module _ (role : Name) where
     abbrev AreMine : List (Name × Name) → Type 0
@@ -122,19 +123,16 @@ module _ (starts goals : List Name) (declared : List (Name × Name)) where
     all_shrink [] each w = omega arith
     all_shrink (p ∷ ps) each w =
         let rest = all_shrink ps (λ q m. each q (or_right _ _ m)) (visited p w) in
-        let less = λ (e : has name_cmp p.1 w.found ≡ false) (m : has pair_cmp p declared ≡ true). unfound_less w.found p e declared m in
-        grind (arith, rest, less, each p, from_role role p, ties_itself pairs_total p, length-append w.pending (p.1 ∷ []))
+        grind (arith, rest, λ (e : has name_cmp p.1 w.found ≡ false). unfound_less w.found p e declared, each p, from_role role p, ties_itself pairs_total p, length-append w.pending (p.1 ∷ []))
 
   module _ (role : Name) (w : Walk) (taken : next_of w ≡ Some role) where
-    head_is : w.pending ≡ role ∷ after_first w.pending
-    head_is = grind arith
-
     pub was_pending : has name_cmp role w.pending ≡ true
-    was_pending = grind (arith, head_is, ties_itself names_total role)
+    was_pending = grind (arith, ties_itself names_total role)
 
     pub walk_goes_on : has name_cmp role goals ≡ false → IsWalk None w → IsWalk None (all_visited (pairs_from role) (after_next w))
     walk_goes_on no_goal h =
-        let then = all_pass role (pairs_from role) (λ p m. m) (after_next w) (h.pending role was_pending) (passes role (after_first w.pending) w head_is no_goal h) in
+        let first = passes role (after_first w.pending) w (grind arith) no_goal h in
+        let then = all_pass role (pairs_from role) (λ p m. m) (after_next w) (h.pending role was_pending) first in
         record {
           trail = then.trail;
           members = then.members;
@@ -144,7 +142,7 @@ module _ (starts goals : List Name) (declared : List (Name × Name)) where
         }
 
     pub walk_shrinks : weight declared (all_visited (pairs_from role) (after_next w)) < weight declared w
-    walk_shrinks = grind (arith, all_shrink role (pairs_from role) (λ p m. m) (after_next w), head_is)
+    walk_shrinks = grind (arith, all_shrink role (pairs_from role) (λ p m. m) (after_next w))
 
   begun : (trail : List (Name × Name)) (q : Name) → has name_cmp q starts ≡ true → has name_cmp q (found_by starts trail) ≡ true
   begun [] q m = m
@@ -199,4 +197,5 @@ module _ (starts : List Name) (declared : List (Name × Name)) where
     }
 
   pub back_ends : (last first : Name) (rest : List Name) (chain : Chain) → chain.first ≡ first → chain.rest.items ≡ reverse rest → chain.last ≡ last → IsBack last [] first rest → LeadsFrom declared starts last chain
-  back_ends last first rest chain is_first is_rest is_last h = record { first = grind (arith, h.found); path = rw (is_first, is_rest, is_last) h.path; last_is = is_last }
+  back_ends last first rest chain is_first is_rest is_last h =
+      record { first = grind (arith, h.found); path = rw (is_first, is_rest, is_last) h.path; last_is = is_last }

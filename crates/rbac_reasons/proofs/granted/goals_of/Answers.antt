@@ -12,4 +12,5 @@ loop-role-preserved c = λ name.
 pub returns : goal.returns
 returns c = λ role.
     let whole = take_all c.loop-role.role-index c.granted_roles-roles.result.now c.loop-role-test.false in
-    grind (arith, c.loop-role.invariant role, whole, c.granted_roles-roles.ensures, among_granted c.args.policy.now (c.args.operation.now, c.args.object.now) role)
+    let among = among_granted c.args.policy.now (c.args.operation.now, c.args.object.now) role in
+    grind (arith, c.loop-role.invariant role, whole, c.granted_roles-roles.ensures, among)

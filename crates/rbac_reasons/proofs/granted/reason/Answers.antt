@@ -15,7 +15,8 @@ returns-in-Some-2-clause-reason c =
     let found : find name_cmp c.args.session.now s.sessions ≡ Some session = search rules in
     let are : AreGranted s (c.args.operation.now, c.args.object.now) c.in_ok-goals.goals = search rules in
     let leads : LeadsTo s.declared session.active c.in_ok-goals.goals chain =
-    subst (λ (x : Session). LeadsTo s.declared x.active c.in_ok-goals.goals chain) c.found.view_is (rw c.declarations.ensures at (rw c.in-Some-2.is at c.in_ok-chain.ensures.found)) in
+    subst (λ (x : Session). LeadsTo s.declared x.active c.in_ok-goals.goals chain) c.found.view_is
+    (rw c.declarations.ensures at (rw c.in-Some-2.is at c.in_ok-chain.ensures.found)) in
     record {
       active = grind (arith, found, leads.first);
       inherited = chain_of_path s.roles s.declared c.invariants.ensures.references.declared chain.first chain.rest.items chain.last
@@ -31,5 +32,6 @@ returns-clause-granted c =
     let found : find name_cmp c.args.session.now s.sessions ≡ Some session = search rules in
     let are : AreGranted s permission c.in_ok-goals.goals = search rules in
     let none : NoneLeads s.declared session.active c.in_ok-goals.goals =
-    subst (λ (x : Session). NoneLeads s.declared x.active c.in_ok-goals.goals) c.found.view_is (rw c.declarations.ensures at (c.in_ok-chain.ensures.none (search rules))) in
+    subst (λ (x : Session). NoneLeads s.declared x.active c.in_ok-goals.goals) c.found.view_is
+    (rw c.declarations.ensures at (c.in_ok-chain.ensures.none (search rules))) in
     absurd (not_held s session permission c.in_ok-goals.goals are none (rw found at (c.is_granted.ensures.held c.if-not-is_granted.false)))

@@ -18,5 +18,4 @@ loop-ascendant-preserved c = λ starts declared trail found.
 pub returns : goal.returns
 returns c = λ starts declared trail found.
     let none : c.loop-ascendant.pairs.items ≡ [] = nil_from_length c.loop-ascendant.pairs.items (sym c.loop-ascendant.pairs.ok.0 ∙ c.in_default.ensures.cases.0) in
-    let back = rw none at (c.loop-ascendant.invariant starts declared trail found) in
-    back_ends starts declared _ _ _ _ refl c.reverse.ensures.items refl back
+    back_ends starts declared _ _ _ _ refl c.reverse.ensures.items refl (rw none at (c.loop-ascendant.invariant starts declared trail found))
