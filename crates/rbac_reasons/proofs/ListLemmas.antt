@@ -45,7 +45,8 @@ module _ (roles : List Name) (declared : List (Name × Name)) (ranges : AreAmong
           let is_role = chain_role roles declared role why.0 q why.1 in
           (reached q).1 (role, why.0, grind (arith, is_role, ties_itself names_total role), path_of_chain roles declared role why.0 q why.1)
 
-  pub juniors_are : (names : List Name) → IsStrictlySortedBy name_cmp roles → IsStrictlySortedBy name_cmp names → AreReached declared (alone roles role) names → names ≡ juniors roles declared role
+  pub juniors_are : (names : List Name) → IsStrictlySortedBy name_cmp roles → IsStrictlySortedBy name_cmp names → AreReached declared (alone roles role) names
+      → names ≡ juniors roles declared role
   unfolding inherits
   juniors_are names sorted_roles sorted reached =
       kept_whole (inherits roles declared role) roles names sorted_roles sorted (λ q. grind (arith, reached_is names reached q))
@@ -65,7 +66,8 @@ pub none_twice : (pairs : List (Name × Name)) → IsStrictlySortedBy pair_cmp p
 none_twice pairs sorted = repeats_turned pairs ∙ unrepeated_if_sorted pairs_total pairs pairs (IsPermutation-refl pairs) sorted
 
 -- a chain over pairs turned round is one over the pairs, the other way
-chain_back : (roles : List Name) (pairs others : List (Name × Name)) → AreTurned pairs others → (r : Name) (rest : List Name) (q : Name) → IsChain roles others r rest q → Inherits roles pairs q r
+chain_back : (roles : List Name) (pairs others : List (Name × Name)) → AreTurned pairs others
+    → (r : Name) (rest : List Name) (q : Name) → IsChain roles others r rest q → Inherits roles pairs q r
 chain_back roles pairs others are r [] q c = ([], (chain_end roles others r [] q c, sym c.1))
 chain_back roles pairs others are r (p ∷ rest) q c =
     let last : IsChain roles pairs p (r ∷ []) r = (chain_role roles others p rest q c.2, sym (are (r, p)) ∙ c.1, (c.0, refl)) in
@@ -74,12 +76,15 @@ chain_back roles pairs others are r (p ∷ rest) q c =
 module _ (roles : List Name) (declared others : List (Name × Name)) (ranges : AreAmong roles declared) (are : AreTurned declared others) (role : Name) where
   turned_inherits : (q : Name) → inherits roles others role q ≡ inherits roles declared q role
   turned_inherits q = same_bits _ _
-      (λ e. let why = (inherits_iff roles others role q).0 e in (inherits_iff roles declared q role).1 (chain_back roles declared others are role why.0 q why.1))
+      (λ e.
+      let why = (inherits_iff roles others role q).0 e in
+      (inherits_iff roles declared q role).1 (chain_back roles declared others are role why.0 q why.1))
       (λ e.
       let why = (inherits_iff roles declared q role).0 e in
       (inherits_iff roles others role q).1 (chain_back roles others declared (λ pair. sym (are (turned pair))) q why.0 role why.1))
 
-  pub seniors_are : (names : List Name) → IsStrictlySortedBy name_cmp roles → IsStrictlySortedBy name_cmp names → AreReached others (alone roles role) names → names ≡ seniors roles declared role
+  pub seniors_are : (names : List Name) → IsStrictlySortedBy name_cmp roles → IsStrictlySortedBy name_cmp names → AreReached others (alone roles role) names
+      → names ≡ seniors roles declared role
   unfolding inherits
   seniors_are names sorted_roles sorted reached =
       let ends : AreAmong roles others = λ a d m. let both = ranges d a (sym (are (a, d)) ∙ m) in (both.1, both.0) in

@@ -69,7 +69,8 @@ module _ (starts goals : List Name) (declared : List (Name × Name)) where
     pub trail : IsTrail starts declared w.trail
     pub members : (q : Name) → has name_cmp q w.found ≡ has name_cmp q (found_by starts w.trail)
     pub pending : (q : Name) → has name_cmp q w.pending ≡ true → has name_cmp q w.found ≡ true
-    pub closed : (a b : Name) → has pair_cmp (a, b) declared ≡ true → has name_cmp a w.found ≡ true → (has name_cmp a w.pending ≡ true) ⊎ ((has name_cmp b w.found ≡ true) ⊎ (but ≡ Some a))
+    pub closed : (a b : Name) → has pair_cmp (a, b) declared ≡ true → has name_cmp a w.found ≡ true
+        → (has name_cmp a w.pending ≡ true) ⊎ ((has name_cmp b w.found ≡ true) ⊎ (but ≡ Some a))
     pub failed : (q : Name) → has name_cmp q w.found ≡ true → (has name_cmp q w.pending ≡ true) ⊎ (has name_cmp q goals ≡ false)
 
   abbrev pairs_from : Name → List (Name × Name)
@@ -78,7 +79,8 @@ module _ (starts goals : List Name) (declared : List (Name × Name)) where
   from_role : (role : Name) (p : Name × Name) → has pair_cmp p (pairs_from role) ≡ (eq_by_cmp name_cmp role p.0 && has pair_cmp p declared)
   from_role role p = has-filter pairs_exact (λ (x : Name × Name). eq_by_cmp name_cmp role x.0) declared p
 
-  passes : (role : Name) (rest : List Name) (w : Walk) → w.pending ≡ role ∷ rest → has name_cmp role goals ≡ false → IsWalk None w → IsWalk (Some role) (record w { pending = rest })
+  passes : (role : Name) (rest : List Name) (w : Walk) → w.pending ≡ role ∷ rest → has name_cmp role goals ≡ false
+      → IsWalk None w → IsWalk (Some role) (record w { pending = rest })
   passes role rest w taken no_goal h = record {
     trail = h.trail;
     members = h.members;
@@ -87,7 +89,8 @@ module _ (starts goals : List Name) (declared : List (Name × Name)) where
     failed = λ q m. grind (arith, h.failed q m, one_name q role);
   }
 
-  visit_passes : (role : Name) (p : Name × Name) (w : Walk) → has pair_cmp p (pairs_from role) ≡ true → has name_cmp role w.found ≡ true → IsWalk (Some role) w → IsWalk (Some role) (visited p w)
+  visit_passes : (role : Name) (p : Name × Name) (w : Walk) → has pair_cmp p (pairs_from role) ≡ true → has name_cmp role w.found ≡ true
+      → IsWalk (Some role) w → IsWalk (Some role) (visited p w)
   visit_passes role p w mine here h = record {
     trail = elim (has name_cmp p.1 w.found) as (λ b. IsTrail starts declared (cond b w (record { found = with_key name_cmp p.1 w.found; trail = p ∷ w.trail; pending = w.pending ++ p.1 ∷ [] })).trail) [
       | true ↦ h.trail
@@ -113,7 +116,8 @@ module _ (starts goals : List Name) (declared : List (Name × Name)) where
     abbrev AreMine : List (Name × Name) → Type 0
     AreMine ps = (p : Name × Name) → has pair_cmp p ps ≡ true → has pair_cmp p (pairs_from role) ≡ true
 
-    all_pass : (ps : List (Name × Name)) → AreMine ps → (w : Walk) → has name_cmp role w.found ≡ true → IsWalk (Some role) w → IsWalk (Some role) (all_visited ps w)
+    all_pass : (ps : List (Name × Name)) → AreMine ps → (w : Walk) → has name_cmp role w.found ≡ true
+        → IsWalk (Some role) w → IsWalk (Some role) (all_visited ps w)
     all_pass [] each w here h = h
     all_pass (p ∷ ps) each w here h =
         let first = visit_passes role p w (each p (or_left _ _ (ties_itself pairs_total p))) here h in
@@ -123,7 +127,8 @@ module _ (starts goals : List Name) (declared : List (Name × Name)) where
     all_shrink [] each w = omega arith
     all_shrink (p ∷ ps) each w =
         let rest = all_shrink ps (λ q m. each q (or_right _ _ m)) (visited p w) in
-        grind (arith, rest, λ (e : has name_cmp p.1 w.found ≡ false). unfound_less w.found p e declared, each p, from_role role p, ties_itself pairs_total p, length-append w.pending (p.1 ∷ []))
+        let less = λ (e : has name_cmp p.1 w.found ≡ false). unfound_less w.found p e declared in
+        grind (arith, rest, less, each p, from_role role p, ties_itself pairs_total p, length-append w.pending (p.1 ∷ []))
 
   module _ (role : Name) (w : Walk) (taken : next_of w ≡ Some role) where
     pub was_pending : has name_cmp role w.pending ≡ true
