@@ -1,5 +1,5 @@
 -- The names that are gathered in a loop: those of a list, those that are kept of one, and the second halves of pairs that stand together.
-use Rattle.std.proofs.Common.{ℕ, ◌≡◌, ◌+◌, ◌<◌, Bool, false, cond, ◌||◌, ◌&&◌, List, [], ◌∷◌, take, length, get_or, refl, sym, ap, ◌∙◌, arith}
+use Rattle.std.proofs.Common.{ℕ, ◌≡◌, ◌+◌, ◌<◌, Bool, false, cond, ◌||◌, ◌&&◌, List, [], ◌∷◌, take, length, get_or, refl, sym, ◌∙◌, arith}
 use Rattle.std.proofs.lemmas.List.{take_more}
 use Rattle.std.proofs.lemmas.List.Folds.{list_any-append}
 use Rattle.std.proofs.lemmas.List.Kept.{IsStrictlySortedBy-filter}

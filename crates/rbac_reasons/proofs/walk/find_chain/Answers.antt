@@ -15,7 +15,7 @@ returns-then-contains-clause-found c =
     let h = c.loop-role.invariant in
     let taken : next_of w ≡ Some role = sym c.in-Some.ensures.next in
     let trail_is : reverse c.walk.inside.pairs.items ≡ w.trail = ap (λ (x : Walk). x.trail) (c.walk.view_is ∙ c.next.ensures.rest) in
-    let there : has name_cmp role (found_by starts w.trail) ≡ true = sym (h.members role) ∙ h.pending role (was_pending starts goals declared role w taken) in
+    let there = sym (h.members role) ∙ h.pending role (was_pending starts goals declared role w taken) in
     let leads = c.in_ok-chain_to.ensures starts declared (subst (IsTrail starts declared) (sym trail_is) h.trail)
     (subst (λ t. has name_cmp role (found_by starts t) ≡ true) (sym trail_is) there) in
     record { first = leads.first; path = leads.path; last = grind (arith, leads.last_is, c.contains.ensures) }
