@@ -1,56 +1,44 @@
 -- What the names of a hindrance tell of the state after the command.
-use Rattle.std.proofs.Common.{ℕ, ◌≡◌, Bool, true, false, not, cond, ◌||◌, ◌&&◌, List, [], ◌∷◌, Option, Some, None, is_some, ⊎_elim, refl, sym, ap, ◌∙◌, subst}
-use Rattle.std.proofs.lemmas.Bool.{false≢true, and_parts, and_from, or_left, or_right, or_cases}
-use Rattle.std.specs.List.{list_any, find as first_where}
-use Rattle.std.specs.List.Sorted.{IsStrictlySortedBy}
-use Rattle.std.specs.FinMap.Entries.{find, put, find-put}
-use Rattle.std.specs.Option.{option_map}
-use Rattle.std.specs.Ordering.{eq_by_cmp}
-use Rattle.sorted_keys.specs.Keys.{has, by_key, with_key}
+use Rattle.std.proofs.Common.{arith, suc, take, drop, ◌++◌, ℕ, ◌≡◌, Bool, true, false, not, cond, ◌||◌, ◌&&◌, List, [], ◌∷◌, Option, Some, None, is_some, refl, sym, ap, ◌∙◌, subst}
+use Rattle.std.specs.Prelude.{⊤}
+use Rattle.rbac_decide.proofs.Common.{false≢true, and_parts, and_from, or_left, list_any, first_where, IsStrictlySortedBy, find, put, find-put, option_map}
+use Rattle.rbac_decide.proofs.Common.{eq_by_cmp, has, by_key, with_key, updated, has-filter, has-with_key, ties_itself, same_bits, Name, name_cmp, RoleSet}
+use Rattle.rbac_decide.proofs.Common.{is_broken_by, is_broken, is_well_sized, is_constrained, State, Session, IsChain, juniors, inherits, inherits_in}
+use Rattle.rbac_decide.proofs.Common.{is_authorized, sets_of, with_sets, breaks_static, breaks_dynamic, is_violated, is_badly_sized, violation, change}
+use Rattle.rbac_decide.proofs.Common.{with_active, active_in, preconditions, first_denial, IsSound, Separation, Static, Dynamic, Command, DeleteRole}
+use Rattle.rbac_decide.proofs.Common.{AssignUser, AddInheritance, CreateSet, AddRoleMember, DeleteRoleMember, SetCardinality, CreateSession, AddActiveRole}
+use Rattle.rbac_decide.proofs.Common.{ReviewCommand, Denial, names_total, names_exact, inherits_iff, chain_role, chain_end, breaks_with, breaks_set}
+use Rattle.rbac_decide.proofs.Common.{first_holder, Named, named, static_breach, dynamic_breach, breach_of, first_hindrance, first_entry, a_breach, a_set}
+use Rattle.std.proofs.lemmas.Bool.{or_parts}
 use Rattle.sorted_keys.proofs.EntryPlace.{sorted_put, sorted_updated}
-use Rattle.sorted_keys.proofs.Members.{has-filter, has-with_key}
-use Rattle.sorted_keys.proofs.Ties.{one_key, ties_itself, same_bits}
-use Rattle.rbac_terms.specs.Name.{Name, name_cmp}
-use Rattle.rbac_terms.specs.Separation.{RoleSet, is_broken_by, is_broken, is_well_sized, is_constrained}
-use Rattle.rbac_terms.specs.State.{State, Session}
-use Rattle.rbac_terms.specs.Inheritance.{IsChain, juniors, inherits}
-use Rattle.rbac_terms.specs.Authorization.{inherits_in, is_authorized}
-use Rattle.rbac_terms.specs.Constraints.{sets_of, with_sets, breaks_static, breaks_dynamic, is_violated, is_badly_sized, violation}
-use Rattle.rbac_terms.specs.Change.{change, with_active, with_member, without_member, with_cardinality}
-use Rattle.rbac_terms.specs.Reviews.{active_in, active_roles}
-use Rattle.rbac_terms.specs.Rows.{preconditions, review_preconditions, first_denial, is_session}
-use Rattle.rbac_terms.specs.Sound.{IsSound}
-use Rattle.rbac_terms.specs.declared.separation.Separation.{Separation}
-use Rattle.rbac_terms.specs.declared.separation.Separation.TheVariants.{Static, Dynamic}
-use Rattle.rbac_terms.specs.declared.command.Command.{Command}
-use Rattle.rbac_terms.specs.declared.command.Command.TheVariants.{DeleteRole, AssignUser, AddInheritance, CreateSet, AddRoleMember, DeleteRoleMember, SetCardinality, CreateSession, AddActiveRole, Review as ReviewCommand}
+use Rattle.rbac_terms.specs.Rows.{Precondition, ◌when◌, review_preconditions, leftmost, is_set}
 use Rattle.rbac_terms.specs.declared.review.Review.{Review}
 use Rattle.rbac_terms.specs.declared.review.Review.TheVariants.{AssignedUsers}
-use Rattle.rbac_terms.specs.declared.answer.Denial.{Denial}
 use Rattle.rbac_terms.specs.declared.answer.Denial.TheVariants as denial
-use Rattle.rbac_terms.proofs.NameLemmas.{names_total, names_exact}
-use Rattle.rbac_rules.proofs.InheritanceLemmas.{inherits_iff, chain_role, chain_end}
-use Rattle.rbac_decide.specs.Breaking.{breaks_with, breaks_set, first_holder}
-use Rattle.rbac_decide.specs.Hindrance.{Named, named, name_found, name_of, static_breach, dynamic_breach, breach_of, first_hindrance, first_entry, first_set_of, first_set_in}
-use Rattle.rbac_decide.specs.Hindrance.Named.{a_breach, a_set}
 use Rattle.rbac_decide.proofs.SeparationLemmas.{put_found, put_violated, put_sized, created_violated, activated_violated, assigned_violated, declared_violated, user_gains, pair_gives}
 use Rattle.rbac_decide.proofs.BreachLemmas.{some_first, first_found, first_with, assignment_named, pair_named, put_named, session_named, activation_named}
 use Rattle.rbac_reasons.specs.declared.chain.Chain.{Chain}
 use Rattle.rbac_reasons.specs.After.{changed, changed_set, gained}
 use Rattle.rbac_reasons.specs.Explanation.{holds, is_holder}
 use Rattle.rbac_reasons.specs.Path.{LeadsTo, NoneLeads}
-use Rattle.rbac_reasons.proofs.ToldLemmas.{told_parts, refuted, passed, failed, not_false, any_first}
+use Rattle.rbac_reasons.proofs.ToldLemmas.{told_parts, refuted, passed, not_false, any_first}
 use Rattle.rbac_reasons.proofs.WalkLemmas.{path_of_chain, chain_of_path}
 
 -- ---- The breach of a state
 
+-- what is so of the kind, the holder and the set of a breach
+abbrev OfBreach : (Separation → Name → Name → Type 0) → Named → Type 0
+OfBreach P (a_breach kind holder set) = P kind holder set
+OfBreach P names = ⊤
+
+-- what is so of the kind and the name of a set
+abbrev OfSet : (Separation → Name → Type 0) → Named → Type 0
+OfSet P (a_set kind set) = P kind set
+OfSet P names = ⊤
+
 first_in : (p : Name → Bool) (xs : List Name) (y : Name) → first_where p xs ≡ Some y → has name_cmp y xs ≡ true
-first_in p [] y e = absurd (let f : ⊥ = cc in f)
-first_in p (x ∷ xs) y e = go (p x) e (first_in p xs y)
-  where
-    go : (b : Bool) → cond b (Some x) (first_where p xs) ≡ Some y → (first_where p xs ≡ Some y → has name_cmp y xs ≡ true) → has name_cmp y (x ∷ xs) ≡ true
-    go true e rest = or_left _ _ (let same : x ≡ y = cc in subst (λ z. eq_by_cmp name_cmp z x ≡ true) same (ties_itself names_total x))
-    go false e rest = or_right _ _ (rest e)
+first_in p [] y e = grind arith
+first_in p (x ∷ xs) y e = grind (arith, ties_itself names_total x, first_in p xs y)
 
 -- a breach is of a set that is there, by a user or a session that is there and breaks it
 pub record IsBroken (kind : Separation) (s : State) (holder set : Name) : Type 0 where
@@ -59,46 +47,30 @@ pub record IsBroken (kind : Separation) (s : State) (holder set : Name) : Type 0
   pub there : is_holder kind s holder ≡ true
   pub broken : is_broken_by (holds kind s holder) role_set ≡ true
 
-pub breach_found : (kind : Separation) (s : State) → IsStrictlySortedBy (by_key name_cmp) (sets_of kind s) → IsStrictlySortedBy (by_key name_cmp) s.sessions → is_violated kind s ≡ true
-    → (told : Separation) (holder set : Name) → breach_of kind s ≡ a_breach told holder set → (kind ≡ told) × IsBroken kind s holder set
-breach_found Static s sorted sessions violated told holder set e =
+breach_found : (kind : Separation) (s : State) → IsStrictlySortedBy (by_key name_cmp) (sets_of kind s) → IsStrictlySortedBy (by_key name_cmp) s.sessions → is_violated kind s ≡ true
+    → OfBreach (λ k. IsBroken k s) (breach_of kind s)
+breach_found Static s sorted sessions violated =
     let user = any_first (breaks_static s) s.users violated in
     let breaks : Name × RoleSet → Bool = λ e. is_broken_by (is_authorized s user.0) e.1 in
     let entry = any_first breaks s.static_sets (some_first (breaks_static s) s.users user.0 user.1).0 in
-    let first : static_breach s ≡ a_breach Static user.0 entry.0.0 =
-    ap (λ o. a_breach Static (name_found o) (first_set_of s (name_found o))) user.1 ∙ ap (λ o. a_breach Static user.0 (name_of o)) entry.1 in
-    let same : a_breach Static user.0 entry.0.0 ≡ a_breach told holder set = sym first ∙ e in
-    let holder_is : user.0 ≡ holder = cc in
-    let set_is : entry.0.0 ≡ set = cc in (
-      (let kind_is : Static ≡ told = cc in kind_is),
-      record {
-        role_set = entry.0.1;
-        found = subst (λ z. find name_cmp z s.static_sets ≡ Some entry.0.1) set_is (first_found names_total breaks s.static_sets sorted entry.0 entry.1);
-        there = subst (λ z. has name_cmp z s.users ≡ true) holder_is (first_in (breaks_static s) s.users user.0 user.1);
-        broken = subst (λ z. is_broken_by (is_authorized s z) entry.0.1 ≡ true) holder_is (some_first breaks s.static_sets entry.0 entry.1).0;
-      },
-    )
-breach_found Dynamic s sorted sessions violated told holder set e =
+    rw (user.1, entry.1) (record {
+      role_set = entry.0.1;
+      found = first_found names_total breaks s.static_sets sorted entry.0 entry.1;
+      there = first_in (breaks_static s) s.users user.0 user.1;
+      broken = (some_first breaks s.static_sets entry.0 entry.1).0;
+    })
+breach_found Dynamic s sorted sessions violated =
     let breaking : Name × Session → Bool = λ x. breaks_dynamic s x.1 in
     let session = any_first breaking s.sessions violated in
     let found : find name_cmp session.0.0 s.sessions ≡ Some session.0.1 = first_found names_total breaking s.sessions sessions session.0 session.1 in
     let breaks : Name × RoleSet → Bool = λ e. is_broken session.0.1.active e.1 in
     let entry = any_first breaks s.dynamic_sets (some_first breaking s.sessions session.0 session.1).0 in
-    let first : dynamic_breach s ≡ a_breach Dynamic session.0.0 entry.0.0 =
-    ap (λ o. a_breach Dynamic (name_of o) (first_set_in s (name_of o))) session.1
-    ∙ ap (λ o. a_breach Dynamic session.0.0 (name_of (first_where (λ (e : Name × RoleSet). is_broken (active_in o) e.1) s.dynamic_sets))) found
-    ∙ ap (λ o. a_breach Dynamic session.0.0 (name_of o)) entry.1 in
-    let same : a_breach Dynamic session.0.0 entry.0.0 ≡ a_breach told holder set = sym first ∙ e in
-    let holder_is : session.0.0 ≡ holder = cc in
-    let set_is : entry.0.0 ≡ set = cc in (
-      (let kind_is : Dynamic ≡ told = cc in kind_is),
-      record {
-        role_set = entry.0.1;
-        found = subst (λ z. find name_cmp z s.dynamic_sets ≡ Some entry.0.1) set_is (first_found names_total breaks s.dynamic_sets sorted entry.0 entry.1);
-        there = subst (λ z. is_session s z ≡ true) holder_is (ap is_some found);
-        broken = subst (λ z. is_broken_by (λ r. has name_cmp r (active_roles s z)) entry.0.1 ≡ true) holder_is (subst (λ o. is_broken_by (λ r. has name_cmp r (active_in o)) entry.0.1 ≡ true) (sym found) (some_first breaks s.dynamic_sets entry.0 entry.1).0);
-      },
-    )
+    rw (session.1, found, entry.1) (record {
+      role_set = entry.0.1;
+      found = first_found names_total breaks s.dynamic_sets sorted entry.0 entry.1;
+      there = ap is_some found;
+      broken = rw found (some_first breaks s.dynamic_sets entry.0 entry.1).0;
+    })
 
 -- ---- What a command that would break separation makes
 
@@ -107,23 +79,21 @@ pub record IsBreach (c : Command) (s : State) (kind : Separation) (holder set : 
   pub makes : find name_cmp set (sets_of kind (change c s)) ≡ changed_set c (find name_cmp set (sets_of kind s))
   pub broken : IsBroken kind (change c s) holder set
 
+-- a state that is broken tells by whom and what
+abbrev Names : State → Separation → Separation → Name → Name → Type 0
+Names after kind told holder set = (is_violated kind after ≡ true) × (breach_of kind after ≡ a_breach told holder set)
+
 -- what a change gives the first that breaks a set, and the set
-breach_as : (c : Command) (s : State) (kind told : Separation) (holder set first first_set : Name) → a_breach kind first first_set ≡ a_breach told holder set
+breach_as : (c : Command) (s : State) (kind told : Separation) (holder set first first_set : Name) → a_breach kind first first_set ≡ breach_of kind (change c s) → Names (change c s) kind told holder set
     → ((role : Name) → holds kind (change c s) first role ≡ (has name_cmp role (gained c s) || holds kind s first role))
     → find name_cmp first_set (sets_of kind (change c s)) ≡ changed_set c (find name_cmp first_set (sets_of kind s))
-    → (kind ≡ told) × IsBroken kind (change c s) holder set → IsBreach c s told holder set
-breach_as c s kind told holder set first first_set same gains makes broken =
-    let holder_is : first ≡ holder = cc in
-    let set_is : first_set ≡ set = cc in
-    subst (λ k. IsBreach c s k holder set) broken.0 (record {
-      gains = subst (λ z. (role : Name) → holds kind (change c s) z role ≡ (has name_cmp role (gained c s) || holds kind s z role)) holder_is gains;
-      makes = subst (λ z. find name_cmp z (sets_of kind (change c s)) ≡ changed_set c (find name_cmp z (sets_of kind s))) set_is makes;
-      broken = broken.1;
-    })
+    → IsStrictlySortedBy (by_key name_cmp) (sets_of kind (change c s)) → IsStrictlySortedBy (by_key name_cmp) (change c s).sessions → IsBreach c s told holder set
+breach_as c s kind told holder set first first_set is names gains makes sorted sessions =
+    let broken = subst (OfBreach (λ k. IsBroken k (change c s))) (sym is) (breach_found kind (change c s) sorted sessions names.0) in
+    subst (OfBreach (IsBreach c s)) (is ∙ names.1) (record { gains = gains; makes = makes; broken = broken })
 
 kept : {X : Type 0} (f : X → X) (o : Option X) → ((x : X) → f x ≡ x) → o ≡ option_map f o
-kept f None same = refl
-kept f (Some x) same = ap Some (sym (same x))
+kept f o same = grind (arith, same)
 
 has_junior : (s : State) (role r : Name) → has name_cmp r (juniors s.roles s.declared role) ≡ inherits_in s role r
 has_junior s role r =
@@ -132,17 +102,11 @@ has_junior s role r =
 
 -- ---- A set that is put
 
-sets_with : (kind : Separation) (sets : List (Name × RoleSet)) (s : State) → sets_of kind (with_sets kind sets s) ≡ sets
-sets_with Static sets s = refl
-sets_with Dynamic sets s = refl
-
-sessions_with : (kind : Separation) (sets : List (Name × RoleSet)) (s : State) → (with_sets kind sets s).sessions ≡ s.sessions
-sessions_with Static sets s = refl
-sessions_with Dynamic sets s = refl
-
-holds_with : (kind : Separation) (sets : List (Name × RoleSet)) (s : State) (holder role : Name) → holds kind (with_sets kind sets s) holder role ≡ holds kind s holder role
-holds_with Static sets s holder role = refl
-holds_with Dynamic sets s holder role = refl
+-- of a state with other sets of a kind
+sets_put : (kind : Separation) (sets : List (Name × RoleSet)) (s : State)
+    → (sets_of kind (with_sets kind sets s) ≡ sets) × ((with_sets kind sets s).sessions ≡ s.sessions) × ((holder role : Name) → holds kind (with_sets kind sets s) holder role ≡ holds kind s holder role)
+sets_put Static sets s = (refl, refl, λ holder role. refl)
+sets_put Dynamic sets s = (refl, refl, λ holder role. refl)
 
 sets_in_order : (kind : Separation) (s : State) → IsSound s → IsStrictlySortedBy (by_key name_cmp) (sets_of kind s)
 sets_in_order Static s h = h.separation.static_sets.in_order
@@ -155,37 +119,70 @@ first_there : (kind : Separation) (s : State) (new : RoleSet) → breaks_set kin
 first_there Static s new breaks = any_first _ s.users breaks
 first_there Dynamic s new breaks = let x = any_first _ s.sessions breaks in (x.0.0, ap (option_map (λ (e : Name × Session). e.0)) x.1)
 
-some_of : {X : Type 0} (o : Option X) → is_some o ≡ true → (x : X) × (o ≡ Some x)
-some_of None e = absurd (false≢true e)
+some_of : {X : Type 0} (o : Option X) → not (is_some o) ≡ false → (x : X) × (o ≡ Some x)
+some_of None e = absurd (false≢true (sym e))
 some_of (Some x) e = (x, refl)
 
--- a command that puts a set
-module _ (c : Command) (s : State) (h : IsSound s) (kind : Separation) (set : Name) (new : RoleSet) (puts : change c s ≡ with_sets kind (put name_cmp set new (sets_of kind s)) s) (makes : changed_set c (find name_cmp set (sets_of kind s)) ≡ Some new) where
-  abbrev then : State
-  then = with_sets kind (put name_cmp set new (sets_of kind s)) s
+-- a command puts a set
+record IsPut (c : Command) (s : State) (kind : Separation) (set : Name) : Type 0 where
+  pub new : RoleSet
+  pub puts : change c s ≡ with_sets kind (put name_cmp set new (sets_of kind s)) s
+  pub makes : changed_set c (find name_cmp set (sets_of kind s)) ≡ Some new
 
-  new_there : find name_cmp set (sets_of kind (change c s)) ≡ Some new
-  new_there = ap (λ t. find name_cmp set (sets_of kind t)) puts ∙ ap (find name_cmp set) (sets_with kind (put name_cmp set new (sets_of kind s)) s) ∙ put_there set new (sets_of kind s)
+-- a set that is there, changed
+put_changed : (c : Command) (s : State) (kind : Separation) (set : Name) → not (is_set kind s set) ≡ false → change c s ≡ with_sets kind (updated name_cmp set (changed c) (sets_of kind s)) s
+    → changed_set c (find name_cmp set (sets_of kind s)) ≡ option_map (changed c) (find name_cmp set (sets_of kind s)) → IsPut c s kind set
+put_changed c s kind set there is makes =
+    let x = some_of (find name_cmp set (sets_of kind s)) there in
+    record {
+      new = changed c x.0;
+      puts = is ∙ ap (λ sets. with_sets kind sets s) (put_found name_cmp set (changed c) (sets_of kind s) x.0 x.1);
+      makes = makes ∙ ap (option_map (changed c)) x.1;
+    }
 
-  put_breach : ((role : Name) → has name_cmp role (gained c s) ≡ false) → is_violated kind (change c s) ≡ true → (told : Separation) (holder other : Name) → breach_of kind (change c s) ≡ a_breach told holder other → IsBreach c s told holder other
-  put_breach none violated told holder other names =
-      let first = first_there kind s new (sym (put_violated kind set new s h) ∙ ap (is_violated kind) (sym puts) ∙ violated) in
-      let same : a_breach kind first.0 set ≡ a_breach told holder other = (put_named kind set new s h first.0 first.1).1 ∙ ap (breach_of kind) (sym puts) ∙ names in
-      let order : IsStrictlySortedBy (by_key name_cmp) (sets_of kind (change c s)) =
-      subst (IsStrictlySortedBy (by_key name_cmp)) (sym (ap (sets_of kind) puts ∙ sets_with kind (put name_cmp set new (sets_of kind s)) s)) (sorted_put names_total set new (sets_of kind s) (sets_in_order kind s h)) in
-      let sessions : IsStrictlySortedBy (by_key name_cmp) (change c s).sessions =
-      subst (IsStrictlySortedBy (by_key name_cmp)) (sym (ap (λ (t : State). t.sessions) puts ∙ sessions_with kind (put name_cmp set new (sets_of kind s)) s)) h.in_order.sessions in
-      breach_as c s kind told holder other first.0 set same
-      (λ role. ap (λ t. holds kind t first.0 role) puts ∙ holds_with kind (put name_cmp set new (sets_of kind s)) s first.0 role ∙ ap (λ b. b || holds kind s first.0 role) (sym (none role)))
-      (new_there ∙ sym makes)
-      (breach_found kind (change c s) order sessions violated told holder other names)
+module _ (c : Command) (s : State) (h : IsSound s) (kind : Separation) (set : Name) (is : IsPut c s kind set) where
+  sets_are : sets_of kind (change c s) ≡ put name_cmp set is.new (sets_of kind s)
+  sets_are = ap (sets_of kind) is.puts ∙ (sets_put kind (put name_cmp set is.new (sets_of kind s)) s).0
 
-  put_size : is_badly_sized kind (change c s) ≡ true → (find name_cmp set (sets_of kind (change c s)) ≡ changed_set c (find name_cmp set (sets_of kind s))) × (find name_cmp set (sets_of kind (change c s)) ≡ Some new) × (is_well_sized new ≡ false)
-  put_size misfits = (new_there ∙ sym makes, new_there, (not_true (is_well_sized new) (sym (put_sized kind set new s h) ∙ ap (is_badly_sized kind) (sym puts) ∙ misfits)))
-    where
-      not_true : (b : Bool) → not b ≡ true → b ≡ false
-      not_true true e = sym e
-      not_true false e = refl
+  new_there : find name_cmp set (sets_of kind (change c s)) ≡ Some is.new
+  new_there = ap (find name_cmp set) sets_are ∙ put_there set is.new (sets_of kind s)
+
+  put_breach : ((role : Name) → has name_cmp role (gained c s) ≡ false) → (told : Separation) (holder other : Name) → Names (change c s) kind told holder other → IsBreach c s told holder other
+  put_breach none told holder other names =
+      let same = sets_put kind (put name_cmp set is.new (sets_of kind s)) s in
+      let first = first_there kind s is.new (sym (put_violated kind set is.new s h) ∙ ap (is_violated kind) (sym is.puts) ∙ names.0) in
+      breach_as c s kind told holder other first.0 set ((put_named kind set is.new s h first.0 first.1).1 ∙ ap (breach_of kind) (sym is.puts)) names
+      (λ role. ap (λ t. holds kind t first.0 role) is.puts ∙ same.2 first.0 role ∙ ap (λ b. b || holds kind s first.0 role) (sym (none role)))
+      (new_there ∙ sym is.makes)
+      (subst (IsStrictlySortedBy (by_key name_cmp)) (sym sets_are) (sorted_put names_total set is.new (sets_of kind s) (sets_in_order kind s h)))
+      (subst (IsStrictlySortedBy (by_key name_cmp)) (sym (ap (λ (t : State). t.sessions) is.puts ∙ same.1)) h.in_order.sessions)
+
+-- ---- The one precondition whose denial is told
+
+-- those before it hold, and it fails
+one_denied : (q : Denial → Bool) (ps qs : List Precondition) (p : Precondition) (d : Denial) → list_any (λ p. q p.denial) (ps ++ qs) ≡ false → leftmost (ps ++ p ∷ qs) ≡ Some d → q d ≡ true
+    → (list_any (λ p. p.fails) ps ≡ false) × (p.fails ≡ true) × (p.denial ≡ d)
+one_denied q [] qs p d none e one = last p.fails e
+  where
+    last : (b : Bool) → cond b (Some p.denial) (leftmost qs) ≡ Some d → (false ≡ false) × (b ≡ true) × (p.denial ≡ d)
+    last true e = (refl, refl, (let same : p.denial ≡ d = cc in same))
+    last false e = absurd (refuted q qs d none e one)
+one_denied q (x ∷ ps) qs p d none e one =
+    let parts = or_parts _ _ none in
+    let holds = passed q x.fails x.denial _ d parts.0 one e in
+    let rest = one_denied q ps qs p d parts.1 holds.1 one in
+    (ap (λ b. b || list_any (λ (p : Precondition). p.fails) ps) holds.0 ∙ rest.0, rest.1, rest.2)
+
+-- the preconditions before this place, and those after it
+abbrev before : ℕ → Command → State → List Precondition
+before n c s = take n (preconditions c s)
+
+abbrev beyond : ℕ → Command → State → List Precondition
+beyond n c s = drop (suc n) (preconditions c s)
+
+denied_at : (q : Denial → Bool) (c : Command) (s : State) (n : ℕ) (p : Precondition) (d : Denial) → preconditions c s ≡ before n c s ++ p ∷ beyond n c s
+    → list_any (λ p. q p.denial) (before n c s ++ beyond n c s) ≡ false → first_denial c s ≡ Some d → q d ≡ true → (list_any (λ p. p.fails) (before n c s) ≡ false) × (p.fails ≡ true) × (p.denial ≡ d)
+denied_at q c s n p d is others e one = one_denied q (before n c s) (beyond n c s) p d others (ap leftmost (sym is) ∙ e) one
 
 -- ---- The commands that separation may deny
 
@@ -194,165 +191,8 @@ is_breach (a_breach kind holder set) = true
 is_breach names = false
 
 module _ (s : State) (h : IsSound s) (told : Separation) (holder set : Name) where
-  assignment : (user role : Name) (d : Denial) → first_denial (AssignUser user role) s ≡ Some d → named (AssignUser user role) s d ≡ a_breach told holder set → IsBreach (AssignUser user role) s told holder set
-  assignment user role d e names =
-      let q : Denial → Bool = λ d. is_breach (named (AssignUser user role) s d) in
-      let one : q d ≡ true = ap is_breach names in
-      let a = passed q _ denial.NoUser _ d refl one e in
-      let b = passed q _ denial.NoRole _ d refl one a.1 in
-      let g = passed q _ denial.Assigned _ d refl one b.1 in
-      let f = failed _ denial.SsdViolated d g.1 in
-      let after = change (AssignUser user role) s in
-      let is : has name_cmp user s.users ≡ true = not_false _ a.0 in
-      let breaks : breaks_with s role user ≡ true = sym (assigned_violated user role s h is) ∙ f.0 in
-      let breach : static_breach after ≡ a_breach told holder set = ap (named (AssignUser user role) s) (sym f.1) ∙ names in
-      breach_as (AssignUser user role) s Static told holder set user (first_with s role user) (assignment_named user role s h is breaks ∙ breach)
-      (λ r. user_gains user role s r ∙ ap (λ b. b || is_authorized s user r) (sym (has_junior s role r)))
-      (kept (changed (AssignUser user role)) (find name_cmp (first_with s role user) s.static_sets) (λ x. refl))
-      (breach_found Static after h.separation.static_sets.in_order h.in_order.sessions f.0 told holder set breach)
-
-  pair : (a d : Name) (x : Denial) → first_denial (AddInheritance a d) s ≡ Some x → named (AddInheritance a d) s x ≡ a_breach told holder set → IsBreach (AddInheritance a d) s told holder set
-  pair a d x e names =
-      let q : Denial → Bool = λ x. is_breach (named (AddInheritance a d) s x) in
-      let one : q x ≡ true = ap is_breach names in
-      let p1 = passed q _ denial.NoRole _ x refl one e in
-      let p2 = passed q _ denial.Inherits _ x refl one p1.1 in
-      let p3 = passed q _ denial.Cycle _ x refl one p2.1 in
-      let p4 = passed q _ denial.Limited _ x refl one p3.1 in
-      let f = failed _ denial.SsdViolated x p4.1 in
-      let after = change (AddInheritance a d) s in
-      let both = and_parts _ _ (not_false _ p1.0) in
-      let user = any_first (λ user. is_authorized s user a && breaks_with s d user) s.users (sym (declared_violated a d s both.0 both.1 h) ∙ f.0) in
-      let authorized : is_authorized s user.0 a ≡ true = (and_parts _ _ (some_first (λ user. is_authorized s user a && breaks_with s d user) s.users user.0 user.1).0).0 in
-      let breach : static_breach after ≡ a_breach told holder set = ap (named (AddInheritance a d) s) (sym f.1) ∙ names in
-      breach_as (AddInheritance a d) s Static told holder set user.0 (first_with s d user.0) (pair_named a d s both.0 both.1 h user.0 user.1 ∙ breach)
-      (λ r. pair_gives a d s both.0 both.1 user.0 r ∙ ap (λ b. is_authorized s user.0 r || (b && inherits_in s d r)) authorized ∙ swap (is_authorized s user.0 r) (inherits_in s d r) ∙ ap (λ b. b || is_authorized s user.0 r) (sym (has_junior s d r)))
-      (kept (changed (AddInheritance a d)) (find name_cmp (first_with s d user.0) s.static_sets) (λ x. refl))
-      (breach_found Static after h.separation.static_sets.in_order h.in_order.sessions f.0 told holder set breach)
-    where
-      swap : (x y : Bool) → (x || (true && y)) ≡ (y || x)
-      swap true true = refl
-      swap true false = refl
-      swap false true = refl
-      swap false false = refl
-
-  session : (user name : Name) (roles : List Name) (d : Denial) → first_denial (CreateSession user name roles) s ≡ Some d → named (CreateSession user name roles) s d ≡ a_breach told holder set
-      → IsBreach (CreateSession user name roles) s told holder set
-  session user name roles d e names =
-      let c = CreateSession user name roles in
-      let q : Denial → Bool = λ d. is_breach (named (CreateSession user name roles) s d) in
-      let one : q d ≡ true = ap is_breach names in
-      let a = passed q _ denial.NoUser _ d refl one e in
-      let b = passed q _ denial.SessionExists _ d refl one a.1 in
-      let g = passed q _ denial.NotAuthorized _ d refl one b.1 in
-      let after = change (CreateSession user name roles) s in
-      let new : Session = record { owner = user; active = roles } in
-      let f = broken _ _ g.1 one in
-      let breaks : breaks_dynamic s new ≡ true = sym (created_violated user name roles s h) ∙ f.0 in
-      let breach : dynamic_breach after ≡ a_breach told holder set = ap (named (CreateSession user name roles) s) (sym f.1) ∙ names in
-      breach_as (CreateSession user name roles) s Dynamic told holder set name (first_entry (is_broken roles) s.dynamic_sets) (session_named user name roles s h breaks ∙ breach)
-      (λ r. ap (λ o. has name_cmp r (active_in o)) (put_there name new s.sessions) ∙ unless r (find name_cmp name s.sessions) b.0)
-      (kept (changed (CreateSession user name roles)) (find name_cmp (first_entry (is_broken roles) s.dynamic_sets) s.dynamic_sets) (λ x. refl))
-      (breach_found Dynamic after h.separation.dynamic_sets.in_order (sorted_put names_total name new s.sessions h.in_order.sessions) f.0 told holder set breach)
-    where
-      broken : (b f : Bool) → cond b (Some denial.DsdViolated) (cond f (Some denial.Limit) None) ≡ Some d → is_breach (named (CreateSession user name roles) s d) ≡ true → (b ≡ true) × (d ≡ denial.DsdViolated)
-      broken true f e one = (refl, (let same : d ≡ denial.DsdViolated = cc in same))
-      broken false true e one = let same : denial.Limit ≡ d = cc in absurd (false≢true (ap (λ d. is_breach (named (CreateSession user name roles) s d)) same ∙ one))
-      broken false false e one = absurd (let f : ⊥ = cc in f)
-
-      unless : (r : Name) (o : Option Session) → is_some o ≡ false → has name_cmp r roles ≡ (has name_cmp r roles || has name_cmp r (active_in o))
-      unless r None e = or_none (has name_cmp r roles)
-        where
-          or_none : (b : Bool) → b ≡ (b || false)
-          or_none true = refl
-          or_none false = refl
-      unless r (Some x) e = absurd (false≢true (sym e))
-
-  activation : (user name role : Name) (d : Denial) → first_denial (AddActiveRole user name role) s ≡ Some d → named (AddActiveRole user name role) s d ≡ a_breach told holder set
-      → IsBreach (AddActiveRole user name role) s told holder set
-  activation user name role d e names =
-      let q : Denial → Bool = λ d. is_breach (named (AddActiveRole user name role) s d) in
-      let one : q d ≡ true = ap is_breach names in
-      let p1 = passed q _ denial.NoUser _ d refl one e in
-      let p2 = passed q _ denial.NoSession _ d refl one p1.1 in
-      let p3 = passed q _ denial.NoRole _ d refl one p2.1 in
-      let p4 = passed q _ denial.NotOwner _ d refl one p3.1 in
-      let p5 = passed q _ denial.NotAuthorized _ d refl one p4.1 in
-      let p6 = passed q _ denial.RoleActive _ d refl one p5.1 in
-      let f = failed _ denial.DsdViolated d p6.1 in
-      let after = change (AddActiveRole user name role) s in
-      let x = some_of (find name_cmp name s.sessions) (not_false _ p2.0) in
-      let breaks : breaks_dynamic s (with_active role x.0) ≡ true = sym (activated_violated user name role x.0 s h x.1) ∙ f.0 in
-      let breach : dynamic_breach after ≡ a_breach told holder set = ap (named (AddActiveRole user name role) s) (sym f.1) ∙ names in
-      let found : find name_cmp name after.sessions ≡ Some (with_active role x.0) = ap (find name_cmp name) (put_found name_cmp name (with_active role) s.sessions x.0 x.1) ∙ put_there name (with_active role x.0) s.sessions in
-      breach_as (AddActiveRole user name role) s Dynamic told holder set name (first_entry (is_broken (with_key name_cmp role x.0.active)) s.dynamic_sets) (activation_named user name role x.0 s h x.1 breaks ∙ breach)
-      (λ r. ap (λ o. has name_cmp r (active_in o)) found ∙ has-with_key names_total role x.0.active r ∙ more (eq_by_cmp name_cmp r role) (has name_cmp r x.0.active)
-      ∙ ap (λ o. (eq_by_cmp name_cmp r role || false) || has name_cmp r (active_in o)) (sym x.1))
-      (kept (changed (AddActiveRole user name role)) (find name_cmp (first_entry (is_broken (with_key name_cmp role x.0.active)) s.dynamic_sets) s.dynamic_sets) (λ x. refl))
-      (breach_found Dynamic after h.separation.dynamic_sets.in_order (sorted_updated names_total name (with_active role) s.sessions h.in_order.sessions) f.0 told holder set breach)
-    where
-      more : (x y : Bool) → (x || y) ≡ ((x || false) || y)
-      more true y = refl
-      more false y = refl
-
-  creation : (kind : Separation) (name : Name) (roles : List Name) (n : ℕ) (d : Denial) → first_denial (CreateSet kind name roles n) s ≡ Some d → named (CreateSet kind name roles n) s d ≡ a_breach told holder set
-      → IsBreach (CreateSet kind name roles n) s told holder set
-  creation kind name roles n d e names =
-      let q : Denial → Bool = λ d. is_breach (named (CreateSet kind name roles n) s d) in
-      let one : q d ≡ true = ap is_breach names in
-      let a = passed q _ denial.SetExists _ d refl one e in
-      let b = passed q _ denial.NoRole _ d refl one a.1 in
-      let g = passed q _ denial.BadCardinality _ d refl one b.1 in
-      let f = broken kind _ _ g.1 one in
-      put_breach (CreateSet kind name roles n) s h kind name (record { roles = roles; cardinality = n }) refl refl (λ role. refl) f.0 told holder set (sym f.1 ∙ names)
-    where
-      broken : (k : Separation) (b f : Bool) → cond b (Some (violation k)) (cond f (Some denial.Limit) None) ≡ Some d → is_breach (named (CreateSet k name roles n) s d) ≡ true
-          → (b ≡ true) × (named (CreateSet k name roles n) s d ≡ breach_of k (change (CreateSet k name roles n) s))
-      broken Static true f e one = (refl, (let same : d ≡ denial.SsdViolated = cc in ap (named (CreateSet Static name roles n) s) same))
-      broken Dynamic true f e one = (refl, (let same : d ≡ denial.DsdViolated = cc in ap (named (CreateSet Dynamic name roles n) s) same))
-      broken k false true e one = let same : denial.Limit ≡ d = cc in absurd (false≢true (ap (λ d. is_breach (named (CreateSet k name roles n) s d)) same ∙ one))
-      broken k false false e one = absurd (let f : ⊥ = cc in f)
-
-  addition : (kind : Separation) (name role : Name) (d : Denial) → first_denial (AddRoleMember kind name role) s ≡ Some d → named (AddRoleMember kind name role) s d ≡ a_breach told holder set
-      → IsBreach (AddRoleMember kind name role) s told holder set
-  addition kind name role d e names =
-      let q : Denial → Bool = λ d. is_breach (named (AddRoleMember kind name role) s d) in
-      let one : q d ≡ true = ap is_breach names in
-      let a = passed q _ denial.NoSet _ d refl one e in
-      let b = passed q _ denial.NoRole _ d refl one a.1 in
-      let g = passed q _ denial.InSet _ d refl one b.1 in
-      let f = failed _ (violation kind) d g.1 in
-      let x = some_of (find name_cmp name (sets_of kind s)) (not_false _ a.0) in
-      put_breach (AddRoleMember kind name role) s h kind name (with_member role x.0)
-      (ap (λ sets. with_sets kind sets s) (put_found name_cmp name (with_member role) (sets_of kind s) x.0 x.1))
-      (ap (option_map (with_member role)) x.1)
-      (λ role. refl) f.0 told holder set (sym (is_named kind) ∙ ap (named (AddRoleMember kind name role) s) (sym f.1) ∙ names)
-    where
-      is_named : (k : Separation) → named (AddRoleMember k name role) s (violation k) ≡ breach_of k (change (AddRoleMember k name role) s)
-      is_named Static = refl
-      is_named Dynamic = refl
-
-  cardinality : (kind : Separation) (name : Name) (n : ℕ) (d : Denial) → first_denial (SetCardinality kind name n) s ≡ Some d → named (SetCardinality kind name n) s d ≡ a_breach told holder set
-      → IsBreach (SetCardinality kind name n) s told holder set
-  cardinality kind name n d e names =
-      let q : Denial → Bool = λ d. is_breach (named (SetCardinality kind name n) s d) in
-      let one : q d ≡ true = ap is_breach names in
-      let a = passed q _ denial.NoSet _ d refl one e in
-      let b = passed q _ denial.BadCardinality _ d refl one a.1 in
-      let f = failed _ (violation kind) d b.1 in
-      let x = some_of (find name_cmp name (sets_of kind s)) (not_false _ a.0) in
-      put_breach (SetCardinality kind name n) s h kind name (with_cardinality n x.0)
-      (ap (λ sets. with_sets kind sets s) (put_found name_cmp name (with_cardinality n) (sets_of kind s) x.0 x.1))
-      (ap (option_map (with_cardinality n)) x.1)
-      (λ role. refl) f.0 told holder set (sym (is_named kind) ∙ ap (named (SetCardinality kind name n) s) (sym f.1) ∙ names)
-    where
-      is_named : (k : Separation) → named (SetCardinality k name n) s (violation k) ≡ breach_of k (change (SetCardinality k name n) s)
-      is_named Static = refl
-      is_named Dynamic = refl
-
   no_constraint : (b : Bool) (x y : Name) → is_breach (cond b (a_set Static x) (a_set Dynamic y)) ≡ false
-  no_constraint true x y = refl
-  no_constraint false x y = refl
+  no_constraint b x y = grind arith
 
   no_review : (review : Review) → list_any (λ p. is_breach (named (ReviewCommand review) s p.denial)) (review_preconditions review s) ≡ false
   no_review (AssignedUsers role) = refl
@@ -361,17 +201,79 @@ module _ (s : State) (h : IsSound s) (told : Separation) (holder set : Name) whe
   pub told_breach : (c : Command) (d : Denial) → first_hindrance c s ≡ Some (record { denial = d; named = a_breach told holder set }) → IsBreach c s told holder set
   told_breach c d e = let parts = told_parts c s (record { denial = d; named = a_breach told holder set }) e in of c parts.0 parts.1
     where
+      none : (c : Command) → list_any (λ p. is_breach (named c s p.denial)) (preconditions c s) ≡ false → first_denial c s ≡ Some d → named c s d ≡ a_breach told holder set → IsBreach c s told holder set
+      none c others e names = absurd (refuted (λ x. is_breach (named c s x)) (preconditions c s) d others e (ap is_breach names))
+
+      -- the precondition at this place is that separation is kept
+      at : (c : Command) (kind : Separation) (n : ℕ) → first_denial c s ≡ Some d → named c s d ≡ a_breach told holder set
+          → preconditions c s ≡ before n c s ++ (violation kind when is_violated kind (change c s)) ∷ beyond n c s
+          → list_any (λ p. is_breach (named c s p.denial)) (before n c s ++ beyond n c s) ≡ false → named c s (violation kind) ≡ breach_of kind (change c s)
+          → (list_any (λ p. p.fails) (before n c s) ≡ false) × Names (change c s) kind told holder set
+      at c kind n e names is others is_named =
+          let f = denied_at (λ d. is_breach (named c s d)) c s n (violation kind when is_violated kind (change c s)) d is others e (ap is_breach names) in
+          (f.0, (f.1, sym is_named ∙ ap (named c s) f.2 ∙ names))
+
+      by_kind : (c : Separation → Command) → named (c Static) s denial.SsdViolated ≡ static_breach (change (c Static) s) → named (c Dynamic) s denial.DsdViolated ≡ dynamic_breach (change (c Dynamic) s)
+          → (kind : Separation) → named (c kind) s (violation kind) ≡ breach_of kind (change (c kind) s)
+      by_kind c static dynamic Static = static
+      by_kind c static dynamic Dynamic = dynamic
+
       of : (c : Command) → first_denial c s ≡ Some d → named c s d ≡ a_breach told holder set → IsBreach c s told holder set
-      of (AssignUser user role) e names = assignment user role d e names
-      of (AddInheritance ascendant descendant) e names = pair ascendant descendant d e names
-      of (CreateSet kind name roles n) e names = creation kind name roles n d e names
-      of (AddRoleMember kind name role) e names = addition kind name role d e names
-      of (SetCardinality kind name n) e names = cardinality kind name n d e names
-      of (CreateSession user name roles) e names = session user name roles d e names
-      of (AddActiveRole user name role) e names = activation user name role d e names
-      of (DeleteRole role) e names = absurd (refuted (λ x. is_breach (named (DeleteRole role) s x)) (preconditions (DeleteRole role) s) d (ap (λ b. b || false) (no_constraint (is_constrained role s.static_sets) _ _)) e (ap is_breach names))
-      of (ReviewCommand review) e names = absurd (refuted (λ x. is_breach (named (ReviewCommand review) s x)) (review_preconditions review s) d (no_review review) e (ap is_breach names))
-      of c e names = absurd (refuted (λ x. is_breach (named c s x)) (preconditions c s) d refl e (ap is_breach names))
+      of (AssignUser user role) e names =
+          let f = at (AssignUser user role) Static 3 e names refl refl refl in
+          let is : has name_cmp user s.users ≡ true = not_false _ (or_parts _ _ f.0).0 in
+          breach_as (AssignUser user role) s Static told holder set user (first_with s role user) (assignment_named user role s h is (sym (assigned_violated user role s h is) ∙ f.1.0)) f.1
+          (λ r. user_gains user role s r ∙ ap (λ b. b || is_authorized s user r) (sym (has_junior s role r)))
+          (kept (changed (AssignUser user role)) (find name_cmp (first_with s role user) s.static_sets) (λ x. refl))
+          h.separation.static_sets.in_order h.in_order.sessions
+      of (AddInheritance a d) e names =
+          let f = at (AddInheritance a d) Static 4 e names refl refl refl in
+          let both = and_parts _ _ (not_false _ (or_parts _ _ f.0).0) in
+          let breaks : Name → Bool = λ user. is_authorized s user a && breaks_with s d user in
+          let user = any_first breaks s.users (sym (declared_violated a d s both.0 both.1 h) ∙ f.1.0) in
+          let authorized = (and_parts _ _ (some_first breaks s.users user.0 user.1).0).0 in
+          breach_as (AddInheritance a d) s Static told holder set user.0 (first_with s d user.0) (pair_named a d s both.0 both.1 h user.0 user.1) f.1
+          (λ r. pair_gains (is_authorized s user.0 a) _ _ _ _ (pair_gives a d s both.0 both.1 user.0 r) authorized (has_junior s d r))
+          (kept (changed (AddInheritance a d)) (find name_cmp (first_with s d user.0) s.static_sets) (λ x. refl))
+          h.separation.static_sets.in_order h.in_order.sessions
+        where
+          pair_gains : (a b i j now : Bool) → now ≡ (b || (a && i)) → a ≡ true → j ≡ i → now ≡ (j || b)
+          pair_gains a b i j now gives is same = grind arith
+      of (CreateSession user name roles) e names =
+          let f = at (CreateSession user name roles) Dynamic 3 e names refl refl refl in
+          let new : Session = record { owner = user; active = roles } in
+          breach_as (CreateSession user name roles) s Dynamic told holder set name (first_entry (is_broken roles) s.dynamic_sets) (session_named user name roles s h (sym (created_violated user name roles s h) ∙ f.1.0)) f.1
+          (λ r. ap (λ o. has name_cmp r (active_in o)) (put_there name new s.sessions) ∙ unless r (find name_cmp name s.sessions) (or_parts _ _ (or_parts _ _ f.0).1).0)
+          (kept (changed (CreateSession user name roles)) (find name_cmp (first_entry (is_broken roles) s.dynamic_sets) s.dynamic_sets) (λ x. refl))
+          h.separation.dynamic_sets.in_order (sorted_put names_total name new s.sessions h.in_order.sessions)
+        where
+          unless : (r : Name) (o : Option Session) → is_some o ≡ false → has name_cmp r roles ≡ (has name_cmp r roles || has name_cmp r (active_in o))
+          unless r o e = grind arith
+      of (AddActiveRole user name role) e names =
+          let f = at (AddActiveRole user name role) Dynamic 6 e names refl refl refl in
+          let x = some_of (find name_cmp name s.sessions) (or_parts _ _ (or_parts _ _ f.0).1).0 in
+          let found = ap (find name_cmp name) (put_found name_cmp name (with_active role) s.sessions x.0 x.1) ∙ put_there name (with_active role x.0) s.sessions in
+          let first = first_entry (is_broken (with_key name_cmp role x.0.active)) s.dynamic_sets in
+          breach_as (AddActiveRole user name role) s Dynamic told holder set name first (activation_named user name role x.0 s h x.1 (sym (activated_violated user name role x.0 s h x.1) ∙ f.1.0)) f.1
+          (λ r. ap (λ o. has name_cmp r (active_in o)) found ∙ has-with_key names_total role x.0.active r ∙ more (eq_by_cmp name_cmp r role) (has name_cmp r x.0.active)
+          ∙ ap (λ o. (eq_by_cmp name_cmp r role || false) || has name_cmp r (active_in o)) (sym x.1))
+          (kept (changed (AddActiveRole user name role)) (find name_cmp first s.dynamic_sets) (λ x. refl))
+          h.separation.dynamic_sets.in_order (sorted_updated names_total name (with_active role) s.sessions h.in_order.sessions)
+        where
+          more : (x y : Bool) → (x || y) ≡ ((x || false) || y)
+          more x y = grind arith
+      of (CreateSet kind name roles n) e names =
+          let f = at (CreateSet kind name roles n) kind 3 e names refl refl (by_kind (λ k. CreateSet k name roles n) refl refl kind) in
+          put_breach (CreateSet kind name roles n) s h kind name (record { new = record { roles = roles; cardinality = n }; puts = refl; makes = refl }) (λ role. refl) told holder set f.1
+      of (AddRoleMember kind name role) e names =
+          let f = at (AddRoleMember kind name role) kind 3 e names refl refl (by_kind (λ k. AddRoleMember k name role) refl refl kind) in
+          put_breach (AddRoleMember kind name role) s h kind name (put_changed (AddRoleMember kind name role) s kind name (or_parts _ _ f.0).0 refl refl) (λ role. refl) told holder set f.1
+      of (SetCardinality kind name n) e names =
+          let f = at (SetCardinality kind name n) kind 2 e names refl refl (by_kind (λ k. SetCardinality k name n) refl refl kind) in
+          put_breach (SetCardinality kind name n) s h kind name (put_changed (SetCardinality kind name n) s kind name (or_parts _ _ f.0).0 refl refl) (λ role. refl) told holder set f.1
+      of (DeleteRole role) e names = none (DeleteRole role) (ap (λ b. b || false) (no_constraint (is_constrained role s.static_sets) _ _)) e names
+      of (ReviewCommand review) e names = none (ReviewCommand review) (no_review review) e names
+      of c e names = none c refl e names
 
 -- ---- The commands that may size a set badly
 
@@ -380,8 +282,7 @@ is_size denial.BadCardinality = true
 is_size d = false
 
 no_size : (kind : Separation) → is_size (violation kind) ≡ false
-no_size Static = refl
-no_size Dynamic = refl
+no_size kind = grind arith
 
 no_review_sizes : (review : Review) (s : State) → list_any (λ p. is_size p.denial) (review_preconditions review s) ≡ false
 no_review_sizes (AssignedUsers role) s = refl
@@ -394,49 +295,43 @@ pub record IsSized (c : Command) (s : State) (kind : Separation) (set : Name) : 
   pub bad : is_well_sized role_set ≡ false
 
 module _ (s : State) (h : IsSound s) (told : Separation) (set : Name) where
-  -- a set that a command puts is the one that is named
-  sized_as : (c : Command) (kind : Separation) (name : Name) (new : RoleSet) → a_set kind name ≡ a_set told set → change c s ≡ with_sets kind (put name_cmp name new (sets_of kind s)) s → changed_set c (find name_cmp name (sets_of kind s)) ≡ Some new
-      → is_badly_sized kind (change c s) ≡ true → IsSized c s told set
-  sized_as c kind name new same puts makes misfits =
-      let size = put_size c s h kind name new puts makes misfits in
-      subst (λ (k : Separation). IsSized c s k set) (let kind_is : kind ≡ told = cc in kind_is)
-      (subst (IsSized c s kind) (let set_is : name ≡ set = cc in set_is) (record { makes = size.0; role_set = new; found = size.1; bad = size.2 }))
-
   pub told_size : (c : Command) → first_hindrance c s ≡ Some (record { denial = denial.BadCardinality; named = a_set told set }) → IsSized c s told set
   told_size c e = let parts = told_parts c s (record { denial = denial.BadCardinality; named = a_set told set }) e in of c parts.0 parts.1
     where
-      last : (b v l : Bool) (k : Separation) → cond b (Some denial.BadCardinality) (cond v (Some (violation k)) (cond l (Some denial.Limit) None)) ≡ Some denial.BadCardinality → b ≡ true
-      last true v l k e = refl
-      last false v l k e = let x = passed is_size v (violation k) _ denial.BadCardinality (no_size k) refl e in let y = passed is_size l denial.Limit None denial.BadCardinality refl refl x.1 in absurd (let f : ⊥ = cc in f)
+      none : (c : Command) → list_any (λ p. is_size p.denial) (preconditions c s) ≡ false → first_denial c s ≡ Some denial.BadCardinality → IsSized c s told set
+      none c others e = absurd (refuted is_size (preconditions c s) denial.BadCardinality others e refl)
+
+      misfit : Separation → Command → Precondition
+      misfit kind c = denial.BadCardinality when is_badly_sized kind (change c s)
+
+      -- a set that a command puts is the one that is named
+      sized : (c : Command) (kind : Separation) (name : Name) → IsPut c s kind name → a_set kind name ≡ a_set told set → is_badly_sized kind (change c s) ≡ true → IsSized c s told set
+      sized c kind name is names misfits =
+          let bad = not_true (is_well_sized is.new) (sym (put_sized kind name is.new s h) ∙ ap (is_badly_sized kind) (sym is.puts) ∙ misfits) in
+          let there = new_there c s h kind name is in
+          subst (OfSet (IsSized c s)) names (record { makes = there ∙ sym is.makes; role_set = is.new; found = there; bad = bad })
+        where
+          not_true : (b : Bool) → not b ≡ true → b ≡ false
+          not_true b e = grind arith
 
       of : (c : Command) → first_denial c s ≡ Some denial.BadCardinality → named c s denial.BadCardinality ≡ a_set told set → IsSized c s told set
       of (CreateSet kind name roles n) e names =
-          let a = passed is_size _ denial.SetExists _ denial.BadCardinality refl refl e in
-          let b = passed is_size _ denial.NoRole _ denial.BadCardinality refl refl a.1 in
-          sized_as (CreateSet kind name roles n) kind name (record { roles = roles; cardinality = n }) names refl refl (last _ _ _ kind b.1)
+          let f = denied_at is_size (CreateSet kind name roles n) s 2 (misfit kind (CreateSet kind name roles n)) denial.BadCardinality refl (ap (λ b. b || false) (no_size kind)) e refl in
+          sized (CreateSet kind name roles n) kind name (record { new = record { roles = roles; cardinality = n }; puts = refl; makes = refl }) names f.1
       of (DeleteRoleMember kind name role) e names =
-          let a = passed is_size _ denial.NoSet _ denial.BadCardinality refl refl e in
-          let b = passed is_size _ denial.NotInSet _ denial.BadCardinality refl refl a.1 in
-          let f = failed _ denial.BadCardinality denial.BadCardinality b.1 in
-          let x = some_of (find name_cmp name (sets_of kind s)) (not_false _ a.0) in
-          sized_as (DeleteRoleMember kind name role) kind name (without_member role x.0) names (ap (λ sets. with_sets kind sets s) (put_found name_cmp name (without_member role) (sets_of kind s) x.0 x.1)) (ap (option_map (without_member role)) x.1) f.0
+          let f = denied_at is_size (DeleteRoleMember kind name role) s 2 (misfit kind (DeleteRoleMember kind name role)) denial.BadCardinality refl refl e refl in
+          sized (DeleteRoleMember kind name role) kind name (put_changed (DeleteRoleMember kind name role) s kind name (or_parts _ _ f.0).0 refl refl) names f.1
       of (SetCardinality kind name n) e names =
-          let a = passed is_size _ denial.NoSet _ denial.BadCardinality refl refl e in
-          let x = some_of (find name_cmp name (sets_of kind s)) (not_false _ a.0) in
-          sized_as (SetCardinality kind name n) kind name (with_cardinality n x.0) names (ap (λ sets. with_sets kind sets s) (put_found name_cmp name (with_cardinality n) (sets_of kind s) x.0 x.1)) (ap (option_map (with_cardinality n)) x.1) (last_of _ _ kind a.1)
-        where
-          last_of : (b v : Bool) (k : Separation) → cond b (Some denial.BadCardinality) (cond v (Some (violation k)) None) ≡ Some denial.BadCardinality → b ≡ true
-          last_of true v k e = refl
-          last_of false v k e = let x = passed is_size v (violation k) None denial.BadCardinality (no_size k) refl e in absurd (let f : ⊥ = cc in f)
-      of (AddRoleMember kind name role) e names =
-          absurd (refuted is_size (preconditions (AddRoleMember kind name role) s) denial.BadCardinality (ap (λ b. b || false) (no_size kind)) e refl)
-      of (ReviewCommand review) e names = absurd (refuted is_size (review_preconditions review s) denial.BadCardinality (no_review_sizes review s) e refl)
-      of c e names = absurd (refuted is_size (preconditions c s) denial.BadCardinality refl e refl)
+          let f = denied_at is_size (SetCardinality kind name n) s 1 (misfit kind (SetCardinality kind name n)) denial.BadCardinality refl (ap (λ b. b || false) (no_size kind)) e refl in
+          sized (SetCardinality kind name n) kind name (put_changed (SetCardinality kind name n) s kind name (or_parts _ _ f.0).0 refl refl) names f.1
+      of (AddRoleMember kind name role) e names = none (AddRoleMember kind name role) (ap (λ b. b || false) (no_size kind)) e
+      of (ReviewCommand review) e names = none (ReviewCommand review) (no_review_sizes review s) e
+      of c e names = none c refl e
 
 -- ---- The chain of a cycle
 
 only : (x y : Name) → has name_cmp x (y ∷ []) ≡ true → x ≡ y
-only x y m = ⊎_elim (λ e. one_key names_exact x y e) (λ none. absurd (false≢true none)) (or_cases _ _ m)
+only x y m = grind (arith, names_exact x y)
 
 itself : (x : Name) → has name_cmp x (x ∷ []) ≡ true
 itself x = or_left _ _ (ties_itself names_total x)
