@@ -36,6 +36,9 @@ abbrev OfSet : (Separation → Name → Type 0) → Named → Type 0
 OfSet P (a_set kind set) = P kind set
 OfSet P names = ⊤
 
+abbrev InOrder : {X : Type 0} → List (Name × X) → Type 0
+InOrder es = IsStrictlySortedBy (by_key name_cmp) es
+
 first_in : (p : Name → Bool) (xs : List Name) (y : Name) → first_where p xs ≡ Some y → has name_cmp y xs ≡ true
 first_in p [] y e = grind arith
 first_in p (x ∷ xs) y e = grind (arith, ties_itself names_total x, first_in p xs y)
@@ -47,8 +50,7 @@ pub record IsBroken (kind : Separation) (s : State) (holder set : Name) : Type 0
   pub there : is_holder kind s holder ≡ true
   pub broken : is_broken_by (holds kind s holder) role_set ≡ true
 
-breach_found : (kind : Separation) (s : State) → IsStrictlySortedBy (by_key name_cmp) (sets_of kind s) → IsStrictlySortedBy (by_key name_cmp) s.sessions → is_violated kind s ≡ true
-    → OfBreach (λ k. IsBroken k s) (breach_of kind s)
+breach_found : (kind : Separation) (s : State) → InOrder (sets_of kind s) → InOrder s.sessions → is_violated kind s ≡ true → OfBreach (λ k. IsBroken k s) (breach_of kind s)
 breach_found Static s sorted sessions violated =
     let user = any_first (breaks_static s) s.users violated in
     let breaks : Name × RoleSet → Bool = λ e. is_broken_by (is_authorized s user.0) e.1 in
@@ -79,22 +81,6 @@ pub record IsBreach (c : Command) (s : State) (kind : Separation) (holder set : 
   pub makes : find name_cmp set (sets_of kind (change c s)) ≡ changed_set c (find name_cmp set (sets_of kind s))
   pub broken : IsBroken kind (change c s) holder set
 
--- a state that is broken tells by whom and what
-abbrev Names : State → Separation → Separation → Name → Name → Type 0
-Names after kind told holder set = (is_violated kind after ≡ true) × (breach_of kind after ≡ a_breach told holder set)
-
--- what a change gives the first that breaks a set, and the set
-breach_as : (c : Command) (s : State) (kind told : Separation) (holder set first first_set : Name) → a_breach kind first first_set ≡ breach_of kind (change c s) → Names (change c s) kind told holder set
-    → ((role : Name) → holds kind (change c s) first role ≡ (has name_cmp role (gained c s) || holds kind s first role))
-    → find name_cmp first_set (sets_of kind (change c s)) ≡ changed_set c (find name_cmp first_set (sets_of kind s))
-    → IsStrictlySortedBy (by_key name_cmp) (sets_of kind (change c s)) → IsStrictlySortedBy (by_key name_cmp) (change c s).sessions → IsBreach c s told holder set
-breach_as c s kind told holder set first first_set is names gains makes sorted sessions =
-    let broken = subst (OfBreach (λ k. IsBroken k (change c s))) (sym is) (breach_found kind (change c s) sorted sessions names.0) in
-    subst (OfBreach (IsBreach c s)) (is ∙ names.1) (record { gains = gains; makes = makes; broken = broken })
-
-kept : {X : Type 0} (f : X → X) (o : Option X) → ((x : X) → f x ≡ x) → o ≡ option_map f o
-kept f o same = grind (arith, same)
-
 has_junior : (s : State) (role r : Name) → has name_cmp r (juniors s.roles s.declared role) ≡ inherits_in s role r
 has_junior s role r =
     has-filter names_exact (inherits s.roles s.declared role) s.roles r
@@ -108,7 +94,7 @@ sets_put : (kind : Separation) (sets : List (Name × RoleSet)) (s : State)
 sets_put Static sets s = (refl, refl, λ holder role. refl)
 sets_put Dynamic sets s = (refl, refl, λ holder role. refl)
 
-sets_in_order : (kind : Separation) (s : State) → IsSound s → IsStrictlySortedBy (by_key name_cmp) (sets_of kind s)
+sets_in_order : (kind : Separation) (s : State) → IsSound s → InOrder (sets_of kind s)
 sets_in_order Static s h = h.separation.static_sets.in_order
 sets_in_order Dynamic s h = h.separation.dynamic_sets.in_order
 
@@ -140,22 +126,16 @@ put_changed c s kind set there is makes =
       makes = makes ∙ ap (option_map (changed c)) x.1;
     }
 
-module _ (c : Command) (s : State) (h : IsSound s) (kind : Separation) (set : Name) (is : IsPut c s kind set) where
+-- a set that is created
+created : (kind : Separation) (set : Name) (roles : List Name) (n : ℕ) (s : State) → IsPut (CreateSet kind set roles n) s kind set
+created kind set roles n s = record { new = record { roles = roles; cardinality = n }; puts = refl; makes = refl }
+
+module _ (c : Command) (s : State) (kind : Separation) (set : Name) (is : IsPut c s kind set) where
   sets_are : sets_of kind (change c s) ≡ put name_cmp set is.new (sets_of kind s)
   sets_are = ap (sets_of kind) is.puts ∙ (sets_put kind (put name_cmp set is.new (sets_of kind s)) s).0
 
   new_there : find name_cmp set (sets_of kind (change c s)) ≡ Some is.new
   new_there = ap (find name_cmp set) sets_are ∙ put_there set is.new (sets_of kind s)
-
-  put_breach : ((role : Name) → has name_cmp role (gained c s) ≡ false) → (told : Separation) (holder other : Name) → Names (change c s) kind told holder other → IsBreach c s told holder other
-  put_breach none told holder other names =
-      let same = sets_put kind (put name_cmp set is.new (sets_of kind s)) s in
-      let first = first_there kind s is.new (sym (put_violated kind set is.new s h) ∙ ap (is_violated kind) (sym is.puts) ∙ names.0) in
-      breach_as c s kind told holder other first.0 set ((put_named kind set is.new s h first.0 first.1).1 ∙ ap (breach_of kind) (sym is.puts)) names
-      (λ role. ap (λ t. holds kind t first.0 role) is.puts ∙ same.2 first.0 role ∙ ap (λ b. b || holds kind s first.0 role) (sym (none role)))
-      (new_there ∙ sym is.makes)
-      (subst (IsStrictlySortedBy (by_key name_cmp)) (sym sets_are) (sorted_put names_total set is.new (sets_of kind s) (sets_in_order kind s h)))
-      (subst (IsStrictlySortedBy (by_key name_cmp)) (sym (ap (λ (t : State). t.sessions) is.puts ∙ same.1)) h.in_order.sessions)
 
 -- ---- The one precondition whose denial is told
 
@@ -191,6 +171,33 @@ is_breach (a_breach kind holder set) = true
 is_breach names = false
 
 module _ (s : State) (h : IsSound s) (told : Separation) (holder set : Name) where
+  -- the state after the command is broken, and tells by whom and what
+  abbrev Names : Command → Separation → Type 0
+  Names c kind = (is_violated kind (change c s) ≡ true) × (breach_of kind (change c s) ≡ a_breach told holder set)
+
+  -- what a change gives the first that breaks a set, and the set
+  breach_as : (c : Command) (kind : Separation) (first first_set : Name) → a_breach kind first first_set ≡ breach_of kind (change c s) → Names c kind
+      → ((role : Name) → holds kind (change c s) first role ≡ (has name_cmp role (gained c s) || holds kind s first role))
+      → find name_cmp first_set (sets_of kind (change c s)) ≡ changed_set c (find name_cmp first_set (sets_of kind s))
+      → InOrder (sets_of kind (change c s)) → InOrder (change c s).sessions → IsBreach c s told holder set
+  breach_as c kind first first_set is names gains makes sorted sessions =
+      let broken = subst (OfBreach (λ k. IsBroken k (change c s))) (sym is) (breach_found kind (change c s) sorted sessions names.0) in
+      subst (OfBreach (IsBreach c s)) (is ∙ names.1) (record { gains = gains; makes = makes; broken = broken })
+
+  put_breach : (c : Command) (kind : Separation) (name : Name) → IsPut c s kind name → ((role : Name) → has name_cmp role (gained c s) ≡ false) → Names c kind
+      → IsBreach c s told holder set
+  put_breach c kind name is none names =
+      let same = sets_put kind (put name_cmp name is.new (sets_of kind s)) s in
+      let first = first_there kind s is.new (sym (put_violated kind name is.new s h) ∙ ap (is_violated kind) (sym is.puts) ∙ names.0) in
+      breach_as c kind first.0 name ((put_named kind name is.new s h first.0 first.1).1 ∙ ap (breach_of kind) (sym is.puts)) names
+      (λ role. ap (λ t. holds kind t first.0 role) is.puts ∙ same.2 first.0 role ∙ ap (λ b. b || holds kind s first.0 role) (sym (none role)))
+      (new_there c s kind name is ∙ sym is.makes)
+      (subst InOrder (sym (sets_are c s kind name is)) (sorted_put names_total name is.new (sets_of kind s) (sets_in_order kind s h)))
+      (subst InOrder (sym (ap (λ (t : State). t.sessions) is.puts ∙ same.1)) h.in_order.sessions)
+
+  kept : (o : Option RoleSet) → o ≡ option_map (λ x. x) o
+  kept o = grind arith
+
   no_constraint : (b : Bool) (x y : Name) → is_breach (cond b (a_set Static x) (a_set Dynamic y)) ≡ false
   no_constraint b x y = grind arith
 
@@ -208,7 +215,7 @@ module _ (s : State) (h : IsSound s) (told : Separation) (holder set : Name) whe
       at : (c : Command) (kind : Separation) (n : ℕ) → first_denial c s ≡ Some d → named c s d ≡ a_breach told holder set
           → preconditions c s ≡ before n c s ++ (violation kind when is_violated kind (change c s)) ∷ beyond n c s
           → list_any (λ p. is_breach (named c s p.denial)) (before n c s ++ beyond n c s) ≡ false → named c s (violation kind) ≡ breach_of kind (change c s)
-          → (list_any (λ p. p.fails) (before n c s) ≡ false) × Names (change c s) kind told holder set
+          → (list_any (λ p. p.fails) (before n c s) ≡ false) × Names c kind
       at c kind n e names is others is_named =
           let f = denied_at (λ d. is_breach (named c s d)) c s n (violation kind when is_violated kind (change c s)) d is others e (ap is_breach names) in
           (f.0, (f.1, sym is_named ∙ ap (named c s) f.2 ∙ names))
@@ -222,30 +229,29 @@ module _ (s : State) (h : IsSound s) (told : Separation) (holder set : Name) whe
       of (AssignUser user role) e names =
           let f = at (AssignUser user role) Static 3 e names refl refl refl in
           let is : has name_cmp user s.users ≡ true = not_false _ (or_parts _ _ f.0).0 in
-          breach_as (AssignUser user role) s Static told holder set user (first_with s role user) (assignment_named user role s h is (sym (assigned_violated user role s h is) ∙ f.1.0)) f.1
+          breach_as (AssignUser user role) Static user (first_with s role user)
+          (assignment_named user role s h is (sym (assigned_violated user role s h is) ∙ f.1.0)) f.1
           (λ r. user_gains user role s r ∙ ap (λ b. b || is_authorized s user r) (sym (has_junior s role r)))
-          (kept (changed (AssignUser user role)) (find name_cmp (first_with s role user) s.static_sets) (λ x. refl))
-          h.separation.static_sets.in_order h.in_order.sessions
+          (kept _) h.separation.static_sets.in_order h.in_order.sessions
       of (AddInheritance a d) e names =
           let f = at (AddInheritance a d) Static 4 e names refl refl refl in
           let both = and_parts _ _ (not_false _ (or_parts _ _ f.0).0) in
           let breaks : Name → Bool = λ user. is_authorized s user a && breaks_with s d user in
           let user = any_first breaks s.users (sym (declared_violated a d s both.0 both.1 h) ∙ f.1.0) in
           let authorized = (and_parts _ _ (some_first breaks s.users user.0 user.1).0).0 in
-          breach_as (AddInheritance a d) s Static told holder set user.0 (first_with s d user.0) (pair_named a d s both.0 both.1 h user.0 user.1) f.1
+          breach_as (AddInheritance a d) Static user.0 (first_with s d user.0) (pair_named a d s both.0 both.1 h user.0 user.1) f.1
           (λ r. pair_gains (is_authorized s user.0 a) _ _ _ _ (pair_gives a d s both.0 both.1 user.0 r) authorized (has_junior s d r))
-          (kept (changed (AddInheritance a d)) (find name_cmp (first_with s d user.0) s.static_sets) (λ x. refl))
-          h.separation.static_sets.in_order h.in_order.sessions
+          (kept _) h.separation.static_sets.in_order h.in_order.sessions
         where
           pair_gains : (a b i j now : Bool) → now ≡ (b || (a && i)) → a ≡ true → j ≡ i → now ≡ (j || b)
           pair_gains a b i j now gives is same = grind arith
       of (CreateSession user name roles) e names =
           let f = at (CreateSession user name roles) Dynamic 3 e names refl refl refl in
           let new : Session = record { owner = user; active = roles } in
-          breach_as (CreateSession user name roles) s Dynamic told holder set name (first_entry (is_broken roles) s.dynamic_sets) (session_named user name roles s h (sym (created_violated user name roles s h) ∙ f.1.0)) f.1
+          breach_as (CreateSession user name roles) Dynamic name (first_entry (is_broken roles) s.dynamic_sets)
+          (session_named user name roles s h (sym (created_violated user name roles s h) ∙ f.1.0)) f.1
           (λ r. ap (λ o. has name_cmp r (active_in o)) (put_there name new s.sessions) ∙ unless r (find name_cmp name s.sessions) (or_parts _ _ (or_parts _ _ f.0).1).0)
-          (kept (changed (CreateSession user name roles)) (find name_cmp (first_entry (is_broken roles) s.dynamic_sets) s.dynamic_sets) (λ x. refl))
-          h.separation.dynamic_sets.in_order (sorted_put names_total name new s.sessions h.in_order.sessions)
+          (kept _) h.separation.dynamic_sets.in_order (sorted_put names_total name new s.sessions h.in_order.sessions)
         where
           unless : (r : Name) (o : Option Session) → is_some o ≡ false → has name_cmp r roles ≡ (has name_cmp r roles || has name_cmp r (active_in o))
           unless r o e = grind arith
@@ -254,23 +260,23 @@ module _ (s : State) (h : IsSound s) (told : Separation) (holder set : Name) whe
           let x = some_of (find name_cmp name s.sessions) (or_parts _ _ (or_parts _ _ f.0).1).0 in
           let found = ap (find name_cmp name) (put_found name_cmp name (with_active role) s.sessions x.0 x.1) ∙ put_there name (with_active role x.0) s.sessions in
           let first = first_entry (is_broken (with_key name_cmp role x.0.active)) s.dynamic_sets in
-          breach_as (AddActiveRole user name role) s Dynamic told holder set name first (activation_named user name role x.0 s h x.1 (sym (activated_violated user name role x.0 s h x.1) ∙ f.1.0)) f.1
-          (λ r. ap (λ o. has name_cmp r (active_in o)) found ∙ has-with_key names_total role x.0.active r ∙ more (eq_by_cmp name_cmp r role) (has name_cmp r x.0.active)
-          ∙ ap (λ o. (eq_by_cmp name_cmp r role || false) || has name_cmp r (active_in o)) (sym x.1))
-          (kept (changed (AddActiveRole user name role)) (find name_cmp first s.dynamic_sets) (λ x. refl))
-          h.separation.dynamic_sets.in_order (sorted_updated names_total name (with_active role) s.sessions h.in_order.sessions)
+          breach_as (AddActiveRole user name role) Dynamic name first
+          (activation_named user name role x.0 s h x.1 (sym (activated_violated user name role x.0 s h x.1) ∙ f.1.0)) f.1
+          (λ r. ap (λ o. has name_cmp r (active_in o)) found ∙ has-with_key names_total role x.0.active r ∙ more r x.0 (find name_cmp name s.sessions) x.1)
+          (kept _) h.separation.dynamic_sets.in_order (sorted_updated names_total name (with_active role) s.sessions h.in_order.sessions)
         where
-          more : (x y : Bool) → (x || y) ≡ ((x || false) || y)
-          more x y = grind arith
+          more : (r : Name) (x : Session) (o : Option Session) → o ≡ Some x
+              → (eq_by_cmp name_cmp r role || has name_cmp r x.active) ≡ ((eq_by_cmp name_cmp r role || false) || has name_cmp r (active_in o))
+          more r x o is = grind arith
       of (CreateSet kind name roles n) e names =
           let f = at (CreateSet kind name roles n) kind 3 e names refl refl (by_kind (λ k. CreateSet k name roles n) refl refl kind) in
-          put_breach (CreateSet kind name roles n) s h kind name (record { new = record { roles = roles; cardinality = n }; puts = refl; makes = refl }) (λ role. refl) told holder set f.1
+          put_breach (CreateSet kind name roles n) kind name (created kind name roles n s) (λ role. refl) f.1
       of (AddRoleMember kind name role) e names =
           let f = at (AddRoleMember kind name role) kind 3 e names refl refl (by_kind (λ k. AddRoleMember k name role) refl refl kind) in
-          put_breach (AddRoleMember kind name role) s h kind name (put_changed (AddRoleMember kind name role) s kind name (or_parts _ _ f.0).0 refl refl) (λ role. refl) told holder set f.1
+          put_breach (AddRoleMember kind name role) kind name (put_changed (AddRoleMember kind name role) s kind name (or_parts _ _ f.0).0 refl refl) (λ role. refl) f.1
       of (SetCardinality kind name n) e names =
           let f = at (SetCardinality kind name n) kind 2 e names refl refl (by_kind (λ k. SetCardinality k name n) refl refl kind) in
-          put_breach (SetCardinality kind name n) s h kind name (put_changed (SetCardinality kind name n) s kind name (or_parts _ _ f.0).0 refl refl) (λ role. refl) told holder set f.1
+          put_breach (SetCardinality kind name n) kind name (put_changed (SetCardinality kind name n) s kind name (or_parts _ _ f.0).0 refl refl) (λ role. refl) f.1
       of (DeleteRole role) e names = none (DeleteRole role) (ap (λ b. b || false) (no_constraint (is_constrained role s.static_sets) _ _)) e names
       of (ReviewCommand review) e names = none (ReviewCommand review) (no_review review) e names
       of c e names = none c refl e names
@@ -280,9 +286,6 @@ module _ (s : State) (h : IsSound s) (told : Separation) (holder set : Name) whe
 abbrev is_size : Denial → Bool
 is_size denial.BadCardinality = true
 is_size d = false
-
-no_size : (kind : Separation) → is_size (violation kind) ≡ false
-no_size kind = grind arith
 
 no_review_sizes : (review : Review) (s : State) → list_any (λ p. is_size p.denial) (review_preconditions review s) ≡ false
 no_review_sizes (AssignedUsers role) s = refl
@@ -301,30 +304,32 @@ module _ (s : State) (h : IsSound s) (told : Separation) (set : Name) where
       none : (c : Command) → list_any (λ p. is_size p.denial) (preconditions c s) ≡ false → first_denial c s ≡ Some denial.BadCardinality → IsSized c s told set
       none c others e = absurd (refuted is_size (preconditions c s) denial.BadCardinality others e refl)
 
-      misfit : Separation → Command → Precondition
-      misfit kind c = denial.BadCardinality when is_badly_sized kind (change c s)
-
-      -- a set that a command puts is the one that is named
-      sized : (c : Command) (kind : Separation) (name : Name) → IsPut c s kind name → a_set kind name ≡ a_set told set → is_badly_sized kind (change c s) ≡ true → IsSized c s told set
-      sized c kind name is names misfits =
-          let bad = not_true (is_well_sized is.new) (sym (put_sized kind name is.new s h) ∙ ap (is_badly_sized kind) (sym is.puts) ∙ misfits) in
-          let there = new_there c s h kind name is in
+      -- the precondition at this place is that the set is well sized, and the set that the command puts is the one that is named
+      sized : (c : Command) (kind : Separation) (name : Name) (n : ℕ) → first_denial c s ≡ Some denial.BadCardinality → a_set kind name ≡ a_set told set
+          → preconditions c s ≡ before n c s ++ (denial.BadCardinality when is_badly_sized kind (change c s)) ∷ beyond n c s
+          → list_any (λ p. is_size p.denial) (before n c s ++ beyond n c s) ≡ false → (list_any (λ p. p.fails) (before n c s) ≡ false → IsPut c s kind name) → IsSized c s told set
+      sized c kind name n e names place others puts =
+          let f = denied_at is_size c s n (denial.BadCardinality when is_badly_sized kind (change c s)) denial.BadCardinality place others e refl in
+          let is = puts f.0 in
+          let bad = not_true (is_well_sized is.new) (sym (put_sized kind name is.new s h) ∙ ap (is_badly_sized kind) (sym is.puts) ∙ f.1) in
+          let there = new_there c s kind name is in
           subst (OfSet (IsSized c s)) names (record { makes = there ∙ sym is.makes; role_set = is.new; found = there; bad = bad })
         where
           not_true : (b : Bool) → not b ≡ true → b ≡ false
           not_true b e = grind arith
 
+      last : (kind : Separation) → (is_size (violation kind) || false) ≡ false
+      last kind = grind arith
+
       of : (c : Command) → first_denial c s ≡ Some denial.BadCardinality → named c s denial.BadCardinality ≡ a_set told set → IsSized c s told set
-      of (CreateSet kind name roles n) e names =
-          let f = denied_at is_size (CreateSet kind name roles n) s 2 (misfit kind (CreateSet kind name roles n)) denial.BadCardinality refl (ap (λ b. b || false) (no_size kind)) e refl in
-          sized (CreateSet kind name roles n) kind name (record { new = record { roles = roles; cardinality = n }; puts = refl; makes = refl }) names f.1
+      of (CreateSet kind name roles n) e names = sized (CreateSet kind name roles n) kind name 2 e names refl (last kind) (λ holds. created kind name roles n s)
       of (DeleteRoleMember kind name role) e names =
-          let f = denied_at is_size (DeleteRoleMember kind name role) s 2 (misfit kind (DeleteRoleMember kind name role)) denial.BadCardinality refl refl e refl in
-          sized (DeleteRoleMember kind name role) kind name (put_changed (DeleteRoleMember kind name role) s kind name (or_parts _ _ f.0).0 refl refl) names f.1
+          sized (DeleteRoleMember kind name role) kind name 2 e names refl refl
+          (λ holds. put_changed (DeleteRoleMember kind name role) s kind name (or_parts _ _ holds).0 refl refl)
       of (SetCardinality kind name n) e names =
-          let f = denied_at is_size (SetCardinality kind name n) s 1 (misfit kind (SetCardinality kind name n)) denial.BadCardinality refl (ap (λ b. b || false) (no_size kind)) e refl in
-          sized (SetCardinality kind name n) kind name (put_changed (SetCardinality kind name n) s kind name (or_parts _ _ f.0).0 refl refl) names f.1
-      of (AddRoleMember kind name role) e names = none (AddRoleMember kind name role) (ap (λ b. b || false) (no_size kind)) e
+          sized (SetCardinality kind name n) kind name 1 e names refl (last kind)
+          (λ holds. put_changed (SetCardinality kind name n) s kind name (or_parts _ _ holds).0 refl refl)
+      of (AddRoleMember kind name role) e names = none (AddRoleMember kind name role) (last kind) e
       of (ReviewCommand review) e names = none (ReviewCommand review) (no_review_sizes review s) e
       of c e names = none c refl e
 
