@@ -11,8 +11,7 @@ use Rattle.rbac_decide.proofs.Common.{ReviewCommand, Denial, names_total, names_
 use Rattle.rbac_decide.proofs.Common.{first_holder, Named, named, static_breach, dynamic_breach, breach_of, first_hindrance, first_entry, a_breach, a_set}
 use Rattle.std.proofs.lemmas.Bool.{or_parts}
 use Rattle.sorted_keys.proofs.EntryPlace.{sorted_put, sorted_updated}
-use Rattle.rbac_terms.specs.Rows.{Precondition, ◌when◌, review_preconditions, leftmost, is_set}
-use Rattle.rbac_terms.specs.declared.review.Review.{Review}
+use Rattle.rbac_terms.specs.Rows.{Precondition, ◌when◌, leftmost, is_set}
 use Rattle.rbac_terms.specs.declared.review.Review.TheVariants.{AssignedUsers}
 use Rattle.rbac_terms.specs.declared.answer.Denial.TheVariants as denial
 use Rattle.rbac_decide.proofs.SeparationLemmas.{put_found, put_violated, put_sized, created_violated, activated_violated, assigned_violated, declared_violated, user_gains, pair_gives}
@@ -160,10 +159,6 @@ before n c s = take n (preconditions c s)
 abbrev beyond : ℕ → Command → State → List Precondition
 beyond n c s = drop (suc n) (preconditions c s)
 
-denied_at : (q : Denial → Bool) (c : Command) (s : State) (n : ℕ) (p : Precondition) (d : Denial) → preconditions c s ≡ before n c s ++ p ∷ beyond n c s
-    → list_any (λ p. q p.denial) (before n c s ++ beyond n c s) ≡ false → first_denial c s ≡ Some d → q d ≡ true → (list_any (λ p. p.fails) (before n c s) ≡ false) × (p.fails ≡ true) × (p.denial ≡ d)
-denied_at q c s n p d is others e one = one_denied q (before n c s) (beyond n c s) p d others (ap leftmost (sym is) ∙ e) one
-
 -- ---- The commands that separation may deny
 
 abbrev is_breach : Named → Bool
@@ -201,10 +196,6 @@ module _ (s : State) (h : IsSound s) (told : Separation) (holder set : Name) whe
   no_constraint : (b : Bool) (x y : Name) → is_breach (cond b (a_set Static x) (a_set Dynamic y)) ≡ false
   no_constraint b x y = grind arith
 
-  no_review : (review : Review) → list_any (λ p. is_breach (named (ReviewCommand review) s p.denial)) (review_preconditions review s) ≡ false
-  no_review (AssignedUsers role) = refl
-  no_review review = refl
-
   pub told_breach : (c : Command) (d : Denial) → first_hindrance c s ≡ Some (record { denial = d; named = a_breach told holder set }) → IsBreach c s told holder set
   told_breach c d e = let parts = told_parts c s (record { denial = d; named = a_breach told holder set }) e in of c parts.0 parts.1
     where
@@ -217,7 +208,7 @@ module _ (s : State) (h : IsSound s) (told : Separation) (holder set : Name) whe
           → list_any (λ p. is_breach (named c s p.denial)) (before n c s ++ beyond n c s) ≡ false → named c s (violation kind) ≡ breach_of kind (change c s)
           → (list_any (λ p. p.fails) (before n c s) ≡ false) × Names c kind
       at c kind n e names is others is_named =
-          let f = denied_at (λ d. is_breach (named c s d)) c s n (violation kind when is_violated kind (change c s)) d is others e (ap is_breach names) in
+          let f = one_denied (λ d. is_breach (named c s d)) (before n c s) (beyond n c s) (violation kind when is_violated kind (change c s)) d others (ap leftmost (sym is) ∙ e) (ap is_breach names) in
           (f.0, (f.1, sym is_named ∙ ap (named c s) f.2 ∙ names))
 
       by_kind : (c : Separation → Command) → named (c Static) s denial.SsdViolated ≡ static_breach (change (c Static) s) → named (c Dynamic) s denial.DsdViolated ≡ dynamic_breach (change (c Dynamic) s)
@@ -278,7 +269,8 @@ module _ (s : State) (h : IsSound s) (told : Separation) (holder set : Name) whe
           let f = at (SetCardinality kind name n) kind 2 e names refl refl (by_kind (λ k. SetCardinality k name n) refl refl kind) in
           put_breach (SetCardinality kind name n) kind name (put_changed (SetCardinality kind name n) s kind name (or_parts _ _ f.0).0 refl refl) (λ role. refl) f.1
       of (DeleteRole role) e names = none (DeleteRole role) (ap (λ b. b || false) (no_constraint (is_constrained role s.static_sets) _ _)) e names
-      of (ReviewCommand review) e names = none (ReviewCommand review) (no_review review) e names
+      of (ReviewCommand (AssignedUsers role)) e names = none (ReviewCommand (AssignedUsers role)) refl e names
+      of (ReviewCommand review) e names = none (ReviewCommand review) refl e names
       of c e names = none c refl e names
 
 -- ---- The commands that may size a set badly
@@ -286,10 +278,6 @@ module _ (s : State) (h : IsSound s) (told : Separation) (holder set : Name) whe
 abbrev is_size : Denial → Bool
 is_size denial.BadCardinality = true
 is_size d = false
-
-no_review_sizes : (review : Review) (s : State) → list_any (λ p. is_size p.denial) (review_preconditions review s) ≡ false
-no_review_sizes (AssignedUsers role) s = refl
-no_review_sizes review s = refl
 
 pub record IsSized (c : Command) (s : State) (kind : Separation) (set : Name) : Type 0 where
   pub makes : find name_cmp set (sets_of kind (change c s)) ≡ changed_set c (find name_cmp set (sets_of kind s))
@@ -309,14 +297,11 @@ module _ (s : State) (h : IsSound s) (told : Separation) (set : Name) where
           → preconditions c s ≡ before n c s ++ (denial.BadCardinality when is_badly_sized kind (change c s)) ∷ beyond n c s
           → list_any (λ p. is_size p.denial) (before n c s ++ beyond n c s) ≡ false → (list_any (λ p. p.fails) (before n c s) ≡ false → IsPut c s kind name) → IsSized c s told set
       sized c kind name n e names place others puts =
-          let f = denied_at is_size c s n (denial.BadCardinality when is_badly_sized kind (change c s)) denial.BadCardinality place others e refl in
+          let f = one_denied is_size (before n c s) (beyond n c s) (denial.BadCardinality when is_badly_sized kind (change c s)) denial.BadCardinality others (ap leftmost (sym place) ∙ e) refl in
           let is = puts f.0 in
-          let bad = not_true (is_well_sized is.new) (sym (put_sized kind name is.new s h) ∙ ap (is_badly_sized kind) (sym is.puts) ∙ f.1) in
+          let misfits : not (is_well_sized is.new) ≡ true = sym (put_sized kind name is.new s h) ∙ ap (is_badly_sized kind) (sym is.puts) ∙ f.1 in
           let there = new_there c s kind name is in
-          subst (OfSet (IsSized c s)) names (record { makes = there ∙ sym is.makes; role_set = is.new; found = there; bad = bad })
-        where
-          not_true : (b : Bool) → not b ≡ true → b ≡ false
-          not_true b e = grind arith
+          subst (OfSet (IsSized c s)) names (record { makes = there ∙ sym is.makes; role_set = is.new; found = there; bad = grind arith })
 
       last : (kind : Separation) → (is_size (violation kind) || false) ≡ false
       last kind = grind arith
@@ -330,26 +315,22 @@ module _ (s : State) (h : IsSound s) (told : Separation) (set : Name) where
           sized (SetCardinality kind name n) kind name 1 e names refl (last kind)
           (λ holds. put_changed (SetCardinality kind name n) s kind name (or_parts _ _ holds).0 refl refl)
       of (AddRoleMember kind name role) e names = none (AddRoleMember kind name role) (last kind) e
-      of (ReviewCommand review) e names = none (ReviewCommand review) (no_review_sizes review s) e
+      of (ReviewCommand (AssignedUsers role)) e names = none (ReviewCommand (AssignedUsers role)) refl e
+      of (ReviewCommand review) e names = none (ReviewCommand review) refl e
       of c e names = none c refl e
 
 -- ---- The chain of a cycle
 
-only : (x y : Name) → has name_cmp x (y ∷ []) ≡ true → x ≡ y
-only x y m = grind (arith, names_exact x y)
-
-itself : (x : Name) → has name_cmp x (x ∷ []) ≡ true
-itself x = or_left _ _ (ties_itself names_total x)
-
 module _ (s : State) (h : IsSound s) (a d : Name) (inherited : inherits_in s d a ≡ true) where
   pub chain_leads : (chain : Chain) → LeadsTo s.declared (d ∷ []) (a ∷ []) chain → (chain.first ≡ d) × (chain.last ≡ a) × IsChain s.roles s.declared chain.first chain.rest.items chain.last
   chain_leads chain leads =
-      let first : chain.first ≡ d = only chain.first d leads.first in
+      let first : chain.first ≡ d = grind (arith, leads.first, names_exact chain.first d) in
+      let last : chain.last ≡ a = grind (arith, leads.last, names_exact chain.last a) in
       let i = (inherits_iff s.roles s.declared d a).0 inherited in
       let is_first : has name_cmp chain.first s.roles ≡ true = subst (λ z. has name_cmp z s.roles ≡ true) (sym first) (chain_role s.roles s.declared d i.0 a i.1) in
-      (first, only chain.last a leads.last, chain_of_path s.roles s.declared h.references.declared chain.first chain.rest.items chain.last is_first leads.path)
+      (first, last, chain_of_path s.roles s.declared h.references.declared chain.first chain.rest.items chain.last is_first leads.path)
 
   pub some_chain_leads : NoneLeads s.declared (d ∷ []) (a ∷ []) → ⊥
   some_chain_leads none =
       let i = (inherits_iff s.roles s.declared d a).0 inherited in
-      false≢true (sym (none d i.0 a (itself d) (path_of_chain s.roles s.declared d i.0 a i.1)) ∙ itself a)
+      false≢true (sym (none d i.0 a (or_left _ _ (ties_itself names_total d)) (path_of_chain s.roles s.declared d i.0 a i.1)) ∙ or_left _ _ (ties_itself names_total a))
