@@ -20,7 +20,7 @@ returns-in-Some-2-clause-reason c =
     record {
       active = grind (arith, found, leads.first);
       inherited = chain_of_path s.roles s.declared c.invariants.ensures.references.declared chain.first chain.rest.items chain.last
-      (active_is_role s c.invariants.ensures c.args.session.now session found chain.first leads.first) leads.path;
+          (active_is_role s c.invariants.ensures c.args.session.now session found chain.first leads.first) leads.path;
       granted = grind (arith, are chain.last, leads.last);
     }
 
