@@ -1,11 +1,13 @@
-//! How fast a group of three processes is, beside a bare set, on the disk of a folder or over an engine.
+//! How fast a group of three processes is, beside a bare set and a bare exchange, on the disk of a folder or over an engine.
 //!
 //!     cargo run --release --example load -- FOLDER|etcd1|etcd3|postgresql [SECONDS [generations]]
 //!
-//! Prints a line for one caller and one for 64: calls a second; how long half of the calls took at most, and 99 of 100, in milliseconds; the first of
+//! Prints how long half of the bare sets took at most, and of the bare exchanges: [`exchange::bare_exchange`] says what these are. Then a line for one
+//! caller and one for 64: calls a second; how long half of the calls took at most, and 99 of 100, in milliseconds; the first of
 //! these in bare sets; messages a call; and the processor time of the three members a call, in microseconds. Then what an idle member takes, how long
 //! callers wait while their member is moved, and, over files, how long a member is made anew that has 60,000 cells. Of generations it prints what
 //! [`generations::measure`] says.
+mod exchange;
 mod generations;
 mod group;
 mod store;
@@ -164,6 +166,11 @@ async fn calls(store: &Store, lasts: Duration) -> Group {
     let engine = store.open().await;
     let set = bare_set(&*engine, lasts / 4).await;
     println!("a bare set: p50 {set:.2} ms");
+    let exchange = exchange::bare_exchange(store);
+    println!(
+        "a bare exchange of two sets: p50 {exchange:.2} ms = {:.1} sets",
+        exchange / set
+    );
     load(&group, 1, lasts / 2, set).await;
     load(&group, 64, lasts, set).await;
     group
