@@ -28,11 +28,13 @@ use rand::Rng;
 use reads::Reads;
 use rows::{sure_get, sure_set, Engine, Fault, RowName, Told};
 use std::future::Future;
+use std::panic::resume_unwind;
 use std::path::PathBuf;
 use std::pin::Pin;
 use std::sync::Arc;
 use std::time::{Duration, Instant};
 use tokio::sync::{mpsc, oneshot, watch};
+use tokio::task::JoinSet;
 use trimming::Trimming;
 
 /// How many questions of callers, and reads of rows, wait for their turn.
@@ -80,7 +82,7 @@ impl Options {
 }
 
 type Waiter = oneshot::Sender<Reply>;
-type Setting = Pin<Box<dyn Future<Output = Result<WasSet, Fault>>>>;
+type Setting = Pin<Box<dyn Future<Output = Result<WasSet, Fault>> + Send>>;
 
 /// What became of a cell that was to be set.
 struct WasSet {
@@ -131,7 +133,18 @@ async fn start(options: &Options) -> Result<Stop, Stop> {
         cells,
         began.elapsed().as_millis()
     );
-    Ok(process.go_on(asked).await)
+    Ok(go_on(process, asked).await)
+}
+
+/// Lets the process go on as a task, and ends it with this: the future that a runtime blocks on is woken by a call of the kernel each time, also by
+/// what runs in the same thread.
+async fn go_on(process: Process, asked: mpsc::Receiver<Question>) -> Stop {
+    let mut running = JoinSet::new();
+    running.spawn(process.go_on(asked));
+    match running.join_next().await.expect("it was spawned") {
+        Ok(stop) => stop,
+        Err(panicked) => resume_unwind(panicked.into_panic()),
+    }
 }
 
 /// The engine, once it answers: it may be started at the same time.
