@@ -293,7 +293,14 @@ impl Process {
         self.setting = None;
         self.metrics.was_set(was.commands, was.took);
         match (was.told, was.there) {
-            (Told::Set, _) => Ok(self.node.was_set(was.generation)?),
+            (Told::Set, _) => {
+                self.node.was_set(was.generation)?;
+                if was.generation == self.node.generation().number {
+                    let cells = self.own_cells();
+                    self.following.has_own(cells);
+                }
+                Ok(())
+            }
             (Told::Taken, Some(there)) => Ok(self.node.was_taken(was.generation, &there)?),
             _ => Err(Stop::Lost(
                 "the cells of this node's row are gone".to_owned(),

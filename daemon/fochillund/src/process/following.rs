@@ -7,6 +7,7 @@ use crate::stop::Stop;
 use bytes::Bytes;
 use rows::cell::{Cell, Chain, Sent};
 use rows::{sure_get, Engine, Fault, Follower, RowName, SWEEP};
+use std::sync::atomic::{AtomicU64, Ordering};
 use std::sync::Arc;
 use tokio::sync::mpsc;
 use tokio::task::JoinSet;
@@ -41,6 +42,8 @@ pub(super) struct Following {
     tell: mpsc::Sender<Read>,
     read: mpsc::Receiver<Read>,
     rows: JoinSet<()>,
+    /// How many cells of the node's own row are known to be its own.
+    own: Arc<AtomicU64>,
     _foundings: JoinSet<()>,
 }
 
@@ -61,6 +64,7 @@ impl Following {
             tell,
             read,
             rows: JoinSet::new(),
+            own: Arc::default(),
             _foundings: tasks,
         }
     }
@@ -138,10 +142,20 @@ impl Following {
     }
 
     fn watch(&mut self, generation: &Generation, chain: Chain, writer: &str) {
-        let engine = Arc::clone(&self.engine);
-        let (writer, tell) = (writer.to_owned(), self.tell.clone());
-        self.rows
-            .spawn(watch(engine, generation.number, chain, writer, tell));
+        self.own = Arc::new(AtomicU64::new(chain.next() - 1));
+        let watched = Watched {
+            engine: Arc::clone(&self.engine),
+            generation: generation.number,
+            row: chain.row().clone(),
+            writer: writer.to_owned(),
+            own: Arc::clone(&self.own),
+        };
+        self.rows.spawn(watched.watch(self.tell.clone()));
+    }
+
+    /// So many cells of the node's own row, of the generation that is followed, are its own: these need not be looked at.
+    pub(super) fn has_own(&self, cells: u64) {
+        self.own.store(cells, Ordering::Relaxed);
     }
 }
 
@@ -189,41 +203,45 @@ async fn follow_foundings(engine: Arc<dyn Engine>, mut next: u64, tell: mpsc::Se
     }
 }
 
-/// Looks from time to time whether the node's own row has a cell that another process set: a process that is asked nothing meets no cell that is
-/// taken, and would show for good what was so once. The first such cell is told again and again, until it was heard.
-async fn watch(
+/// The node's own row, where another process may set cells too.
+struct Watched {
     engine: Arc<dyn Engine>,
     generation: u64,
-    chain: Chain,
+    row: RowName,
     writer: String,
-    tell: mpsc::Sender<Read>,
-) {
-    let is_own = |text: &Bytes| {
-        let cell: Option<Cell> = serde_json::from_slice(text).ok();
-        cell.is_some_and(|cell| cell.writer == writer)
-    };
-    let (row, mut next) = (chain.row(), chain.next());
-    loop {
-        tokio::time::sleep(SWEEP).await;
-        let read = match engine.get(row, next).await {
-            Ok(texts) => {
-                let own = texts.iter().take_while(|text| is_own(text)).count();
-                next += own as u64;
-                let Some(text) = texts.into_iter().nth(own) else {
-                    continue;
-                };
-                Read::Own {
-                    generation,
-                    number: next,
-                    text,
-                }
+    own: Arc<AtomicU64>,
+}
+
+impl Watched {
+    /// Looks from time to time whether the row has a cell that another process set: a process that is asked nothing meets no cell that is taken, and
+    /// would show for good what was so once. The first such cell is told again and again, until it was heard.
+    async fn watch(self, tell: mpsc::Sender<Read>) {
+        loop {
+            tokio::time::sleep(SWEEP).await;
+            let read = match self.first_of_others().await {
+                Ok(None) | Err(Fault::Silent(_)) => continue,
+                Ok(Some(read)) => read,
+                Err(fault) => Read::Stop(fault.into()),
+            };
+            let is_last = matches!(read, Read::Stop(_));
+            if tell.send(read).await.is_err() || is_last {
+                return;
             }
-            Err(Fault::Silent(_)) => continue,
-            Err(fault) => Read::Stop(fault.into()),
-        };
-        let is_last = matches!(read, Read::Stop(_));
-        if tell.send(read).await.is_err() || is_last {
-            return;
         }
+    }
+
+    async fn first_of_others(&self) -> Result<Option<Read>, Fault> {
+        let next = self.own.load(Ordering::Relaxed) + 1;
+        let texts = self.engine.get(&self.row, next).await?;
+        let is_own = |text: &Bytes| {
+            let cell: Option<Cell> = serde_json::from_slice(text).ok();
+            cell.is_some_and(|cell| cell.writer == self.writer)
+        };
+        let mut of_others = (next..).zip(texts).filter(|(_, text)| !is_own(text));
+        Ok(of_others.next().map(|(number, text)| Read::Own {
+            generation: self.generation,
+            number,
+            text,
+        }))
     }
 }
