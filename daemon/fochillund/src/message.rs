@@ -1,4 +1,5 @@
 //! What is read of a message's text without the library: its clock, its commands, and whether it is a seal.
+use serde::de::IgnoredAny;
 use serde::Deserialize;
 use serde_json::value::RawValue;
 
@@ -9,20 +10,44 @@ pub const SEAL_CLOCK: u64 = 1 << 52;
 /// The greatest clock that a founding may have: far more than a generation has messages below a seal's.
 pub const LAST_FOUNDING_CLOCK: u64 = SEAL_CLOCK - (1 << 30);
 
+/// What is looked at of a message, which is read once for all that asks for it.
+#[derive(Clone, Copy, Debug, PartialEq, Eq)]
+pub(crate) struct Head {
+    /// Its stamp: clock and member.
+    pub(crate) stamp: (u64, u32),
+    /// How many commands it has; none is an acknowledgement, or a seal.
+    pub(crate) commands: usize,
+}
+
 #[derive(Deserialize)]
-struct Stamped {
+struct HeadText {
     stamp: (u64, u32),
+    #[serde(default)]
+    commands: Vec<IgnoredAny>,
 }
 
-/// The clock of a message's stamp; none where it has none.
-pub(crate) fn clock_of(message: &str) -> Option<u64> {
-    let stamped: Option<Stamped> = serde_json::from_str(message).ok();
-    stamped.map(|it| it.stamp.0)
-}
+impl Head {
+    /// That of a message's text; none of one that has no stamp.
+    pub(crate) fn of(message: &str) -> Option<Head> {
+        let text: HeadText = serde_json::from_str(message).ok()?;
+        Some(Head {
+            stamp: text.stamp,
+            commands: text.commands.len(),
+        })
+    }
 
-/// The same of a message that the library has made or taken.
-pub(crate) fn own_clock(message: &str) -> u64 {
-    clock_of(message).expect("a message that the library knows has a stamp")
+    /// That of a message that the library has made or taken.
+    pub(crate) fn of_known(message: &str) -> Head {
+        Head::of(message).expect("a message that the library knows has a stamp")
+    }
+
+    pub(crate) fn clock(&self) -> u64 {
+        self.stamp.0
+    }
+
+    pub(crate) fn is_seal(&self) -> bool {
+        self.clock() == SEAL_CLOCK
+    }
 }
 
 /// The seal of a member's row.
@@ -32,7 +57,7 @@ pub fn seal_of(member: u32) -> String {
 
 /// Whether a message is a seal.
 pub fn is_seal(message: &str) -> bool {
-    clock_of(message) == Some(SEAL_CLOCK)
+    Head::of(message).is_some_and(|head| head.is_seal())
 }
 
 /// The commands of a message's text, each as the library writes it.

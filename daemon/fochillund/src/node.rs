@@ -4,11 +4,10 @@
 //! generation, and the same policy as each other one that has. By that the next begins: its first member sends the policy's dump, and the others take
 //! calls once they took the dump's end. Where the first member's row is sealed before that, nobody has sent a call in that generation: it is void, and
 //! the policy is that of the last one that is not.
-mod recent;
 mod seat;
 mod shown;
 
-pub use recent::RecentMessage;
+pub use crate::row_member::RecentMessage;
 pub use shown::{Check, NoStamp, Query, Shown, ShownAt, Stamp};
 
 use crate::generation::{CellFault, Foundings, Generation};
@@ -446,7 +445,7 @@ impl<W> Node<W> {
     }
 
     /// The last messages of the rows of this generation, in the order of their stamps.
-    pub fn messages(&self) -> Vec<RecentMessage> {
+    pub fn messages(&mut self) -> Vec<RecentMessage> {
         self.now.messages()
     }
 

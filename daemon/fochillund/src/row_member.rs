@@ -11,6 +11,7 @@ mod inbox;
 mod observer;
 mod opening;
 mod queue;
+mod recent;
 mod taking;
 
 pub use call::{NewCall, Refusal, Reply, MOST_BYTES, MOST_COMMANDS, MOST_WAITING};
@@ -18,9 +19,10 @@ pub use ends::check_ends;
 pub use fault::MemberFault;
 pub use observer::RowObserver;
 pub use opening::{Begins, Dump};
+pub use recent::RecentMessage;
 
 use crate::generation::Generation;
-use crate::message::{commands_of, is_seal, own_clock, seal_of};
+use crate::message::{commands_of, is_seal, seal_of, Head};
 use bytes::Bytes;
 use call::{ReadCall, LONGEST_MESSAGE};
 use fault::fault_of;
@@ -49,9 +51,8 @@ pub struct Waits {
 /// A cell that is to be set.
 #[derive(Debug)]
 struct Setting<W> {
-    cell: Bytes,
-    message: String,
-    dump: Option<DumpPart>,
+    cell: Cell,
+    text: Bytes,
     batch: Option<Batch<W>>,
 }
 
@@ -115,13 +116,12 @@ impl<W> RowMember<W> {
         let mut taking = Taking::of(member, number, generation, opening);
         let mut history = History::new();
         for (place, cell) in (1..).zip(cells) {
-            let commands = commands_of(cell.message.get()).len();
+            let head = taking.has_own(place, cell.message.get(), &cell.taken, cell.dump)?;
             let called: usize = cell.calls.iter().map(|call| call.commands).sum();
-            if called != commands && (called != 0 || cell.dump.is_none()) {
+            if called != head.commands && (called != 0 || cell.dump.is_none()) {
                 return Err(MemberFault::Calls(cell.number));
             }
-            taking.has_own(place, cell.message.get(), cell.dump)?;
-            history.sent(place, &cell.calls, commands);
+            history.sent(place, &cell.calls, head.commands);
         }
         Ok(RowMember {
             taking,
@@ -228,7 +228,7 @@ impl<W> RowMember<W> {
     /// # Errors
     /// Where a message can't be taken.
     pub fn turn(&mut self) -> Result<(), MemberFault> {
-        self.taking.take_ready()?;
+        self.taking.take_ready(self.setting.is_some())?;
         if self.taking.is_full && !self.is_closing {
             self.be_full();
         }
@@ -287,29 +287,28 @@ impl<W> RowMember<W> {
 
     /// Whether a batch goes before an acknowledgement: where it is later than all that was read and wants one, or it is its turn.
     fn goes_first(&self, submitted: &str) -> bool {
-        let clock = own_clock(submitted);
+        let clock = Head::of_known(submitted).clock();
         let inboxes = self.taking.inboxes.iter();
         let mut first = inboxes
             .filter(|inbox| inbox.wanted.is_some())
             .filter_map(Inbox::first);
-        self.has_just_acknowledged || first.all(|message| message.clock < clock)
+        self.has_just_acknowledged || first.all(|message| message.clock() < clock)
     }
 
     fn begin(&mut self, next: Next<W>) -> (u64, Bytes) {
-        let text = RawValue::from_string(next.message.clone()).expect("a message is JSON");
+        let message = RawValue::from_string(next.message).expect("a message is JSON");
         let taken = self.taken();
-        let mut cell = self.chain.cell(&self.writer, taken, text);
+        let mut cell = self.chain.cell(&self.writer, taken, message);
         cell.calls = next.batch.as_ref().map_or_else(Vec::new, Batch::told);
         cell.dump = next.dump;
-        let cell = Bytes::from(serde_json::to_vec(&cell).expect("a cell is JSON"));
+        let text = Bytes::from(serde_json::to_vec(&cell).expect("a cell is JSON"));
         let number = self.chain.next();
         self.setting = Some(Setting {
-            cell: cell.clone(),
-            message: next.message,
-            dump: next.dump,
+            cell,
+            text: text.clone(),
             batch: next.batch,
         });
-        (number, cell)
+        (number, text)
     }
 
     /// The cell that was to be set is set: its message is the member's now.
@@ -317,17 +316,12 @@ impl<W> RowMember<W> {
     /// # Errors
     /// Where memory ends.
     pub fn was_set(&mut self) -> Result<(), MemberFault> {
-        let setting = self.setting.take().expect("a cell was being set");
-        let at = number_of(self.chain.next());
-        self.taking.take_own(at, &setting.message, setting.dump)?;
-        self.chain.follow(&setting.cell);
-        let calls = setting.batch.as_ref().map_or_else(Vec::new, Batch::told);
-        let commands = match (&setting.batch, setting.dump) {
-            (None, None) => 0,
-            _ => commands_of(&setting.message).len(),
-        };
-        let places = self.history.sent(at, &calls, commands);
-        let waiters = setting.batch.into_iter().flat_map(|batch| batch.waiters);
+        let Setting { cell, text, batch } = self.setting.take().expect("a cell was being set");
+        let (at, message) = (number_of(self.chain.next()), cell.message.get());
+        let head = self.taking.take_own(at, message, &cell.taken, cell.dump)?;
+        self.chain.follow(&text);
+        let places = self.history.sent(at, &cell.calls, head.commands);
+        let waiters = batch.into_iter().flat_map(|batch| batch.waiters);
         for (place, waiters) in places.into_iter().zip(waiters) {
             for waiter in waiters {
                 self.history.wait(place, waiter);
@@ -348,7 +342,8 @@ impl<W> RowMember<W> {
             return Err(MemberFault::Fenced);
         }
         let at = number_of(self.chain.next());
-        self.taking.take_own(at, cell.message.get(), None)?;
+        let message = cell.message.get();
+        self.taking.take_own(at, message, &cell.taken, None)?;
         self.chain.follow(text);
         let setting = self.setting.take();
         let batch = setting.and_then(|setting| setting.batch);
@@ -407,16 +402,10 @@ impl<W> RowMember<W> {
         &self.chain
     }
 
-    /// The cell that is being set.
-    pub fn being_set(&self) -> Option<&Bytes> {
-        self.setting.as_ref().map(|setting| &setting.cell)
-    }
-
     /// How many commands of callers the cell has that is being set.
     pub fn commands_being_set(&self) -> usize {
-        let setting = self.setting.as_ref();
-        let calls = setting.and_then(|it| it.batch.as_ref()).map(Batch::told);
-        calls.iter().flatten().map(|call| call.commands).sum()
+        let calls = self.setting.iter().flat_map(|it| &it.cell.calls);
+        calls.map(|call| call.commands).sum()
     }
 
     /// How many cells are left of its row, its seal's too.

@@ -1,9 +1,8 @@
 //! What a node is in one generation: a member, or one that follows it.
-use super::recent::{Recent, RecentMessage};
 use super::shown::{Query, Shown, ShownAt};
 use super::{Asked, NextCell, NodeFault, NodeRefusal, Phase, Reply};
 use crate::generation::Generation;
-use crate::row_member::{self, Begins, MemberFault, RowMember, RowObserver, Waits};
+use crate::row_member::{self, Begins, MemberFault, RecentMessage, RowMember, RowObserver, Waits};
 use rows::cell::{Cell, Chain, Sent};
 use std::ops::Range;
 
@@ -11,7 +10,6 @@ use std::ops::Range;
 pub(super) struct Seat<W> {
     pub(super) generation: Generation,
     place: Place<W>,
-    recent: Recent,
 }
 
 #[derive(Debug)]
@@ -47,12 +45,7 @@ impl<W> Seat<W> {
                 Place::Follows(Box::new(observer.map_err(|fault| fault_in(number, fault))?))
             }
         };
-        let recent = Recent::default();
-        Ok(Seat {
-            generation,
-            place,
-            recent,
-        })
+        Ok(Seat { generation, place })
     }
 
     fn fault(&self, fault: MemberFault) -> NodeFault {
@@ -91,9 +84,6 @@ impl<W> Seat<W> {
         };
         let (begins, asked) = (begins.clone(), std::mem::take(asked));
         let (number, writer) = (*member, writer.to_owned());
-        for cell in cells {
-            self.recent.put_cell(number, cell);
-        }
         let made = RowMember::restore(&self.generation, number, begins, writer, chain, cells);
         self.place = Place::Acts(Box::new(made.map_err(|fault| self.fault(fault))?));
         Ok(asked)
@@ -106,7 +96,6 @@ impl<W> Seat<W> {
     }
 
     pub(super) fn put_cell(&mut self, member: u32, cell: Sent) -> Result<(), NodeFault> {
-        self.recent.put(member, &cell);
         let put = match &mut self.place {
             Place::Enters { .. } => unreachable!("the own row is read first"),
             Place::Acts(acting) => acting.put_cell(member, cell),
@@ -184,18 +173,10 @@ impl<W> Seat<W> {
     }
 
     pub(super) fn was_set(&mut self) -> Result<(), NodeFault> {
-        if let Place::Acts(member) = &self.place {
-            if let Some(text) = member.being_set() {
-                self.recent.put_own(member.number(), text);
-            }
-        }
         self.told_of_set(RowMember::was_set)
     }
 
     pub(super) fn was_taken(&mut self, text: &[u8]) -> Result<(), NodeFault> {
-        if let Some(member) = self.member() {
-            self.recent.put_own(member, text);
-        }
         self.told_of_set(|member| member.was_taken(text))
     }
 
@@ -274,8 +255,9 @@ impl<W> Seat<W> {
     }
 
     /// The last messages of its rows.
-    pub(super) fn messages(&self) -> Vec<RecentMessage> {
-        self.recent.messages()
+    pub(super) fn messages(&mut self) -> Vec<RecentMessage> {
+        let taking = self.taking();
+        taking.map_or_else(Vec::new, |taking| taking.recent.messages())
     }
 
     pub(super) fn history_length(&mut self) -> u64 {

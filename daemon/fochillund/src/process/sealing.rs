@@ -1,6 +1,6 @@
 //! Setting a message in a member's row that nobody's memory wants first: the seal of one that does not end its row, and the message by which a process
 //! takes a member over.
-use crate::message::{clock_of, seal_of, SEAL_CLOCK};
+use crate::message::{seal_of, Head, SEAL_CLOCK};
 use crate::stop::Stop;
 use bytes::Bytes;
 use rows::cell::Chain;
@@ -62,7 +62,7 @@ async fn set_behind(
         let texts = sure_get(engine, chain.row(), chain.next()).await?;
         let cells = chain.take_all(&texts);
         for cell in cells.map_err(|lost| Stop::Lost(lost.to_string()))? {
-            last = clock_of(cell.message.get()).unwrap_or(last);
+            last = Head::of(cell.message.get()).map_or(last, |head| head.clock());
         }
         let message = next(last).filter(|_| chain.next() < limit);
         let Some(message) = message else {

@@ -1,6 +1,6 @@
 //! Messages of another member that were read of its row, and not yet taken.
 use super::opening::Part;
-use crate::message::{clock_of, SEAL_CLOCK};
+use crate::message::Head;
 use rows::cell::Sent;
 use serde_json::value::RawValue;
 use std::collections::VecDeque;
@@ -9,16 +9,34 @@ use std::collections::VecDeque;
 #[derive(Debug)]
 pub(super) struct Message {
     pub(super) number: u32,
-    /// Its stamp's clock; of a text that has none, one that no clock passes.
-    pub(super) clock: u64,
+    /// None of a text that has no stamp.
+    head: Option<Head>,
     /// What it is of the dump by which the generation begins.
     pub(super) part: Part,
     pub(super) text: Box<RawValue>,
 }
 
 impl Message {
+    pub(super) fn of(sent: Sent, head: Option<Head>, part: Part) -> Message {
+        Message {
+            number: super::number_of(sent.number),
+            head,
+            part,
+            text: sent.message,
+        }
+    }
+
+    /// Its stamp's clock; of a text that has none, one that no clock passes.
+    pub(super) fn clock(&self) -> u64 {
+        self.head.map_or(u64::MAX, |head| head.clock())
+    }
+
+    pub(super) fn has_commands(&self) -> bool {
+        self.head.is_some_and(|head| head.commands > 0)
+    }
+
     pub(super) fn is_seal(&self) -> bool {
-        self.clock == SEAL_CLOCK
+        self.head.is_some_and(|head| head.is_seal())
     }
 }
 
@@ -41,13 +59,7 @@ pub(super) struct Inbox {
 }
 
 impl Inbox {
-    pub(super) fn put(&mut self, sent: Sent, part: Part) {
-        let message = Message {
-            number: u32::try_from(sent.number).expect("a member sends at most 65,536 messages"),
-            clock: clock_of(sent.message.get()).unwrap_or(u64::MAX),
-            part,
-            text: sent.message,
-        };
+    pub(super) fn put(&mut self, message: Message) {
         self.is_sealed = message.is_seal();
         self.messages.push_back(message);
     }

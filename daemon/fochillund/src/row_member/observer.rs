@@ -38,9 +38,11 @@ impl RowObserver {
         if member != self.taking.number {
             return self.taking.put(member, cell);
         }
-        let number = super::number_of(cell.number);
-        let message = cell.message.get();
-        self.taking.take_own(number, message, cell.dump)
+        let (number, message) = (super::number_of(cell.number), cell.message.get());
+        let taken = self
+            .taking
+            .take_own(number, message, &cell.taken, cell.dump);
+        taken.map(drop)
     }
 
     /// Takes what was read and is below the followed row, and delivers what is due.
@@ -48,7 +50,7 @@ impl RowObserver {
     /// # Errors
     /// Where a message can't be taken.
     pub fn turn(&mut self) -> Result<(), MemberFault> {
-        self.taking.take_ready()?;
+        self.taking.take_ready(false)?;
         while self.taking.deliver_next()?.is_some() {}
         Ok(())
     }

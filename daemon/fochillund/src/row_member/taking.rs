@@ -1,10 +1,11 @@
 //! What a process knows of the rows of a generation: its member by the library, and what was read of the others' rows and is not taken yet.
 use super::fault::{fault_of, MemberFault};
-use super::inbox::{Inbox, Wanted};
+use super::inbox::{Inbox, Message, Wanted};
 use super::opening::{Opening, Part};
+use super::recent::Recent;
 use crate::answer::Answer;
 use crate::generation::Generation;
-use crate::message::{is_seal, own_clock};
+use crate::message::Head;
 use crate::node::{Check, Query, Stamp};
 use crate::policy::Policy;
 use fochillun::{Member, MemberError, Waiting};
@@ -21,6 +22,8 @@ pub(crate) struct Taking {
     reviewed: Option<Reviewed>,
     pub(super) number: u32,
     pub(super) inboxes: Vec<Inbox>,
+    /// The last messages that were read or set.
+    pub(crate) recent: Recent,
     pub(super) opening: Opening,
     /// Whether the member's own row has ended, and was taken to its seal.
     pub(super) is_sealed: bool,
@@ -86,6 +89,7 @@ impl Taking {
             reviewed: None,
             number,
             inboxes: (0..members).map(|_| Inbox::default()).collect(),
+            recent: Recent::default(),
             opening,
             is_sealed: false,
             is_full: false,
@@ -107,20 +111,22 @@ impl Taking {
         &mut self,
         number: u32,
         message: &str,
+        taken: &[u64],
         dump: Option<DumpPart>,
-    ) -> Result<(), MemberFault> {
-        let taken = self.member.take_own(number, message);
-        taken.map_err(|why| fault_of(self.number, number.into(), why))?;
-        self.has_own(number, message, dump)
+    ) -> Result<Head, MemberFault> {
+        let took = self.member.take_own(number, message);
+        took.map_err(|why| fault_of(self.number, number.into(), why))?;
+        self.has_own(number, message, taken, dump)
     }
 
-    /// The member has taken this message of its own row.
+    /// The member has taken this message of its own row, which was made when it had taken so many of each.
     pub(super) fn has_own(
         &mut self,
         number: u32,
         message: &str,
+        taken: &[u64],
         dump: Option<DumpPart>,
-    ) -> Result<(), MemberFault> {
+    ) -> Result<Head, MemberFault> {
         if self.is_sealed {
             let (member, number) = (self.number, number.into());
             return Err(MemberFault::BehindASeal { member, number });
@@ -130,14 +136,16 @@ impl Taking {
             let part = part.ok_or(MemberFault::OtherDump(number.into()))?;
             self.opening.take(part);
         }
-        (self.own, self.sent_clock) = (number, own_clock(message));
-        self.is_sealed = is_seal(message);
+        let head = Head::of_known(message);
+        self.recent.put(self.number, number, head, taken.to_vec());
+        (self.own, self.sent_clock) = (number, head.clock());
+        self.is_sealed = head.is_seal();
         self.steps += 1;
-        Ok(())
+        Ok(head)
     }
 
     /// The next message of another member was read of its row.
-    pub(super) fn put(&mut self, member: u32, sent: Sent) -> Result<(), MemberFault> {
+    pub(super) fn put(&mut self, member: u32, mut sent: Sent) -> Result<(), MemberFault> {
         let number = sent.number;
         let inbox = &mut self.inboxes[member as usize - 1];
         if inbox.is_sealed {
@@ -147,16 +155,34 @@ impl Taking {
             1 => self.opening.read(sent.message.get(), sent.dump),
             _ => Some(Part::Other),
         };
-        inbox.put(sent, part.ok_or(MemberFault::OtherDump(number))?);
+        let part = part.ok_or(MemberFault::OtherDump(number))?;
+        let (head, taken) = (
+            Head::of(sent.message.get()),
+            std::mem::take(&mut sent.taken),
+        );
+        let message = Message::of(sent, head, part);
+        if let Some(head) = head {
+            self.recent.put(member, message.number, head, taken);
+        }
+        inbox.put(message);
         Ok(())
     }
 
-    /// Takes what was read as far as that needs no message of the member's own.
-    pub(super) fn take_ready(&mut self) -> Result<(), MemberFault> {
+    /// Takes what was read as far as that needs no message of the member's own. What a message with commands wants is asked once nothing else is left,
+    /// since it is long, and not while a cell is being set: until it is, none can be set that the message wants.
+    pub(super) fn take_ready(&mut self, sets: bool) -> Result<(), MemberFault> {
+        self.take_what_wants_nothing(false)?;
+        match sets {
+            true => Ok(()),
+            false => self.take_what_wants_nothing(true),
+        }
+    }
+
+    fn take_what_wants_nothing(&mut self, asks_of_commands: bool) -> Result<(), MemberFault> {
         loop {
             let before = self.steps;
             for member in self.others() {
-                while self.first_wants(member)? == Some(Asked::Nothing)
+                while self.first_wants(member, asks_of_commands)? == Some(Asked::Nothing)
                     && self.take_first(member)?
                 {}
             }
@@ -167,11 +193,15 @@ impl Taking {
         }
     }
 
-    /// What the first message that was read of a member wants; none where there is none. Nothing is wanted where the member itself has sent
-    /// something later; of each other message the library says it, and says it anew once the member took another one: a message that wanted an
-    /// acknowledgement may want none any more. Another's seal is taken behind the own one alone: the member would acknowledge above it, and could not
-    /// end its own row then.
-    fn first_wants(&mut self, member: u32) -> Result<Option<Asked>, MemberFault> {
+    /// What the first message that was read of a member wants, an answer where that is not asked; none where there is none. Nothing is wanted where the
+    /// member itself has sent something later; of each other message the library says it, and says it anew once the member took another one: a message
+    /// that wanted an acknowledgement may want none any more. Another's seal is taken behind the own one alone: the member would acknowledge above it,
+    /// and could not end its own row then.
+    fn first_wants(
+        &mut self,
+        member: u32,
+        asks_of_commands: bool,
+    ) -> Result<Option<Asked>, MemberFault> {
         let inbox = &self.inboxes[member as usize - 1];
         let Some(message) = inbox.first() else {
             return Ok(None);
@@ -179,11 +209,12 @@ impl Taking {
         if message.is_seal() && !self.is_sealed {
             return Ok(Some(Asked::Answer));
         }
-        if (message.clock, member) < (self.sent_clock, self.number) {
+        if (message.clock(), member) < (self.sent_clock, self.number) {
             return Ok(Some(Asked::Nothing));
         }
         match &inbox.wanted {
             Some(wanted) if wanted.asked_at == self.steps => Ok(Some(Asked::Answer)),
+            _ if message.has_commands() && !asks_of_commands => Ok(Some(Asked::Answer)),
             _ => self.ask_first(member).map(Some),
         }
     }
@@ -232,7 +263,7 @@ impl Taking {
     /// The acknowledgement that lets most of what was read be taken, where one is wanted. What each message wants was asked by the turn before.
     pub(super) fn acknowledgement(&self) -> Option<String> {
         let wanted = self.inboxes.iter().filter_map(|it| it.wanted.as_ref());
-        let latest = wanted.max_by_key(|wanted| own_clock(&wanted.answer));
+        let latest = wanted.max_by_key(|wanted| Head::of_known(&wanted.answer).clock());
         latest.map(|wanted| wanted.answer.clone())
     }
 

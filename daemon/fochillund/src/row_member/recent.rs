@@ -1,7 +1,6 @@
 //! The last messages of a generation's rows, as a diagram shows them.
-use rows::cell::Sent;
-use serde::de::IgnoredAny;
-use serde::{Deserialize, Serialize};
+use crate::message::Head;
+use serde::Serialize;
 use std::collections::VecDeque;
 
 /// How many messages of each member are kept, and how many are told.
@@ -13,7 +12,7 @@ pub struct RecentMessage {
     /// Who sent it.
     pub member: u32,
     /// Its number in that member's row.
-    pub number: u64,
+    pub number: u32,
     /// Its stamp: clock and member. A message of many commands has as many places there.
     pub stamp: (u64, u32),
     /// How many commands it has; none is an acknowledgement, or the row's seal.
@@ -22,51 +21,15 @@ pub struct RecentMessage {
     pub taken: Vec<u64>,
 }
 
-/// What is read of a message.
-#[derive(Deserialize)]
-struct Head {
-    stamp: (u64, u32),
-    #[serde(default)]
-    commands: Vec<IgnoredAny>,
-}
-
-/// What is read of a cell of the node's own row.
-#[derive(Deserialize)]
-struct OwnCell {
-    number: u64,
-    taken: Vec<u64>,
-    message: Head,
-}
-
 /// The last messages of each member that were read or set.
 #[derive(Debug, Default)]
-pub(super) struct Recent {
+pub(crate) struct Recent {
     rows: Vec<VecDeque<RecentMessage>>,
 }
 
 impl Recent {
-    /// A message was read of a member's row. One that has no stamp is none, as others tell.
-    pub(super) fn put(&mut self, member: u32, sent: &Sent) {
-        if let Ok(head) = serde_json::from_str(sent.message.get()) {
-            self.keep(member, sent.number, &sent.taken, &head);
-        }
-    }
-
-    /// A cell of the node's own row was set, or read.
-    pub(super) fn put_own(&mut self, member: u32, text: &[u8]) {
-        if let Ok(cell) = serde_json::from_slice::<OwnCell>(text) {
-            self.keep(member, cell.number, &cell.taken, &cell.message);
-        }
-    }
-
-    /// The same of a cell that was read before.
-    pub(super) fn put_cell(&mut self, member: u32, cell: &rows::cell::Cell) {
-        if let Ok(head) = serde_json::from_str(cell.message.get()) {
-            self.keep(member, cell.number, &cell.taken, &head);
-        }
-    }
-
-    fn keep(&mut self, member: u32, number: u64, taken: &[u64], head: &Head) {
+    /// A message of a member's row was read, or set there, when its member had taken so many messages of each.
+    pub(super) fn put(&mut self, member: u32, number: u32, head: Head, taken: Vec<u64>) {
         let row = member as usize - 1;
         if self.rows.len() <= row {
             self.rows.resize_with(row + 1, VecDeque::new);
@@ -79,13 +42,13 @@ impl Recent {
             member,
             number,
             stamp: head.stamp,
-            commands: head.commands.len(),
-            taken: taken.to_vec(),
+            commands: head.commands,
+            taken,
         });
     }
 
     /// The last of all of them, in the order of their stamps.
-    pub(super) fn messages(&self) -> Vec<RecentMessage> {
+    pub(crate) fn messages(&self) -> Vec<RecentMessage> {
         let mut all: Vec<_> = self.rows.iter().flatten().cloned().collect();
         all.sort_by_key(|message| message.stamp);
         all.split_off(all.len().saturating_sub(MOST_RECENT))
@@ -94,23 +57,21 @@ impl Recent {
 
 #[cfg(test)]
 mod tests {
-    use super::{Recent, MOST_RECENT};
+    use super::{Head, Recent, MOST_RECENT};
 
     #[test]
     fn the_last_messages_are_told_in_the_order_of_their_stamps() {
         let mut recent = Recent::default();
-        let cell = |number: u64, clock: u64, member: u32| {
-            format!(
-                r#"{{"number":{number},"taken":[1,0],"message":{{"stamp":[{clock},{member}],"commands":[{{}},{{}}]}}}}"#
-            )
+        let head = |clock: u32, member: u32| Head {
+            stamp: (clock.into(), member),
+            commands: 2,
         };
         for number in 1..=120 {
-            recent.put_own(2, cell(number, 2 * number, 2).as_bytes());
+            recent.put(2, number, head(2 * number, 2), vec![1, 0]);
         }
         for number in 1..=30 {
-            recent.put_own(1, cell(number, 2 * number + 181, 1).as_bytes());
+            recent.put(1, number, head(2 * number + 181, 1), vec![1, 0]);
         }
-        recent.put_own(1, b"no cell");
         let told = recent.messages();
         assert_eq!(told.len(), MOST_RECENT);
         assert!(told.windows(2).all(|two| two[0].stamp < two[1].stamp));
