@@ -18,11 +18,12 @@ use crate::name::RowName;
 use crate::text::check_texts;
 use async_trait::async_trait;
 use bytes::Bytes;
-use line::{Line, Shared};
+use line::Line;
 use std::path::PathBuf;
 use std::sync::Arc;
 use std::time::Duration;
 use target::{Target, Task};
+use tidings::Hearing;
 
 /// What the rows of a server are opened with.
 #[derive(Clone, Debug)]
@@ -61,8 +62,8 @@ impl Options {
 pub struct Postgres {
     target: Arc<Target>,
     sets: Line,
-    gets: Shared,
-    _hearing: Task,
+    hearing: Arc<Hearing>,
+    _hears: Task,
 }
 
 impl Postgres {
@@ -74,10 +75,11 @@ impl Postgres {
     pub async fn open(options: Options) -> Result<Postgres, Fault> {
         let target = Arc::new(Target::of(&options)?);
         target.found().await?;
+        let (hearing, hears) = Hearing::begin(Arc::clone(&target)).await?;
         Ok(Postgres {
             sets: Line::of(Arc::clone(&target)),
-            gets: Shared::of(Arc::clone(&target)),
-            _hearing: tidings::listen(Arc::clone(&target)).await?,
+            hearing,
+            _hears: hears,
             target,
         })
     }
@@ -96,10 +98,10 @@ impl Engine for Postgres {
     }
 
     async fn get(&self, row: &RowName, first: u64) -> Result<Vec<Bytes>, Fault> {
-        let session = self.gets.session().await?;
+        let session = self.hearing.session().await?;
         let texts = session.get(row, first).await;
         if texts.is_err() {
-            self.gets.leave(&session).await;
+            self.hearing.leave(&session).await;
         }
         texts
     }

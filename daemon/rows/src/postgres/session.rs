@@ -1,7 +1,7 @@
 //! What is asked over one connection.
 use super::faults::{fault_of_read, told_of_set};
 use super::table::Table;
-use super::target::{Link, Target, Task};
+use super::target::{Ended, Link, Target, Task};
 use super::tls::MakeTls;
 use crate::engine::{Fault, Told};
 use crate::name::RowName;
@@ -26,14 +26,12 @@ pub(super) struct Session {
     select: Statement,
     confirm: Statement,
     notify: Statement,
-    driver: Task,
+    ended: Ended,
+    _driver: Task,
 }
 
 /// Writes to the log, in a transaction of its own, so that its commit waits for the standbys.
 const CONFIRM: &str = "SELECT pg_logical_emit_message(true, 'rows'::text, ''::text)";
-
-/// A connection over which nothing is asked is asked after so long whether it is there.
-const ASKED_AFTER: Duration = Duration::from_secs(10);
 
 const NOTIFY: &str = "SELECT pg_notify($1, $2)";
 
@@ -61,7 +59,8 @@ impl Session {
             select,
             confirm,
             notify,
-            driver: link.driver,
+            ended: link.ended,
+            _driver: link.driver,
         })
     }
 
@@ -211,16 +210,14 @@ impl Session {
         self.in_time(self.client.batch_execute(&words)).await
     }
 
-    /// Returns once the connection has ended, or the server does not answer.
-    pub(super) async fn stays(&mut self) {
-        while tokio::time::timeout(ASKED_AFTER, &mut self.driver.0)
-            .await
-            .is_err()
-        {
-            if self.in_time(self.client.batch_execute("")).await.is_err() {
-                return;
-            }
-        }
+    /// Tells by an error that the connection has ended, and nothing before.
+    pub(super) fn ended(&self) -> Ended {
+        self.ended.clone()
+    }
+
+    /// Asks the server nothing but an answer.
+    pub(super) async fn is_answered(&self) -> Result<(), Fault> {
+        self.in_time(self.client.batch_execute("")).await
     }
 
     async fn in_time<T>(

@@ -15,6 +15,7 @@ use std::sync::atomic::{AtomicU64, Ordering};
 use std::sync::Arc;
 use std::time::Duration;
 use tokio::io::{AsyncRead, AsyncWrite};
+use tokio::sync::watch;
 use tokio::task::JoinHandle;
 use tokio_postgres::config::SslMode;
 use tokio_postgres::error::Severity;
@@ -108,12 +109,12 @@ impl Target {
         let made = config.connect(self.tls.clone()).await;
         let (client, connection) = made.map_err(|error| fault_of_connect(&error))?;
         let warnings = Arc::new(AtomicU64::new(0));
-        let driven = drive(
-            connection,
-            Arc::clone(&warnings),
-            Arc::clone(&self.followed),
-        );
-        let driver = Task(tokio::spawn(driven));
+        let (ends, ended) = watch::channel(());
+        let (counted, followed) = (Arc::clone(&warnings), Arc::clone(&self.followed));
+        let driver = Task(tokio::spawn(async move {
+            drive(connection, counted, followed).await;
+            drop(ends);
+        }));
         let settings = Settings::ask(&client).await?;
         settings.check()?;
         settings.fix(&client, self.answer_timeout).await?;
@@ -121,6 +122,7 @@ impl Target {
             client,
             settings,
             warnings,
+            ended,
             driver,
         })
     }
@@ -142,9 +144,13 @@ pub(super) struct Link {
     pub(super) client: Client,
     settings: Settings,
     pub(super) warnings: Arc<AtomicU64>,
+    pub(super) ended: Ended,
     /// What reads and writes the socket; without it the connection is closed.
     pub(super) driver: Task,
 }
+
+/// Has an error once the connection has ended, and nothing before.
+pub(super) type Ended = watch::Receiver<()>;
 
 /// What goes on until it is dropped.
 pub(super) struct Task(pub(super) JoinHandle<()>);

@@ -305,6 +305,43 @@ async fn who_waits_for_a_cell_in_vain_has_set_none() {
 }
 
 #[tokio::test]
+async fn an_engine_has_a_connection_that_sets_and_one_that_reads_and_hears() {
+    let store = Killed(Server::start(&[]));
+    let engine = open(store.options()).await;
+    assert_eq!(set(&engine, 1, &["one"]).await, Ok(Told::Set));
+    assert_eq!(all(&engine).await, texts(&["one"]));
+    let operator = store.0.operator().await;
+    let others = "SELECT FROM pg_stat_activity WHERE backend_type = 'client backend' AND pid <> pg_backend_pid()";
+    // That by which the table was made ends a little later.
+    let ended = async {
+        while operator.query(others, &[]).await.unwrap().len() > 2 {
+            sleep(Duration::from_millis(10)).await;
+        }
+    };
+    timeout(Duration::from_secs(60), ended).await.unwrap();
+    assert_eq!(operator.query(others, &[]).await.unwrap().len(), 2);
+    assert_eq!(set(&engine, 2, &["two"]).await, Ok(Told::Set));
+    assert_eq!(all(&engine).await, texts(&["one", "two"]));
+}
+
+#[tokio::test]
+async fn tidings_come_again_after_the_connection_that_hears_was_ended() {
+    let store = Killed(Server::start(&[]));
+    let (writer, reader) = (open(store.options()).await, open(store.options()).await);
+    assert_eq!(set(&writer, 1, &["one"]).await, Ok(Told::Set));
+    let mut tidings = reader.follow(&row()).await.unwrap();
+    let ended = "SELECT pg_terminate_backend(pid) FROM pg_stat_activity WHERE query LIKE 'LISTEN%'";
+    let ended = store.0.operator().await.query(ended, &[]).await.unwrap();
+    assert!(!ended.is_empty());
+    // Of what was set meanwhile nobody has told; that the connection was made anew is a tiding itself.
+    let long = Duration::from_secs(60);
+    timeout(long / 2, tidings.wait(2, long)).await.unwrap();
+    assert_eq!(set(&writer, 2, &["two"]).await, Ok(Told::Set));
+    timeout(long / 2, tidings.wait(2, long)).await.unwrap();
+    assert_eq!(all(&reader).await, texts(&["one", "two"]));
+}
+
+#[tokio::test]
 async fn tidings_come_again_after_the_server_was_killed() {
     let mut store = Killed(Server::start(&[]));
     let (writer, reader) = (open(store.options()).await, open(store.options()).await);
