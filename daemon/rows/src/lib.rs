@@ -8,6 +8,7 @@
 //! Once for all engines: [`sure_set`] finds out what became of a set whose reply was lost; [`cell`] says what stands in a cell of a member's
 //! row, where each names the hash of the one before; and a [`Follower`] gives each cell of a row once, in order, and stops where one is not
 //! what it has to be. A row that has ended is trimmed, down to the cell that ended it, which keeps it from beginning anew.
+mod arrivals;
 pub mod cell;
 mod engine;
 pub mod etcd;

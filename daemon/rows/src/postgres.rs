@@ -10,6 +10,7 @@ mod session;
 mod settings;
 mod table;
 mod target;
+mod telling;
 mod tidings;
 mod tls;
 

@@ -194,7 +194,8 @@ impl Server {
         }
     }
 
-    fn port(&self) -> &str {
+    /// Its port.
+    pub fn port(&self) -> &str {
         let settings = &self.setup.settings;
         let port = settings.iter().find_map(|it| it.strip_prefix("port="));
         port.unwrap_or("5432")

@@ -152,7 +152,7 @@ pub async fn measure(store: &Store, lasts: Duration) {
     left_out(store).await;
     proposed(store).await;
     observed(store, lasts).await;
-    if matches!(store, Store::Files(_)) {
+    if store.is_of_files() {
         at_the_end(store).await;
     }
 }

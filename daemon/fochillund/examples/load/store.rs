@@ -1,7 +1,10 @@
 //! Where the rows are that are measured.
 use rows::{etcd, postgres, Engine, Etcd, Fault, Files, Postgres};
 use servers::etcd::{Cluster, Setup};
+use servers::host::Host;
 use servers::postgres::Server;
+use servers::proxy::Proxy;
+use std::net::TcpListener;
 use std::path::{Path, PathBuf};
 use std::sync::Arc;
 use std::time::Duration;
@@ -10,7 +13,13 @@ use std::time::Duration;
 const BARE: &str = "bare";
 
 /// Rows on this machine.
-pub enum Store {
+pub struct Store {
+    kind: Kind,
+    /// What stands before its servers, where these are far.
+    far: Vec<Proxy>,
+}
+
+enum Kind {
     /// In a folder.
     Files(PathBuf),
     Etcd(Cluster),
@@ -18,36 +27,58 @@ pub enum Store {
 }
 
 impl Store {
-    /// What a word names: a folder, `etcd1` and `etcd3` for clusters of so many, or `postgresql`.
+    /// What a word names: a folder, `etcd1` and `etcd3` for clusters of so many, or `postgresql`. Behind an engine's word `+` and a number is how many
+    /// milliseconds all that is sent to it is under way, and all that it sends.
     pub fn of(word: &str) -> Store {
-        match word {
-            "etcd1" => Store::Etcd(Cluster::begin(1, Setup::default())),
-            "etcd3" => Store::Etcd(Cluster::begin(3, Setup::default())),
-            "postgresql" => Store::Postgres(Server::start(&[])),
-            folder => Store::Files(Path::new(folder).join("load")),
+        let (engine, delay) = word.split_once('+').unwrap_or((word, "0"));
+        let kind = match engine {
+            "etcd1" => Kind::Etcd(Cluster::begin(1, Setup::default())),
+            "etcd3" => Kind::Etcd(Cluster::begin(3, Setup::default())),
+            "postgresql" if delay == "0" => Kind::Postgres(Server::start(&[])),
+            "postgresql" => Kind::Postgres(Server::start(&[
+                "listen_addresses=127.0.0.1",
+                &format!("port={}", free_port()),
+            ])),
+            _ => Kind::Files(Path::new(word).join("load")),
+        };
+        let delay = Duration::from_millis(delay.parse().unwrap_or(0));
+        Store {
+            far: far(&kind, delay),
+            kind,
         }
+    }
+
+    pub fn is_of_files(&self) -> bool {
+        matches!(self.kind, Kind::Files(_))
     }
 
     /// Where the processes of a group have their folder.
     pub fn folder(&self) -> PathBuf {
-        match self {
-            Store::Files(folder) => folder.clone(),
-            Store::Etcd(_) | Store::Postgres(_) => std::env::temp_dir().join("load"),
+        match &self.kind {
+            Kind::Files(folder) => folder.clone(),
+            Kind::Etcd(_) | Kind::Postgres(_) => std::env::temp_dir().join("load"),
         }
     }
 
     fn place(&self) -> String {
-        match self {
-            Store::Files(folder) => folder.display().to_string(),
-            Store::Etcd(cluster) => cluster.urls(),
-            Store::Postgres(server) => server.url("operator"),
+        let far: Vec<String> = self.far.iter().map(Proxy::address).collect();
+        match &self.kind {
+            Kind::Files(folder) => folder.display().to_string(),
+            Kind::Etcd(cluster) if far.is_empty() => cluster.urls(),
+            Kind::Etcd(_) => far
+                .iter()
+                .map(|it| format!("http://{it}"))
+                .collect::<Vec<_>>()
+                .join(","),
+            Kind::Postgres(server) if far.is_empty() => server.url("operator"),
+            Kind::Postgres(_) => format!("postgresql://operator@{}/postgres", far[0]),
         }
     }
 
     /// By which words a process of a group finds its rows.
     pub fn words(&self, group: &str) -> Vec<String> {
-        let place = match self {
-            Store::Files(folder) => folder.join(group).display().to_string(),
+        let place = match &self.kind {
+            Kind::Files(folder) => folder.join(group).display().to_string(),
             _ => self.place(),
         };
         let words = ["--rows", &place, "--group", group];
@@ -66,18 +97,39 @@ impl Store {
 
     async fn opened(&self) -> Result<Arc<dyn Engine>, Fault> {
         let place = self.place();
-        Ok(match self {
-            Store::Files(folder) => Arc::new(Files::of(folder.join(BARE))),
-            Store::Etcd(_) => {
+        Ok(match &self.kind {
+            Kind::Files(folder) => Arc::new(Files::of(folder.join(BARE))),
+            Kind::Etcd(_) => {
                 let urls = place.split(',').map(|url| url.parse().expect("a URL"));
                 let options = etcd::Options::of(urls.collect(), BARE);
                 Arc::new(Etcd::open(options).await?)
             }
-            Store::Postgres(_) => {
+            Kind::Postgres(_) => {
                 let mut options = postgres::Options::of(place);
                 options.schema = BARE.to_owned();
                 Arc::new(Postgres::open(options).await?)
             }
         })
     }
+}
+
+/// What delays all that is sent to the servers, and all that they send.
+fn far(kind: &Kind, delay: Duration) -> Vec<Proxy> {
+    let servers: Vec<String> = match kind {
+        _ if delay.is_zero() => Vec::new(),
+        Kind::Files(_) => Vec::new(),
+        Kind::Etcd(cluster) => cluster.addresses().collect(),
+        Kind::Postgres(server) => vec![format!("127.0.0.1:{}", server.port())],
+    };
+    let before = |server: &String| {
+        let proxy = Proxy::on(&Host::default(), server);
+        proxy.set_delay(delay);
+        proxy
+    };
+    servers.iter().map(before).collect()
+}
+
+fn free_port() -> u16 {
+    let listens = TcpListener::bind("127.0.0.1:0").and_then(|it| it.local_addr());
+    listens.expect("a port").port()
 }

@@ -7,16 +7,15 @@ use super::failure::Failure;
 use super::gateway::{body_of, Gateway};
 use super::keys::Keys;
 use super::messages::{Event, Happened, Line, Watch, Watched, WATCH};
-use super::PAGE;
+use crate::arrivals::Arrivals;
 use crate::engine::{Fault, Tidings};
 use crate::name::RowName;
 use async_trait::async_trait;
 use bytes::{Bytes, BytesMut};
 use hyper::body::{to_bytes, HttpBody};
 use hyper::{Body, Response, StatusCode};
-use std::sync::{Arc, Mutex, MutexGuard, PoisonError};
+use std::sync::Arc;
 use std::time::Duration;
-use tokio::sync::Notify;
 use tokio::task::JoinSet;
 use tokio::time::{sleep, timeout};
 
@@ -28,7 +27,7 @@ const LONGEST_PAUSE: Duration = Duration::from_secs(2);
 
 /// Tells what the watch tells.
 pub(super) struct Watching {
-    told: Arc<Told>,
+    arrivals: Arc<Arrivals>,
     /// What reads the watch ends with this.
     _reading: JoinSet<()>,
 }
@@ -43,11 +42,11 @@ impl Watching {
             Err(Failure::Denied(why)) => return Err(Fault::Refused(why)),
             begun => begun.ok(),
         };
-        let told = Arc::new(Told::default());
+        let arrivals = Arc::new(Arrivals::default());
         let mut reading = JoinSet::new();
-        reading.spawn(row.read_on(lines, Arc::clone(&told)));
+        reading.spawn(row.read_on(lines, Arc::clone(&arrivals)));
         Ok(Watching {
-            told,
+            arrivals,
             _reading: reading,
         })
     }
@@ -56,55 +55,7 @@ impl Watching {
 #[async_trait]
 impl Tidings for Watching {
     async fn wait(&mut self, next: u64, longest: Duration) -> Vec<Bytes> {
-        let told = timeout(longest, self.told.next(next)).await;
-        told.unwrap_or_default()
-    }
-}
-
-/// What was told and not taken yet.
-#[derive(Default)]
-struct Told {
-    cells: Mutex<Cells>,
-    is_new: Notify,
-}
-
-/// Cells, by their numbers, as they were told.
-#[derive(Default)]
-struct Cells {
-    told: Vec<(u64, Bytes)>,
-    /// Whether there may be others.
-    are_more: bool,
-}
-
-impl Told {
-    fn cells(&self) -> MutexGuard<'_, Cells> {
-        self.cells.lock().unwrap_or_else(PoisonError::into_inner)
-    }
-
-    /// These cells are set, or others.
-    fn put(&self, told: Option<Vec<(u64, Bytes)>>) {
-        let mut cells = self.cells();
-        match told {
-            Some(told) if cells.told.len() < PAGE as usize => cells.told.extend(told),
-            _ => cells.are_more = true,
-        }
-        self.is_new.notify_one();
-    }
-
-    /// What was told of cells from a number on, once something is: the texts, or none where others may be there before them.
-    async fn next(&self, next: u64) -> Vec<Bytes> {
-        loop {
-            let Cells { mut told, are_more } = std::mem::take(&mut *self.cells());
-            told.retain(|(number, _)| *number >= next);
-            let follows = |((number, _), expected): (&(u64, Bytes), u64)| *number == expected;
-            if are_more || !told.iter().zip(next..).all(follows) {
-                return Vec::new();
-            }
-            if !told.is_empty() {
-                return told.into_iter().map(|(_, text)| text).collect();
-            }
-            self.is_new.notified().await;
-        }
+        self.arrivals.wait(next, longest).await
     }
 }
 
@@ -119,20 +70,23 @@ pub(super) struct Row {
 
 impl Row {
     /// Tells each line of a watch, and of the next one where it ends.
-    async fn read_on(self, mut lines: Option<Lines>, told: Arc<Told>) {
+    async fn read_on(self, mut lines: Option<Lines>, arrivals: Arc<Arrivals>) {
         let mut pause = FIRST_PAUSE;
         loop {
             if let Some(mut lines) = lines {
                 while let Ok(happened) = self.next(&mut lines).await {
                     pause = FIRST_PAUSE;
-                    told.put(self.cells_of(happened));
+                    match self.cells_of(happened) {
+                        Some(come) => arrivals.put(come),
+                        None => arrivals.may_be_more(),
+                    }
                 }
             }
             sleep(pause).await;
             pause = LONGEST_PAUSE.min(pause * 2);
             lines = self.watch().await.ok();
             if lines.is_some() {
-                told.put(None);
+                arrivals.may_be_more();
             }
         }
     }

@@ -2,6 +2,8 @@
 use super::faults::{fault_of_read, told_of_set};
 use super::table::Table;
 use super::target::{Ended, Link, Target, Task};
+use super::telling;
+use super::tidings::{tiding, Followed};
 use super::tls::MakeTls;
 use crate::engine::{Fault, Told};
 use crate::name::RowName;
@@ -25,7 +27,8 @@ pub(super) struct Session {
     insert: Statement,
     select: Statement,
     confirm: Statement,
-    notify: Statement,
+    telling: Telling,
+    followed: Arc<Followed>,
     ended: Ended,
     _driver: Task,
 }
@@ -34,6 +37,24 @@ pub(super) struct Session {
 const CONFIRM: &str = "SELECT pg_logical_emit_message(true, 'rows'::text, ''::text)";
 
 const NOTIFY: &str = "SELECT pg_notify($1, $2)";
+
+/// By which statement others are told of a set.
+enum Telling {
+    /// The schema's function, which tells the texts too.
+    Texts(Statement),
+    /// NOTIFY, on the channel that anybody may tell on: the numbers alone.
+    Numbers(Statement),
+}
+
+impl Telling {
+    async fn of(client: &Client, schema: &str) -> Result<Telling, tokio_postgres::Error> {
+        let there = client.query_one(&telling::is_there(schema), &[]).await?;
+        Ok(match there.get(0) {
+            true => Telling::Texts(client.prepare(&telling::tell(schema)).await?),
+            false => Telling::Numbers(client.prepare(NOTIFY).await?),
+        })
+    }
+}
 
 impl Session {
     pub(super) async fn of(target: &Target, link: Link) -> Result<Session, Fault> {
@@ -44,11 +65,11 @@ impl Session {
                 client.prepare_typed(&table.insert(), &types).await?,
                 client.prepare_typed(&table.select(), &types[..2]).await?,
                 client.prepare(CONFIRM).await?,
-                client.prepare(NOTIFY).await?,
+                Telling::of(client, table.schema()).await?,
             ))
         };
         let prepared: Result<_, tokio_postgres::Error> = prepared.await;
-        let (insert, select, confirm, notify) = prepared.map_err(|error| fault_of_read(&error))?;
+        let (insert, select, confirm, telling) = prepared.map_err(|error| fault_of_read(&error))?;
         Ok(Session {
             client: link.client,
             warnings: link.warnings,
@@ -58,7 +79,8 @@ impl Session {
             insert,
             select,
             confirm,
-            notify,
+            telling,
+            followed: Arc::clone(&target.followed),
             ended: link.ended,
             _driver: link.driver,
         })
@@ -87,7 +109,9 @@ impl Session {
         let cells: Vec<&[u8]> = texts.iter().map(AsRef::as_ref).collect();
         let words: [&(dyn ToSql + Sync); 3] = [&row.as_str(), &number, &cells];
         let warned = self.warned();
-        let asked = self.told_behind(row, self.client.execute(&self.insert, &words));
+        let last = number.saturating_add(texts.len() as i64 - 1);
+        let asked = self.client.execute(&self.insert, &words);
+        let asked = self.told_behind(row, (number, last), asked);
         match tokio::time::timeout(self.patience, asked).await {
             Err(_) => {
                 tracing::warn!("PostgreSQL: a set of {row} was not answered in time");
@@ -106,14 +130,38 @@ impl Session {
         }
     }
 
-    /// Asks this, and tells all who listen that the row may have more cells once the server has answered it. Returns with its answer.
-    async fn told_behind<T>(&self, row: &RowName, asked: impl Future<Output = T>) -> T {
-        let words: [&(dyn ToSql + Sync); 2] = [&self.table.channel(), &row.as_str()];
-        let told = self.client.execute(&self.notify, &words);
+    /// Asks for cells of these numbers to be set, and has others told of them once the server has answered that. Returns with its answer.
+    async fn told_behind<T>(
+        &self,
+        row: &RowName,
+        (first, last): (i64, i64),
+        asked: impl Future<Output = T>,
+    ) -> T {
+        let told = self.tell(row, first, last);
         pin_mut!(asked, told);
         match select(asked, told).await {
             Either::Left((answered, _)) => answered,
             Either::Right((_, asked)) => asked.await,
+        }
+    }
+
+    async fn tell(
+        &self,
+        row: &RowName,
+        first: i64,
+        last: i64,
+    ) -> Result<u64, tokio_postgres::Error> {
+        match &self.telling {
+            Telling::Texts(tell) => {
+                let deaf = self.followed.deaf_to(row).unwrap_or_default();
+                let words: [&(dyn ToSql + Sync); 4] = [&row.as_str(), &first, &last, &deaf];
+                self.client.execute(tell, &words).await
+            }
+            Telling::Numbers(notify) => {
+                let tiding = tiding(row, last.unsigned_abs());
+                let words: [&(dyn ToSql + Sync); 2] = [&self.table.schema(), &tiding];
+                self.client.execute(notify, &words).await
+            }
         }
     }
 
@@ -205,9 +253,20 @@ impl Session {
         }
     }
 
-    pub(super) async fn listen(&self) -> Result<(), Fault> {
-        let words = format!(r#"LISTEN "{}""#, self.table.channel());
-        self.in_time(self.client.batch_execute(&words)).await
+    /// Has the connection hear tidings: on a channel of its own, which it gives, or else on that of all.
+    pub(super) async fn listen(&self) -> Result<Option<String>, Fault> {
+        let schema = self.table.schema();
+        if let Telling::Texts(_) = self.telling {
+            let hear = telling::hear(schema);
+            let heard = self.in_time(self.client.query_one(&hear, &[])).await?;
+            let channel: Option<String> = heard.get(0);
+            if channel.is_some() {
+                return Ok(channel);
+            }
+        }
+        let words = format!(r#"LISTEN "{schema}""#);
+        self.in_time(self.client.batch_execute(&words)).await?;
+        Ok(None)
     }
 
     /// Tells by an error that the connection has ended, and nothing before.

@@ -94,6 +94,8 @@ impl Settings {
             "SET plan_cache_mode = force_generic_plan".to_owned(),
             "SET enable_seqscan = off".to_owned(),
             "SET enable_bitmapscan = off".to_owned(),
+            // A statement that has to go by no key, as that of tidings, is none that is worth to be compiled.
+            "SET jit = off".to_owned(),
         ];
         let fixed = client.batch_execute(&words.join("; ")).await;
         fixed.map_err(|error| fault_of_read(&error))

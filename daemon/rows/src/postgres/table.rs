@@ -1,5 +1,6 @@
 //! The table of the cells: how it is made, what it has to be, and what is asked of it.
 use super::faults::{fault_of_read, rolled_back};
+use super::telling;
 use crate::engine::Fault;
 use tokio_postgres::error::SqlState;
 use tokio_postgres::Client;
@@ -46,8 +47,8 @@ impl Table {
         }
     }
 
-    /// The channel of its tidings.
-    pub(super) fn channel(&self) -> &str {
+    /// The schema, which is the channel of its tidings too.
+    pub(super) fn schema(&self) -> &str {
         &self.schema
     }
 
@@ -117,12 +118,14 @@ impl Table {
 
     fn making(&self) -> String {
         let (schema, cells) = (&self.schema, self.name());
+        let telling = telling::making(schema);
         format!(
             r#"DO $$ BEGIN
                 IF to_regnamespace('"{schema}"') IS NULL THEN CREATE SCHEMA "{schema}"; END IF;
             END $$;
             CREATE TABLE {cells} (row text COLLATE "C" NOT NULL, number bigint NOT NULL CHECK (number > 0), text bytea NOT NULL,
-                PRIMARY KEY (row, number))"#
+                PRIMARY KEY (row, number));
+            {telling}"#
         )
     }
 
@@ -187,6 +190,7 @@ fn is_race(error: &tokio_postgres::Error) -> bool {
             SqlState::UNIQUE_VIOLATION,
             SqlState::DUPLICATE_SCHEMA,
             SqlState::DUPLICATE_TABLE,
+            SqlState::DUPLICATE_FUNCTION,
             SqlState::T_R_DEADLOCK_DETECTED,
         ]
         .contains(told.code())

@@ -110,9 +110,13 @@ impl Target {
         let (client, connection) = made.map_err(|error| fault_of_connect(&error))?;
         let warnings = Arc::new(AtomicU64::new(0));
         let (ends, ended) = watch::channel(());
-        let (counted, followed) = (Arc::clone(&warnings), Arc::clone(&self.followed));
+        let heard = Heard {
+            warnings: Arc::clone(&warnings),
+            followed: Arc::clone(&self.followed),
+            open_channel: self.table.schema().to_owned(),
+        };
         let driver = Task(tokio::spawn(async move {
-            drive(connection, counted, followed).await;
+            drive(connection, heard).await;
             drop(ends);
         }));
         let settings = Settings::ask(&client).await?;
@@ -161,28 +165,40 @@ impl Drop for Task {
     }
 }
 
-/// Moves what is asked and answered, counts warnings and wakes who follows a row of which there are tidings. What the server told before an answer
-/// was counted before the answer is had.
-async fn drive<S, T>(
-    mut connection: Connection<S, T>,
+/// What is heard over a connection beside the answers.
+struct Heard {
     warnings: Arc<AtomicU64>,
     followed: Arc<Followed>,
-) where
+    /// On which channel anybody may tell. The connection listens there, or on one of its own, on which the server alone tells.
+    open_channel: String,
+}
+
+impl Heard {
+    fn hear(&self, message: AsyncMessage) {
+        match message {
+            AsyncMessage::Notice(notice) if notice.parsed_severity() == Some(Severity::Warning) => {
+                tracing::warn!("PostgreSQL: {}", notice.message());
+                self.warnings.fetch_add(1, Ordering::SeqCst);
+            }
+            AsyncMessage::Notification(told) => {
+                let is_sure = told.channel() != self.open_channel;
+                self.followed.tell(told.payload(), is_sure);
+            }
+            _ => {}
+        }
+    }
+}
+
+/// Moves what is asked and answered, counts warnings and wakes who follows a row of which there are tidings. What the server told before an answer
+/// was counted before the answer is had.
+async fn drive<S, T>(mut connection: Connection<S, T>, heard: Heard)
+where
     S: AsyncRead + AsyncWrite + Unpin,
     T: AsyncRead + AsyncWrite + Unpin,
 {
     loop {
         match poll_fn(|context| connection.poll_message(context)).await {
-            Some(Ok(AsyncMessage::Notice(notice))) => {
-                if notice.parsed_severity() == Some(Severity::Warning) {
-                    tracing::warn!("PostgreSQL: {}", notice.message());
-                    warnings.fetch_add(1, Ordering::SeqCst);
-                }
-            }
-            Some(Ok(AsyncMessage::Notification(told))) => {
-                followed.tell(told.payload());
-            }
-            Some(Ok(_)) => {}
+            Some(Ok(message)) => heard.hear(message),
             Some(Err(error)) => {
                 tracing::debug!("PostgreSQL: a connection ends: {error}");
                 return;

@@ -1,14 +1,13 @@
 //! Tidings: what NOTIFY tells. One that is lost delays until the next sweep.
 use super::session::Session;
 use super::target::{Target, Task};
+use crate::arrivals::Arrivals;
 use crate::engine::{Fault, Tidings};
 use crate::name::RowName;
-use async_trait::async_trait;
-use bytes::Bytes;
 use std::collections::HashMap;
-use std::sync::{self, Arc, MutexGuard, PoisonError};
+use std::sync::{self, Arc, MutexGuard, PoisonError, Weak};
 use std::time::Duration;
-use tokio::sync::{watch, Mutex};
+use tokio::sync::Mutex;
 use tokio::time::{sleep, timeout};
 
 const PAUSE: Duration = Duration::from_millis(500);
@@ -16,32 +15,76 @@ const PAUSE: Duration = Duration::from_millis(500);
 /// After so long a server is asked whether it still answers.
 const ASKED_AFTER: Duration = Duration::from_secs(10);
 
-/// The rows that are followed, and what wakes who follows each of them.
+/// What is told of a row on the channel that anybody may hear and tell on: that its cells up to this number may be set.
+pub(super) fn tiding(row: &RowName, last: u64) -> String {
+    format!("{row} {last}")
+}
+
+type Rows = HashMap<String, Vec<Weak<Arrivals>>>;
+
+/// The rows that are followed, and who follows each of them.
 #[derive(Default)]
-pub(super) struct Followed(sync::Mutex<HashMap<String, watch::Sender<()>>>);
+pub(super) struct Followed {
+    rows: sync::Mutex<Rows>,
+    /// The channel on which the server tells texts to the connection that hears; none where it does not.
+    channel: sync::Mutex<Option<String>>,
+}
 
 impl Followed {
-    fn rows(&self) -> MutexGuard<'_, HashMap<String, watch::Sender<()>>> {
-        self.0.lock().unwrap_or_else(PoisonError::into_inner)
+    fn rows(&self) -> MutexGuard<'_, Rows> {
+        self.rows.lock().unwrap_or_else(PoisonError::into_inner)
+    }
+
+    fn hear_on(&self, channel: Option<String>) {
+        *self.channel.lock().unwrap_or_else(PoisonError::into_inner) = channel;
+    }
+
+    /// On which channel a set of cells in this row need not be told: on that of this process, where it does not follow the row.
+    pub(super) fn deaf_to(&self, row: &RowName) -> Option<String> {
+        let following = self.rows();
+        let mut following = following.get(row.as_str()).into_iter().flatten();
+        if following.any(|it| it.strong_count() > 0) {
+            return None;
+        }
+        let channel = self.channel.lock();
+        channel.unwrap_or_else(PoisonError::into_inner).clone()
     }
 
     pub(super) fn follow(&self, row: &RowName) -> Box<dyn Tidings> {
+        let arrivals = Arc::new(Arrivals::default());
         let mut rows = self.rows();
-        let told = rows.entry(row.as_str().to_owned());
-        let told = told.or_insert_with(|| watch::channel(()).0);
-        Box::new(RowTidings(told.subscribe()))
+        let following = rows.entry(row.as_str().to_owned()).or_default();
+        following.retain(|it| it.strong_count() > 0);
+        following.push(Arc::downgrade(&arrivals));
+        Box::new(arrivals)
     }
 
-    /// A row may have more cells.
-    pub(super) fn tell(&self, row: &str) {
-        if let Some(told) = self.rows().get(row) {
-            told.send_replace(());
+    /// A tiding came: the row, a number, and the cell's text in hexadecimal where it comes along. `is_sure` says whether the server alone can have told it:
+    /// else nothing but the number is heard. What is no tiding is not heard at all.
+    pub(super) fn tell(&self, tiding: &str, is_sure: bool) {
+        let mut words = tiding.split(' ');
+        let (Some(row), Some(number)) = (words.next(), words.next()) else {
+            return;
+        };
+        let Ok(number) = number.parse() else {
+            return;
+        };
+        let text = words.next().filter(|_| is_sure);
+        let text = text.and_then(|text| hex::decode(text).ok());
+        let rows = self.rows();
+        let following = rows.get(row).into_iter().flatten();
+        for arrivals in following.filter_map(Weak::upgrade) {
+            match &text {
+                Some(text) => arrivals.put(vec![(number, text.clone().into())]),
+                None => arrivals.reach(number),
+            }
         }
     }
 
+    /// Tidings may have been lost.
     fn tell_all(&self) {
-        for told in self.rows().values() {
-            told.send_replace(());
+        for arrivals in { self.rows().values() }.flatten().filter_map(Weak::upgrade) {
+            arrivals.may_be_more();
         }
     }
 }
@@ -76,7 +119,7 @@ impl Hearing {
             return Ok(Arc::clone(session));
         }
         let session = self.target.connect().await?;
-        session.listen().await?;
+        self.target.followed.hear_on(session.listen().await?);
         let session = Arc::new(session);
         *place = Some(Arc::clone(&session));
         self.target.followed.tell_all();
@@ -113,20 +156,5 @@ impl Hearing {
             }
         }
         Ok(())
-    }
-}
-
-/// Tidings of one row.
-struct RowTidings(watch::Receiver<()>);
-
-#[async_trait]
-impl Tidings for RowTidings {
-    async fn wait(&mut self, _next: u64, longest: Duration) -> Vec<Bytes> {
-        match timeout(longest, self.0.changed()).await {
-            Ok(Ok(())) | Err(_) => {}
-            // The engine is gone: nobody tells any more.
-            Ok(Err(_)) => sleep(longest).await,
-        }
-        Vec::new()
     }
 }

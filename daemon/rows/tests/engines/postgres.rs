@@ -2,6 +2,7 @@
 mod refusals;
 mod server;
 mod standby;
+mod telling;
 mod tls;
 
 use crate::conformance::{self, all, row, set, texts};
@@ -330,7 +331,7 @@ async fn tidings_come_again_after_the_connection_that_hears_was_ended() {
     let (writer, reader) = (open(store.options()).await, open(store.options()).await);
     assert_eq!(set(&writer, 1, &["one"]).await, Ok(Told::Set));
     let mut tidings = reader.follow(&row()).await.unwrap();
-    let ended = "SELECT pg_terminate_backend(pid) FROM pg_stat_activity WHERE query LIKE 'LISTEN%'";
+    let ended = "SELECT pg_terminate_backend(pid) FROM pg_stat_activity WHERE query LIKE '%hear_cells%' AND pid <> pg_backend_pid()";
     let ended = store.0.operator().await.query(ended, &[]).await.unwrap();
     assert!(!ended.is_empty());
     // Of what was set meanwhile nobody has told; that the connection was made anew is a tiding itself.

@@ -76,6 +76,18 @@ async fn a_set_is_told_when_the_standby_has_it() {
 }
 
 #[tokio::test]
+async fn no_text_comes_along_where_a_set_waits_for_a_standby() {
+    let pair = Pair::start().await;
+    let (writer, reader) = (open(pair.options()).await, open(pair.options()).await);
+    let mut tidings = reader.follow(&row()).await.unwrap();
+    let long = Duration::from_secs(60);
+    assert_eq!(set(&writer, 1, &["one"]).await, Ok(Told::Set));
+    let told = timeout(long / 2, tidings.wait(1, long)).await.unwrap();
+    assert!(told.is_empty(), "{told:?}");
+    assert_eq!(all(&reader).await, texts(&["one"]));
+}
+
+#[tokio::test]
 async fn what_the_standby_may_not_have_is_not_shown() {
     let mut pair = Pair::start().await;
     pair.primary
