@@ -1,13 +1,14 @@
 //! What stands between a client and a server, and delays and cuts what goes through: so requests are lost, and replies.
 use crate::host::Host;
+use nix::sys::timerfd::{ClockId, Expiration, TimerFd, TimerFlags, TimerSetTimeFlags};
 use std::sync::atomic::{AtomicU64, Ordering};
 use std::sync::Arc;
-use std::time::Duration;
+use std::time::{Duration, Instant};
+use tokio::io::unix::AsyncFd;
 use tokio::io::{AsyncRead, AsyncReadExt, AsyncWrite, AsyncWriteExt};
 use tokio::net::{TcpListener, TcpStream};
 use tokio::sync::{mpsc, oneshot, Notify};
 use tokio::task::JoinSet;
-use tokio::time::{sleep_until, Instant};
 
 /// How many pieces of a connection are under way.
 const ROOM: usize = 64;
@@ -23,7 +24,7 @@ pub struct Proxy {
 #[derive(Default)]
 struct Befalls {
     cut: Notify,
-    /// For how long what is sent is under way, in milliseconds.
+    /// For how long what is sent is under way, in microseconds.
     delay: AtomicU64,
 }
 
@@ -66,7 +67,7 @@ impl Proxy {
 
     /// Has all that is sent from now on be under way for so long, in each direction.
     pub fn set_delay(&self, delay: Duration) {
-        let delay = delay.as_millis() as u64;
+        let delay = delay.as_micros() as u64;
         self.befalls.delay.store(delay, Ordering::SeqCst);
     }
 }
@@ -106,10 +107,11 @@ async fn bring_on(
     befalls: &Befalls,
 ) {
     let (send, mut under_way) = mpsc::channel::<(Instant, Vec<u8>)>(ROOM);
+    let alarm = Alarm::new();
     let reads = async {
         let mut piece = vec![0; 1 << 16];
         while let Ok(length @ 1..) = from.read(&mut piece).await {
-            let delay = Duration::from_millis(befalls.delay.load(Ordering::SeqCst));
+            let delay = Duration::from_micros(befalls.delay.load(Ordering::SeqCst));
             let sent = send.send((Instant::now() + delay, piece[..length].to_vec()));
             if sent.await.is_err() {
                 return;
@@ -118,7 +120,7 @@ async fn bring_on(
     };
     let writes = async {
         while let Some((at, piece)) = under_way.recv().await {
-            sleep_until(at).await;
+            alarm.rings_at(at).await;
             if to.write_all(&piece).await.is_err() {
                 return;
             }
@@ -127,5 +129,28 @@ async fn bring_on(
     tokio::select! {
         () = reads => {}
         () = writes => {}
+    }
+}
+
+/// Rings at a moment: the runtime's own clock counts whole milliseconds.
+struct Alarm(AsyncFd<TimerFd>);
+
+impl Alarm {
+    fn new() -> Alarm {
+        let flags = TimerFlags::TFD_NONBLOCK | TimerFlags::TFD_CLOEXEC;
+        let timer = TimerFd::new(ClockId::CLOCK_MONOTONIC, flags).unwrap();
+        Alarm(AsyncFd::new(timer).unwrap())
+    }
+
+    async fn rings_at(&self, at: Instant) {
+        let left = at.saturating_duration_since(Instant::now());
+        if left.is_zero() {
+            return;
+        }
+        let (timer, once) = (self.0.get_ref(), Expiration::OneShot(left.into()));
+        timer.set(once, TimerSetTimeFlags::empty()).unwrap();
+        let mut rings = self.0.readable().await.unwrap();
+        timer.wait().unwrap();
+        rings.clear_ready();
     }
 }

@@ -2,7 +2,7 @@
 //!
 //!     cargo run --release --example load -- FOLDER|etcd1|etcd3|postgresql [SECONDS [calls|generations]]
 //!
-//! Behind an engine's word stands `+2` for one from which, and to which, all is under way for 2 ms.
+//! Behind an engine's word stands `+0.5` for one from which, and to which, all is under way for half a millisecond.
 //!
 //! Prints how long half of the bare sets took at most, and of the bare exchanges: [`exchange::bare_exchange`] says what these are. Then a line for one
 //! caller and one for 64: calls a second; how long half of the calls took at most, and 99 of 100, in milliseconds; the first of

@@ -41,7 +41,7 @@ impl Store {
             ])),
             _ => Kind::Files(Path::new(word).join("load")),
         };
-        let delay = Duration::from_millis(delay.parse().unwrap_or(0));
+        let delay = Duration::from_secs_f64(delay.parse().unwrap_or(0.0) / 1000.0);
         Store {
             far: far(&kind, delay),
             kind,
