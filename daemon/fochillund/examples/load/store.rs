@@ -27,18 +27,20 @@ enum Kind {
 }
 
 impl Store {
-    /// What a word names: a folder, `etcd1` and `etcd3` for clusters of so many, or `postgresql`. Behind an engine's word `+` and a number is how many
-    /// milliseconds all that is sent to it is under way, and all that it sends.
+    /// What a word names: a folder, `etcd1` and `etcd3` for clusters of so many, or `postgresql`, behind which stand settings `,name=value` of the server.
+    /// Behind an engine's word `+` and a number is how many milliseconds all that is sent to it is under way, and all that it sends.
     pub fn of(word: &str) -> Store {
         let (engine, delay) = word.split_once('+').unwrap_or((word, "0"));
+        let (engine, settings) = engine.split_once(',').unwrap_or((engine, ""));
+        let mut settings: Vec<&str> = settings.split_terminator(',').collect();
+        let port = format!("port={}", free_port());
+        if delay != "0" {
+            settings.extend(["listen_addresses=127.0.0.1", &port]);
+        }
         let kind = match engine {
             "etcd1" => Kind::Etcd(Cluster::begin(1, Setup::default())),
             "etcd3" => Kind::Etcd(Cluster::begin(3, Setup::default())),
-            "postgresql" if delay == "0" => Kind::Postgres(Server::start(&[])),
-            "postgresql" => Kind::Postgres(Server::start(&[
-                "listen_addresses=127.0.0.1",
-                &format!("port={}", free_port()),
-            ])),
+            "postgresql" => Kind::Postgres(Server::start(&settings)),
             _ => Kind::Files(Path::new(word).join("load")),
         };
         let delay = Duration::from_secs_f64(delay.parse().unwrap_or(0.0) / 1000.0);

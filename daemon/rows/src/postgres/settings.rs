@@ -90,6 +90,8 @@ impl Settings {
             // A row is read for as long as cells come.
             "SET statement_timeout = 0".to_owned(),
             "SET idle_session_timeout = 0".to_owned(),
+            // Where the server has commits wait for others (commit_delay), these do however few there are: members set at one time, and are few.
+            "SET commit_siblings = 0".to_owned(),
             // Each statement is planned once, and goes by the key, however large the table is: planning takes longer than the reading of a cell.
             "SET plan_cache_mode = force_generic_plan".to_owned(),
             "SET enable_seqscan = off".to_owned(),

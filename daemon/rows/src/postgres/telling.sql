@@ -15,9 +15,9 @@ END $$;
 CREATE FUNCTION fochillun.tell_cells(of_row text, first bigint, last bigint, but text) RETURNS void
 LANGUAGE plpgsql SECURITY DEFINER SET search_path = pg_catalog AS $$
 BEGIN
-    PERFORM pg_notify(channel, concat_ws(' ', row, number, CASE WHEN octet_length(text) <= 3900
+    PERFORM pg_notify(channel, concat_ws(' ', row, number, CASE WHEN octet_length(encode(text, 'escape')) <= 7800
             AND current_setting('synchronous_standby_names') = '' AND pg_notification_queue_usage() < 0.01
-            THEN encode(text, 'hex') END))
+            THEN '=' || encode(text, 'escape') END))
         FROM fochillun.hearers, fochillun.cells
         WHERE row = of_row AND number BETWEEN first AND least(last, first + 99) AND channel <> but
         ORDER BY number;

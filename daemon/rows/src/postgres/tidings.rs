@@ -4,6 +4,7 @@ use super::target::{Target, Task};
 use crate::arrivals::Arrivals;
 use crate::engine::{Fault, Tidings};
 use crate::name::RowName;
+use bytes::Bytes;
 use std::collections::HashMap;
 use std::sync::{self, Arc, MutexGuard, PoisonError, Weak};
 use std::time::Duration;
@@ -59,10 +60,10 @@ impl Followed {
         Box::new(arrivals)
     }
 
-    /// A tiding came: the row, a number, and the cell's text in hexadecimal where it comes along. `is_sure` says whether the server alone can have told it:
+    /// A tiding came: the row, a number, and the cell's text behind `=` where it comes along. `is_sure` says whether the server alone can have told it:
     /// else nothing but the number is heard. What is no tiding is not heard at all.
     pub(super) fn tell(&self, tiding: &str, is_sure: bool) {
-        let mut words = tiding.split(' ');
+        let mut words = tiding.splitn(3, ' ');
         let (Some(row), Some(number)) = (words.next(), words.next()) else {
             return;
         };
@@ -70,12 +71,12 @@ impl Followed {
             return;
         };
         let text = words.next().filter(|_| is_sure);
-        let text = text.and_then(|text| hex::decode(text).ok());
+        let text = text.and_then(|text| unescaped(text.strip_prefix('=')?));
         let rows = self.rows();
         let following = rows.get(row).into_iter().flatten();
         for arrivals in following.filter_map(Weak::upgrade) {
             match &text {
-                Some(text) => arrivals.put(vec![(number, text.clone().into())]),
+                Some(text) => arrivals.put(vec![(number, text.clone())]),
                 None => arrivals.reach(number),
             }
         }
@@ -87,6 +88,23 @@ impl Followed {
             arrivals.may_be_more();
         }
     }
+}
+
+/// The bytes of which PostgreSQL's `encode(.., 'escape')` has made this text; none where it has not: a backslash stands before another one, or before
+/// the three octal digits of a byte.
+fn unescaped(told: &str) -> Option<Bytes> {
+    let (mut bytes, mut rest) = (Vec::with_capacity(told.len()), told);
+    while let Some((plain, escaped)) = rest.split_once('\\') {
+        bytes.extend_from_slice(plain.as_bytes());
+        let (byte, length) = match escaped.strip_prefix('\\') {
+            Some(_) => (b'\\', 1),
+            None => (u8::from_str_radix(escaped.get(..3)?, 8).ok()?, 3),
+        };
+        bytes.push(byte);
+        rest = &escaped[length..];
+    }
+    bytes.extend_from_slice(rest.as_bytes());
+    Some(bytes.into())
 }
 
 /// A connection that hears tidings, over which rows are read too: several gets at a time, each sent behind the others, which waits for none of them. So
@@ -156,5 +174,26 @@ impl Hearing {
             }
         }
         Ok(())
+    }
+}
+
+#[cfg(test)]
+mod tests {
+    use super::unescaped;
+
+    #[test]
+    fn what_was_escaped_is_read_back() {
+        let read = |told: &str| unescaped(told).map(|bytes| bytes.to_vec());
+        for (told, bytes) in [
+            ("", &b""[..]),
+            ("{\"a b\":1}", b"{\"a b\":1}"),
+            (r"\\n\\\\", br"\n\\"),
+            (r"\000x\3777", b"\0x\xff7"),
+        ] {
+            assert_eq!(read(told).as_deref(), Some(bytes), "{told}");
+        }
+        for told in [r"\", r"a\37", r"\400", r"\x41", "\\2\u{e9}0"] {
+            assert_eq!(read(told), None, "{told}");
+        }
     }
 }

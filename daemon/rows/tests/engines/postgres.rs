@@ -9,6 +9,7 @@ use crate::conformance::{self, all, row, set, texts};
 use crate::stores::Store;
 use async_trait::async_trait;
 use bytes::Bytes;
+use futures_util::future::join_all;
 use rand::rngs::StdRng;
 use rand::Rng;
 use rows::postgres::Options;
@@ -16,7 +17,7 @@ use rows::{sure_trim, Engine, Fault, Postgres, RowName, Told};
 use server::{HasRows, Server};
 use std::sync::atomic::{AtomicU32, Ordering};
 use std::sync::Arc;
-use std::time::Duration;
+use std::time::{Duration, Instant};
 use tokio::time::{sleep, timeout};
 
 /// The rows of a schema of its own.
@@ -303,6 +304,33 @@ async fn who_waits_for_a_cell_in_vain_has_set_none() {
     other.batch_execute("ROLLBACK").await.unwrap();
     assert_eq!(all(&engine).await, texts(&[]));
     assert_eq!(set(&engine, 1, &["one"]).await, Ok(Told::Set));
+}
+
+/// The longest that the server allows.
+const COMMIT_DELAY: Duration = Duration::from_millis(100);
+
+#[tokio::test]
+async fn commits_wait_for_one_another_where_the_server_says_so_however_few_there_are() {
+    let delay = format!("commit_delay={}", COMMIT_DELAY.as_micros());
+    let store = Killed(Server::start(&[&delay]));
+    let mut engines = Vec::new();
+    for node in ["n1", "n2", "n3", "n4", "n5", "n6", "n7", "n8"] {
+        let row = RowName::of_node(node, 1).unwrap();
+        engines.push((row, open(store.options()).await));
+    }
+    let set_all = |engines: Vec<(RowName, Postgres)>| {
+        let sets = engines.into_iter().map(|(row, engine)| async move {
+            assert_eq!(engine.set(&row, 1, &texts(&["it"])).await, Ok(Told::Set));
+        });
+        join_all(sets)
+    };
+    let others = engines.split_off(1);
+    let began = Instant::now();
+    set_all(engines).await;
+    assert!(began.elapsed() >= COMMIT_DELAY);
+    let began = Instant::now();
+    set_all(others).await;
+    assert!(began.elapsed() < COMMIT_DELAY * 7);
 }
 
 #[tokio::test]

@@ -50,13 +50,13 @@ async fn a_long_text_does_not_come_along_and_any_byte_does() {
     let store = Schema::new();
     let (writer, reader) = (store.open().await, store.open().await);
     let mut tidings = reader.follow(&row()).await.unwrap();
-    sets(&writer, 1, &[&"a".repeat(3_901)]).await;
+    sets(&writer, 1, &[&"a".repeat(7_801)]).await;
     assert!(told(&mut tidings, 1).await.is_empty());
     let bytes = [Bytes::from_static(b"\0\x01 \\ ' \xff")];
     assert_eq!(writer.set(&row(), 2, &bytes).await, Ok(Told::Set));
     assert_eq!(told(&mut tidings, 2).await, bytes);
-    sets(&writer, 3, &[&"b".repeat(3_900)]).await;
-    assert_eq!(told(&mut tidings, 3).await, texts(&[&"b".repeat(3_900)]));
+    sets(&writer, 3, &[&"b".repeat(7_800)]).await;
+    assert_eq!(told(&mut tidings, 3).await, texts(&[&"b".repeat(7_800)]));
 }
 
 #[tokio::test]
@@ -129,7 +129,7 @@ async fn the_server_alone_tells_texts_and_to_nodes_alone() {
         assert_eq!(error.code().unwrap().code(), "42501", "{role}: {refused}");
     }
     // What anybody tells is no text; and what a node has told is what the table has.
-    let open_channel = "SELECT pg_notify('cells_of_a_test', 'n1/g1 1 ' || encode('false', 'hex'))";
+    let open_channel = "SELECT pg_notify('cells_of_a_test', 'n1/g1 1 =false')";
     { client(&server, "stranger").await }
         .batch_execute(open_channel)
         .await
@@ -166,7 +166,7 @@ async fn without_the_functions_numbers_are_told() {
     assert_eq!(all(&reader).await, texts(&["one"]));
     assert!(is_silent(&mut tidings, 2).await);
     // What anybody tells wakes who follows the row, once, and is no text.
-    for lie in ["", "n1/g1", "n1/g1 x", "n1/g1 2 6f6e65"] {
+    for lie in ["", "n1/g1", "n1/g1 x", "n1/g1 2 =one"] {
         tell_all(&store, lie).await;
     }
     assert!(told(&mut tidings, 2).await.is_empty());
