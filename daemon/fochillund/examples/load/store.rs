@@ -38,8 +38,8 @@ impl Store {
             settings.extend(["listen_addresses=127.0.0.1", &port]);
         }
         let kind = match engine {
-            "etcd1" => Kind::Etcd(Cluster::begin(1, Setup::default())),
-            "etcd3" => Kind::Etcd(Cluster::begin(3, Setup::default())),
+            "etcd1" => Kind::Etcd(Cluster::begin(1, setup_of_etcd())),
+            "etcd3" => Kind::Etcd(Cluster::begin(3, setup_of_etcd())),
             "postgresql" => Kind::Postgres(Server::start(&settings)),
             _ => Kind::Files(Path::new(word).join("load")),
         };
@@ -112,6 +112,22 @@ impl Store {
                 Arc::new(Postgres::open(options).await?)
             }
         })
+    }
+}
+
+/// With syncs that take as many milliseconds more as `SLOW_SYNC` says: etcd calls no library for them, and is slowed by a tracer.
+fn setup_of_etcd() -> Setup {
+    let slow = std::env::var("SLOW_SYNC").ok();
+    let slow = slow.and_then(|text| text.parse::<f64>().ok());
+    let by = slow.filter(|it| *it > 0.0).map(|milliseconds| {
+        let delay = format!("inject=fdatasync:delay_exit={}", milliseconds * 1000.0);
+        let tracer = "strace -D -f --seccomp-bpf -o /dev/null -e trace=fdatasync -e";
+        let words = tracer.split(' ').map(str::to_owned);
+        words.chain([delay]).collect()
+    });
+    Setup {
+        by: by.unwrap_or_default(),
+        ..Setup::default()
     }
 }
 

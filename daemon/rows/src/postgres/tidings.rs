@@ -179,7 +179,24 @@ impl Hearing {
 
 #[cfg(test)]
 mod tests {
-    use super::unescaped;
+    use super::{unescaped, Followed};
+    use crate::name::RowName;
+    use std::time::Duration;
+    use tokio::time::timeout;
+
+    const LONG: Duration = Duration::from_secs(60);
+
+    #[tokio::test]
+    async fn what_an_older_function_tells_is_a_number_alone() {
+        let followed = Followed::default();
+        let mut tidings = followed.follow(&RowName::of_node("n1", 1).unwrap());
+        followed.tell("n1/g1 1 6f6e65", true);
+        let told = timeout(LONG / 2, tidings.wait(1, LONG)).await;
+        assert!(told.unwrap().is_empty());
+        followed.tell(r"n1/g1 1 =o \\e", true);
+        let told = timeout(LONG / 2, tidings.wait(1, LONG)).await;
+        assert_eq!(told.unwrap(), [r"o \e"]);
+    }
 
     #[test]
     fn what_was_escaped_is_read_back() {
