@@ -24,6 +24,7 @@ pub(super) struct Session {
     tls: MakeTls,
     patience: Duration,
     table: Table,
+    insert_next: Statement,
     insert: Statement,
     select: Statement,
     confirm: Statement,
@@ -60,8 +61,12 @@ impl Session {
     pub(super) async fn of(target: &Target, link: Link) -> Result<Session, Fault> {
         let (client, table) = (&link.client, &target.table);
         let types = [Type::TEXT, Type::INT8, Type::BYTEA_ARRAY];
+        let types_of_next = [Type::TEXT, Type::INT8, Type::BYTEA];
         let prepared = async {
             Ok((
+                client
+                    .prepare_typed(&table.insert_next(), &types_of_next)
+                    .await?,
                 client.prepare_typed(&table.insert(), &types).await?,
                 client.prepare_typed(&table.select(), &types[..2]).await?,
                 client.prepare(CONFIRM).await?,
@@ -69,13 +74,15 @@ impl Session {
             ))
         };
         let prepared: Result<_, tokio_postgres::Error> = prepared.await;
-        let (insert, select, confirm, telling) = prepared.map_err(|error| fault_of_read(&error))?;
+        let (insert_next, insert, select, confirm, telling) =
+            prepared.map_err(|error| fault_of_read(&error))?;
         Ok(Session {
             client: link.client,
             warnings: link.warnings,
             tls: target.tls.clone(),
             patience: target.answer_timeout,
             table: table.clone(),
+            insert_next,
             insert,
             select,
             confirm,
@@ -107,10 +114,9 @@ impl Session {
             return (Ok(Told::Gap), true);
         };
         let cells: Vec<&[u8]> = texts.iter().map(AsRef::as_ref).collect();
-        let words: [&(dyn ToSql + Sync); 3] = [&row.as_str(), &number, &cells];
         let warned = self.warned();
         let last = number.saturating_add(texts.len() as i64 - 1);
-        let asked = self.client.execute(&self.insert, &words);
+        let asked = self.insert(row, number, &cells);
         let asked = self.told_behind(row, (number, last), asked);
         match tokio::time::timeout(self.patience, asked).await {
             Err(_) => {
@@ -128,6 +134,25 @@ impl Session {
                 (told, is_usual)
             }
         }
+    }
+
+    /// Gives how many cells were set: all of them or none. One alone is mostly the next of its row, which takes the server less to set; what else it
+    /// is, the other statement tells.
+    async fn insert(
+        &self,
+        row: &RowName,
+        number: i64,
+        cells: &[&[u8]],
+    ) -> Result<u64, tokio_postgres::Error> {
+        if let [cell] = cells {
+            let words: [&(dyn ToSql + Sync); 3] = [&row.as_str(), &number, cell];
+            let count = self.client.execute(&self.insert_next, &words).await?;
+            if count > 0 {
+                return Ok(count);
+            }
+        }
+        let words: [&(dyn ToSql + Sync); 3] = [&row.as_str(), &number, &cells];
+        self.client.execute(&self.insert, &words).await
     }
 
     /// Asks for cells of these numbers to be set, and has others told of them once the server has answered that. Returns with its answer.

@@ -56,6 +56,15 @@ impl Table {
         format!(r#""{}".cells"#, self.schema)
     }
 
+    /// Sets the text `$3` in the row `$1` as number `$2`, where that is its next; else nothing.
+    pub(super) fn insert_next(&self) -> String {
+        let cells = self.name();
+        format!(
+            "INSERT INTO {cells} (row, number, text) SELECT $1, $2, $3
+            WHERE $2 - 1 = (SELECT coalesce(max(number), 0) FROM {cells} WHERE row = $1)"
+        )
+    }
+
     /// Sets the texts `$3` in the row `$1` from number `$2` on: all, or none where one is taken or the one before is not there. A cell that another
     /// transaction is about to set is waited for: so of two sets of one cell the second inserts only where the first was rolled back. They go by
     /// their numbers, so that no two sets wait for each other. Where the row goes on behind the first of them, its last cell is set once more, in
