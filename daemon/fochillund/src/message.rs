@@ -1,6 +1,6 @@
 //! What is read of a message's text without the library: its clock, its commands, and whether it is a seal.
 use serde::de::IgnoredAny;
-use serde::Deserialize;
+use serde::{Deserialize, Serialize};
 use serde_json::value::RawValue;
 
 /// The clock of a seal: above that of each other message of a generation. A seal is an acknowledgement by which a row ends, so that each member that
@@ -60,6 +60,31 @@ pub fn is_seal(message: &str) -> bool {
     Head::of(message).is_some_and(|head| head.is_seal())
 }
 
+/// A message that has commands, as the library writes it.
+#[derive(Deserialize, Serialize)]
+#[serde(deny_unknown_fields)]
+struct Submitted<'t> {
+    caller: u32,
+    #[serde(borrow)]
+    commands: &'t RawValue,
+    serial: u64,
+    stamp: (u64, u32),
+}
+
+/// A message that the library would send next, with a clock above this one too: whoever has read a message may set its clock above that one's before the
+/// library takes it. None where it would be a seal's.
+pub(crate) fn later_than(message: String, clock: u64) -> Option<String> {
+    let submitted: Submitted<'_> = serde_json::from_str(&message).expect("a message of commands");
+    let (own, member) = submitted.stamp;
+    if own > clock {
+        return Some(message);
+    }
+    let stamp = (clock + 1, member);
+    let later = Submitted { stamp, ..submitted };
+    let is_below_seals = stamp.0 < SEAL_CLOCK;
+    is_below_seals.then(|| serde_json::to_string(&later).expect("a message is JSON"))
+}
+
 /// The commands of a message's text, each as the library writes it.
 #[derive(Deserialize)]
 struct Sent<'t> {
@@ -72,4 +97,34 @@ pub(crate) fn commands_of(message: &str) -> Vec<&str> {
     let sent: Option<Sent<'_>> = serde_json::from_str(message).ok();
     let commands = sent.map_or_else(Vec::new, |sent| sent.commands);
     commands.into_iter().map(RawValue::get).collect()
+}
+
+#[cfg(test)]
+mod tests {
+    use super::{later_than, SEAL_CLOCK};
+    use fochillun::Member;
+
+    fn message() -> String {
+        let founding =
+            b"version = 1\nmembers = 2\noperations = []\nobjects = []\npermissions = []\n";
+        let mut member = Member::open(founding, 2).unwrap();
+        let commands = r#"[{"name":"AddUser","user":"ann"}]"#;
+        member.next_submit_batch(0, 0, commands).unwrap()
+    }
+
+    #[test]
+    fn a_later_message_differs_by_its_clock() {
+        let message = message();
+        assert!(message.ends_with(r#""stamp":[1,2]}"#));
+        assert_eq!(later_than(message.clone(), 0), Some(message.clone()));
+        let later = message.replace(r#""stamp":[1,2]}"#, r#""stamp":[8,2]}"#);
+        assert_eq!(later_than(message, 7), Some(later));
+    }
+
+    #[test]
+    fn no_message_of_commands_has_the_clock_of_a_seal() {
+        let message = message();
+        assert!(later_than(message.clone(), SEAL_CLOCK - 2).is_some());
+        assert_eq!(later_than(message, SEAL_CLOCK - 1), None);
+    }
 }

@@ -203,7 +203,7 @@ impl Process {
 
     /// Reads the rows of the generation that goes on, and of each that it leads to.
     async fn follow_all(&mut self) -> Result<(), Stop> {
-        while self.following.generation() != self.node.generation().number {
+        while !self.following.is_at(&self.node) {
             self.following.go_to(&mut self.node, &self.writer).await?;
             self.node.turn()?;
         }
@@ -233,6 +233,8 @@ impl Process {
                 told = ended(&mut self.setting) => return self.take_set(told?),
                 () = std::future::ready(()) => {}
             }
+            // What it acknowledges is taken meanwhile.
+            self.node.turn()?;
         }
         for (waiter, reply) in self.node.take_told() {
             // Who waits no longer asks again.
@@ -240,7 +242,7 @@ impl Process {
         }
         self.reads.look(&mut self.node);
         self.tell_progress();
-        if self.following.generation() != self.node.generation().number {
+        if !self.following.is_at(&self.node) {
             // There may be something to be set there.
             return self.follow_all().await;
         }
@@ -311,12 +313,12 @@ impl Process {
     fn take_read(&mut self, read: Read) -> Result<(), Stop> {
         match read {
             Read::Cells {
-                generation,
+                entry,
                 member,
                 cells,
             } => {
-                for cell in cells {
-                    if generation == self.node.generation().number {
+                if self.following.is_of_now(entry, &self.node) {
+                    for cell in cells {
                         self.node.put_cell(member, cell)?;
                     }
                 }

@@ -1,8 +1,10 @@
 //! A member over its row, in one generation: what is read and asked goes in, and what is to be set and what callers are told comes out. It opens
 //! nothing, waits for nothing and reads no clock, so that a test can play any order of events.
 //!
-//! Row first: a message of the member's own is in its memory only once its cell is set. So whatever happens to the process, nothing that it told
-//! rests on what could be forgotten; that is what the library's law asks of whoever makes a member anew of its row.
+//! What is shown rests on the rows alone. A message of the member's own is in its memory while its cell is being set, so that those of others which it
+//! acknowledges are taken meanwhile; but a command is delivered only once a message of the member's own is set that is not earlier. Each other one that
+//! is earlier than that command stands in a row then, or never will: whatever happens to the process, nothing that it told rests on what could be
+//! forgotten. Seals, and the dump, are in no memory before they are set.
 mod call;
 mod ends;
 mod fault;
@@ -22,13 +24,12 @@ pub use opening::{Begins, Dump};
 pub use recent::RecentMessage;
 
 use crate::generation::Generation;
-use crate::message::{commands_of, is_seal, seal_of, Head};
+use crate::message::{commands_of, is_seal, later_than, seal_of};
 use bytes::Bytes;
 use call::{ReadCall, LONGEST_MESSAGE};
 use fault::fault_of;
 use fochillun::{Member, MemberError, RestoreError};
 use history::{History, Place};
-use inbox::Inbox;
 use opening::Opening;
 use queue::{Batch, Queue};
 use rows::cell::{Cell, Chain, DumpPart, Sent};
@@ -54,24 +55,16 @@ struct Setting<W> {
     cell: Cell,
     text: Bytes,
     batch: Option<Batch<W>>,
+    /// Whether its message is in the member's memory.
+    is_taken: bool,
 }
 
 /// A message that is to be sent.
-struct Next<W> {
-    message: String,
-    dump: Option<DumpPart>,
-    batch: Option<Batch<W>>,
-}
-
-impl<W> Next<W> {
-    /// One that has no calls.
-    fn of(message: String) -> Next<W> {
-        Next {
-            message,
-            dump: None,
-            batch: None,
-        }
-    }
+enum Next<W> {
+    Calls(String, Batch<W>),
+    Acknowledgement(String),
+    Dump(String, DumpPart),
+    Seal,
 }
 
 /// A member, and the calls that it was asked. `W` is what waits for a call's reply.
@@ -87,9 +80,30 @@ pub struct RowMember<W> {
     history: History<W>,
     setting: Option<Setting<W>>,
     told: Vec<(W, Reply)>,
-    has_just_acknowledged: bool,
     is_full: bool,
     is_closing: bool,
+    /// Whether the row ended without a message that is in the member's memory.
+    is_beside_its_row: bool,
+}
+
+/// What is there of a member before it is made of its row.
+#[derive(Debug)]
+pub(crate) struct Left<W> {
+    pub(crate) begins: Begins,
+    /// Who waits for a call that is set.
+    waiting: Vec<(Place, W)>,
+    pub(crate) told: Vec<(W, Reply)>,
+}
+
+impl<W> Left<W> {
+    /// Of one that was none before.
+    pub(crate) fn of(begins: Begins) -> Left<W> {
+        Left {
+            begins,
+            waiting: Vec::new(),
+            told: Vec::new(),
+        }
+    }
 }
 
 impl<W> RowMember<W> {
@@ -133,10 +147,27 @@ impl<W> RowMember<W> {
             history,
             setting: None,
             told: Vec::new(),
-            has_just_acknowledged: false,
             is_full: false,
             is_closing: false,
+            is_beside_its_row: false,
         })
+    }
+
+    /// What is left of it where it is to be made anew.
+    pub(crate) fn into_left(self) -> Left<W> {
+        Left {
+            begins: self.taking.opening.begins,
+            waiting: self.history.into_waiting(),
+            told: self.told,
+        }
+    }
+
+    /// Goes on with what was left of the one that it is made anew of.
+    pub(crate) fn go_on_with(&mut self, left: Left<W>) {
+        for (place, waiter) in left.waiting {
+            self.history.wait(place, waiter);
+        }
+        self.told.extend(left.told);
     }
 
     /// A caller asks. What it is told comes by [`RowMember::take_told`].
@@ -223,12 +254,14 @@ impl<W> RowMember<W> {
         self.is_closing = true;
     }
 
-    /// Takes what was read as far as that needs no message of the member's own, and delivers what is due.
+    /// Takes what was read as far as that needs no message of the member's own, and delivers what is due. Which acknowledgement wants what is left is
+    /// asked where the next message of the member's own would be one.
     ///
     /// # Errors
     /// Where a message can't be taken.
     pub fn turn(&mut self) -> Result<(), MemberFault> {
-        self.taking.take_ready(self.setting.is_some())?;
+        let acknowledges = self.setting.is_none() && !self.has_calls();
+        self.taking.take_ready(acknowledges)?;
         if self.taking.is_full && !self.is_closing {
             self.be_full();
         }
@@ -247,12 +280,12 @@ impl<W> RowMember<W> {
         self.turn()?;
         let next = match () {
             () if self.taking.is_sealed => None,
-            () if self.is_closing => Some(Next::of(seal_of(self.taking.number))),
+            () if self.is_closing => Some(Next::Seal),
             () if !self.has_room() => None,
             () if self.is_dumping() => Some(self.next_of_dump()?),
             () => self.next_message()?,
         };
-        Ok(next.map(|next| self.begin(next)))
+        next.map(|next| self.begin(next)).transpose()
     }
 
     /// Whether the row has room for a message more. Its last cell is for the seal.
@@ -264,51 +297,47 @@ impl<W> RowMember<W> {
         has_room
     }
 
-    /// An acknowledgement, or the calls that wait.
+    /// Whether calls wait that go into the member's next message.
+    fn has_calls(&self) -> bool {
+        self.taking.opening.is_open && self.queue.len() > 0
+    }
+
+    /// The calls that wait, in a message that acknowledges all that was read; or an acknowledgement.
     fn next_message(&mut self) -> Result<Option<Next<W>>, MemberFault> {
-        let acknowledgement = self.taking.acknowledgement();
-        let submitted = match self.taking.opening.is_open {
-            true => self.next_submit()?,
-            false => None,
-        };
-        let next = match (acknowledgement, submitted) {
-            (Some(sent), Some(submitted)) if !self.goes_first(&submitted) => Next::of(sent),
-            (_, Some(message)) => Next {
-                message,
-                dump: None,
-                batch: Some(self.queue.take()),
-            },
-            (Some(sent), None) => Next::of(sent),
-            (None, None) => return Ok(None),
-        };
-        self.has_just_acknowledged = next.batch.is_none();
-        Ok(Some(next))
+        if self.has_calls() {
+            if let Some(message) = self.next_submit()? {
+                return Ok(Some(Next::Calls(message, self.queue.take())));
+            }
+            self.turn()?;
+        }
+        Ok(self.taking.acknowledgement().map(Next::Acknowledgement))
     }
 
-    /// Whether a batch goes before an acknowledgement: where it is later than all that was read and wants one, or it is its turn.
-    fn goes_first(&self, submitted: &str) -> bool {
-        let clock = Head::of_known(submitted).clock();
-        let inboxes = self.taking.inboxes.iter();
-        let mut first = inboxes
-            .filter(|inbox| inbox.wanted.is_some())
-            .filter_map(Inbox::first);
-        self.has_just_acknowledged || first.all(|message| message.clock() < clock)
-    }
-
-    fn begin(&mut self, next: Next<W>) -> (u64, Bytes) {
-        let message = RawValue::from_string(next.message).expect("a message is JSON");
-        let taken = self.taken();
-        let mut cell = self.chain.cell(&self.writer, taken, message);
-        cell.calls = next.batch.as_ref().map_or_else(Vec::new, Batch::told);
-        cell.dump = next.dump;
-        let text = Bytes::from(serde_json::to_vec(&cell).expect("a cell is JSON"));
+    fn begin(&mut self, next: Next<W>) -> Result<(u64, Bytes), MemberFault> {
+        let is_taken = matches!(next, Next::Calls(..) | Next::Acknowledgement(_));
+        let (message, batch, dump) = match next {
+            Next::Calls(message, batch) => (message, Some(batch), None),
+            Next::Acknowledgement(message) => (message, None, None),
+            Next::Dump(message, part) => (message, None, Some(part)),
+            Next::Seal => (seal_of(self.taking.number), None, None),
+        };
         let number = self.chain.next();
+        let taken = self.taken();
+        if is_taken {
+            self.taking.take_unset(number_of(number), &message)?;
+        }
+        let message = RawValue::from_string(message).expect("a message is JSON");
+        let mut cell = self.chain.cell(&self.writer, taken, message);
+        cell.calls = batch.as_ref().map_or_else(Vec::new, Batch::told);
+        cell.dump = dump;
+        let text = Bytes::from(serde_json::to_vec(&cell).expect("a cell is JSON"));
         self.setting = Some(Setting {
             cell,
             text: text.clone(),
-            batch: next.batch,
+            batch,
+            is_taken,
         });
-        (number, text)
+        Ok((number, text))
     }
 
     /// The cell that was to be set is set: its message is the member's now.
@@ -316,9 +345,15 @@ impl<W> RowMember<W> {
     /// # Errors
     /// Where memory ends.
     pub fn was_set(&mut self) -> Result<(), MemberFault> {
-        let Setting { cell, text, batch } = self.setting.take().expect("a cell was being set");
+        let setting = self.setting.take().expect("a cell was being set");
+        let Setting {
+            cell, text, batch, ..
+        } = setting;
         let (at, message) = (number_of(self.chain.next()), cell.message.get());
-        let head = self.taking.take_own(at, message, &cell.taken, cell.dump)?;
+        if !setting.is_taken {
+            self.taking.take_unset(at, message)?;
+        }
+        let head = self.taking.has_own(at, message, &cell.taken, cell.dump)?;
         self.chain.follow(&text);
         let places = self.history.sent(at, &cell.calls, head.commands);
         let waiters = batch.into_iter().flat_map(|batch| batch.waiters);
@@ -331,8 +366,8 @@ impl<W> RowMember<W> {
         self.turn()
     }
 
-    /// The next cell of the row was set by somebody else, to this text. A seal is as good as the member's own: nothing of what was to be set is in
-    /// its memory.
+    /// The next cell of the row was set by somebody else, to this text. A seal is as good as the member's own; where its memory has a message that was to
+    /// be set there, it has to be made anew of its row ([`RowMember::is_beside_its_row`]).
     ///
     /// # Errors
     /// `Fenced`, where it is no seal: another process is this member.
@@ -341,17 +376,27 @@ impl<W> RowMember<W> {
         if !is_seal(cell.message.get()) {
             return Err(MemberFault::Fenced);
         }
-        let at = number_of(self.chain.next());
-        let message = cell.message.get();
-        self.taking.take_own(at, message, &cell.taken, None)?;
-        self.chain.follow(text);
         let setting = self.setting.take();
+        self.is_beside_its_row = setting.as_ref().is_some_and(|it| it.is_taken);
         let batch = setting.and_then(|setting| setting.batch);
         for waiter in batch.into_iter().flat_map(Batch::into_waiters) {
             self.told.push((waiter, Err(Refusal::NotTaken)));
         }
+        if self.is_beside_its_row {
+            self.refuse_waiting(Refusal::NotTaken);
+            return Ok(());
+        }
+        let at = number_of(self.chain.next());
+        let message = cell.message.get();
+        self.taking.take_own(at, message, &cell.taken, None)?;
+        self.chain.follow(text);
         self.tell_not_taken();
         self.turn()
+    }
+
+    /// Whether its row ended without a message that is in its memory. Then it is made anew, and nothing else is asked of it.
+    pub fn is_beside_its_row(&self) -> bool {
+        self.is_beside_its_row
     }
 
     /// Behind the seal nothing is sent: who waits to be sent is told.
@@ -466,7 +511,7 @@ impl<W> RowMember<W> {
     /// The next message of the dump.
     fn next_of_dump(&mut self) -> Result<Next<W>, MemberFault> {
         let opening = &self.taking.opening;
-        let dump = opening.dump.as_ref();
+        let dump = opening.dump();
         let dump = dump.expect("who sends a dump knows the policy before");
         let part = DumpPart {
             first: opening.read,
@@ -479,11 +524,7 @@ impl<W> RowMember<W> {
             true => format!(r#"{{"stamp":[1,{}]}}"#, self.taking.number),
             false => self.submit_message(&format!("[{}]", commands.join(",")))?,
         };
-        Ok(Next {
-            message,
-            dump: Some(part),
-            batch: None,
-        })
+        Ok(Next::Dump(message, part))
     }
 
     fn submit_message(&mut self, commands: &str) -> Result<String, MemberFault> {
@@ -493,21 +534,20 @@ impl<W> RowMember<W> {
         message.map_err(|why| fault_of(self.taking.number, self.chain.next(), why))
     }
 
-    /// The message that the calls that wait go into, as many as have room.
+    /// The message that the calls that wait go into, as many as have room: later than all that was read. None where the member may send no more.
     fn next_submit(&mut self) -> Result<Option<String>, MemberFault> {
-        let Some(commands) = self.queue.next_commands() else {
-            return Ok(None);
-        };
-        match self.submit_message(&commands) {
+        let commands = self.queue.next_commands();
+        let submitted = match self.submit_message(&commands) {
             Err(MemberFault::Message {
                 why: MemberError::SentFull | MemberError::ClockFull,
                 ..
-            }) => {
-                self.be_full();
-                Ok(None)
-            }
-            told => told.map(Some),
+            }) => None,
+            told => later_than(told?, self.taking.latest_read()),
+        };
+        if submitted.is_none() {
+            self.be_full();
         }
+        Ok(submitted)
     }
 
     /// The member sends no more. Who waits to be sent is told; what was sent may still be answered.

@@ -84,7 +84,8 @@ impl Group {
     /// A process goes on to its node's generation, where it has not.
     fn go_to(&mut self, at: usize) {
         let generation = self.nodes[at].node.generation().clone();
-        if self.nodes[at].generation == generation.number {
+        let wants_own_row = self.nodes[at].node.wants_own_row().is_some();
+        if self.nodes[at].generation == generation.number && !wants_own_row {
             return;
         }
         let running = &mut self.nodes[at];
@@ -361,16 +362,24 @@ fn ids_are_answered_in_the_next_generation_and_in_the_one_after_no_more() {
 fn who_has_an_unset_call_where_another_seals_is_told_that_it_was_not_taken() {
     let mut group = Group::of(&["n1", "n2"]);
     group.settle(&[0, 1]);
+    group.ask(0, 1, Some("b"), &add_user("eve"), 2);
+    assert!(group.set(0));
     group.ask(0, 1, Some("a"), &add_user("bob"), 1);
     let next = group.nodes[0].node.next_cell().unwrap().unwrap();
+    group.ask(0, 1, Some("c"), &add_user("joe"), 3);
     group.propose(&["n2"], None);
     group.seal(1, "n1");
     let there = group.row(&next.row)[next.number as usize - 1].clone();
     group.nodes[0].node.was_taken(1, &there).unwrap();
-    assert_eq!(group.told_to(0, 1), Err(NodeRefusal::NotTaken { now: 2 }));
+    let refusal = NodeRefusal::NotTaken { now: 2 };
+    assert_eq!(group.told(0), [(1, Err(refusal)), (3, Err(refusal))]);
+    // What was to be set was in its memory: it is made anew of its row, and tells who waits for what is set.
+    assert!(group.nodes[0].node.wants_own_row().is_some());
     group.settle(&[0, 1]);
+    assert_eq!(group.told_to(0, 2).unwrap().records.len(), 1);
     assert_eq!(group.nodes[0].node.phase(), Phase::Follows);
-    assert_eq!(group.nodes[1].node.history_length(2), Some(0));
+    assert_eq!(group.nodes[1].node.history_length(1), Some(1));
+    assert_eq!(group.nodes[1].node.history_length(2), Some(1));
 }
 
 #[test]

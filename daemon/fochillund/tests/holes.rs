@@ -133,7 +133,7 @@ fn nothing_is_delivered_behind_an_acknowledgement_that_is_not_set() {
     let (number, acknowledgement) = two.next_cell().unwrap().unwrap();
     two.turn().unwrap();
     assert_eq!((number, two.history_length()), (1, 0));
-    assert_eq!(two.taken(), [0, 0]);
+    assert_eq!(two.taken(), [1, 0]);
     // Whoever is made anew before it is set may send something earlier, and shows nothing that would stand behind that.
     let mut anew = made_of(&founding, 2, 2, &[]);
     anew.ask(call(None, &add_user("eve")), 1);
@@ -464,16 +464,47 @@ fn a_message_that_wants_an_acknowledgement_no_more_is_taken_without_any_event() 
     theirs.push(two.next_cell().unwrap().unwrap().1);
     read(&mut one, &mut of_two, &theirs, 1);
     set(&mut one, &mut row);
-    set(&mut one, &mut row);
     read(&mut one, &mut of_two, &theirs, 1);
     asked(&mut one, "eve");
     set(&mut one, &mut row);
-    read(&mut two, &mut of_one, &row, 3);
+    read(&mut two, &mut of_one, &row, 2);
     asked(&mut two, "joe");
     two.was_set().unwrap();
-    // An acknowledgement, then the call: behind it the last message of the other one, which wanted one too, wants none.
-    set(&mut two, &mut theirs);
+    // Behind the call both messages of the other one, which wanted acknowledgements, want none.
     set(&mut two, &mut theirs);
     assert_eq!(two.next_cell().unwrap(), None);
-    assert_eq!(two.taken(), [3, 5]);
+    assert_eq!(two.taken(), [2, 4]);
+}
+
+#[test]
+fn calls_acknowledge_what_was_read() {
+    let founding = founding(2, "");
+    let (mut one, mut two) = (made_of(&founding, 2, 1, &[]), made_of(&founding, 2, 2, &[]));
+    let mut rows = [Vec::new(), Vec::new()];
+    let mut chains = [chain_of(&founding, 1), chain_of(&founding, 2)];
+    for user in ["bob", "eve", "joe"] {
+        one.ask(call(None, &add_user(user)), 1);
+        set(&mut one, &mut rows[0]);
+    }
+    read(&mut two, &mut chains[0], &rows[0], 3);
+    two.ask(call(None, &add_user("ann")), 2);
+    // Its one message is later than all that was read, none of which the library has taken before.
+    assert_eq!(two.taken(), [0, 0]);
+    set(&mut two, &mut rows[1]);
+    assert_eq!((two.taken(), two.history_length()), (vec![3, 1], 3));
+    assert_eq!(two.next_cell().unwrap(), None);
+    read(&mut one, &mut chains[1], &rows[1], 1);
+    // What was set before is told while the acknowledgement is being set; what it acknowledges is not.
+    let (_, acknowledgement) = one.next_cell().unwrap().unwrap();
+    one.turn().unwrap();
+    assert_eq!((one.taken(), one.history_length()), (vec![3, 1], 3));
+    assert_eq!(told(&mut one).len(), 3);
+    one.was_set().unwrap();
+    assert_eq!((one.taken(), one.history_length()), (vec![4, 1], 4));
+    rows[0].push(acknowledgement);
+    let mut anew = made_of(&founding, 2, 1, &rows[0]);
+    chains[1] = chain_of(&founding, 2);
+    read(&mut anew, &mut chains[1], &rows[1], 1);
+    anew.turn().unwrap();
+    assert_eq!(anew.records(1..5), one.records(1..5));
 }

@@ -2,7 +2,9 @@
 use super::shown::{Query, Shown, ShownAt};
 use super::{Asked, NextCell, NodeFault, NodeRefusal, Phase, Reply};
 use crate::generation::Generation;
-use crate::row_member::{self, Begins, MemberFault, RecentMessage, RowMember, RowObserver, Waits};
+use crate::row_member::{
+    self, Begins, Left, MemberFault, RecentMessage, RowMember, RowObserver, Waits,
+};
 use rows::cell::{Cell, Chain, Sent};
 use std::ops::Range;
 
@@ -14,14 +16,29 @@ pub(super) struct Seat<W> {
 
 #[derive(Debug)]
 enum Place<W> {
-    /// A member whose own row is not read yet. Calls are kept meanwhile.
+    /// A member whose own row is not read yet, or is to be read again. Calls are kept meanwhile.
     Enters {
         member: u32,
-        begins: Begins,
+        left: Left<W>,
         asked: Vec<(Asked, W)>,
     },
     Acts(Box<RowMember<W>>),
     Follows(Box<RowObserver>),
+}
+
+impl<W> Place<W> {
+    fn enters(member: u32, left: Left<W>) -> Place<W> {
+        Place::Enters {
+            member,
+            left,
+            asked: Vec::new(),
+        }
+    }
+
+    /// Takes it, and leaves what nothing is asked of.
+    fn take(&mut self) -> Place<W> {
+        std::mem::replace(self, Place::enters(0, Left::of(Begins::Empty)))
+    }
 }
 
 /// Whose row is followed where the node has none.
@@ -35,11 +52,7 @@ impl<W> Seat<W> {
     ) -> Result<Seat<W>, NodeFault> {
         let number = generation.number;
         let place = match name.and_then(|name| generation.member_of(name)) {
-            Some(member) => Place::Enters {
-                member,
-                begins,
-                asked: Vec::new(),
-            },
+            Some(member) => Place::enters(member, Left::of(begins)),
             None => {
                 let observer = RowObserver::of(&generation, FOLLOWED, begins);
                 Place::Follows(Box::new(observer.map_err(|fault| fault_in(number, fault))?))
@@ -74,18 +87,22 @@ impl<W> Seat<W> {
         chain: Chain,
         cells: &[Cell],
     ) -> Result<Vec<(Asked, W)>, NodeFault> {
-        let Place::Enters {
-            member,
-            begins,
-            asked,
-        } = &mut self.place
-        else {
-            return Ok(Vec::new());
+        let (number, left, asked) = match self.place.take() {
+            Place::Enters {
+                member,
+                left,
+                asked,
+            } => (member, left, asked),
+            place => {
+                self.place = place;
+                return Ok(Vec::new());
+            }
         };
-        let (begins, asked) = (begins.clone(), std::mem::take(asked));
-        let (number, writer) = (*member, writer.to_owned());
+        let (begins, writer) = (left.begins.clone(), writer.to_owned());
         let made = RowMember::restore(&self.generation, number, begins, writer, chain, cells);
-        self.place = Place::Acts(Box::new(made.map_err(|fault| self.fault(fault))?));
+        let mut made = made.map_err(|fault| self.fault(fault))?;
+        made.go_on_with(left);
+        self.place = Place::Acts(Box::new(made));
         Ok(asked)
     }
 
@@ -177,7 +194,14 @@ impl<W> Seat<W> {
     }
 
     pub(super) fn was_taken(&mut self, text: &[u8]) -> Result<(), NodeFault> {
-        self.told_of_set(|member| member.was_taken(text))
+        self.told_of_set(|member| member.was_taken(text))?;
+        self.place = match self.place.take() {
+            Place::Acts(member) if member.is_beside_its_row() => {
+                Place::enters(member.number(), member.into_left())
+            }
+            place => place,
+        };
+        Ok(())
     }
 
     fn told_of_set(
@@ -192,10 +216,12 @@ impl<W> Seat<W> {
 
     /// What callers are told; `now` is the generation to which they may turn.
     pub(super) fn take_told(&mut self, now: u64) -> Vec<(W, Reply)> {
-        let Place::Acts(member) = &mut self.place else {
-            return Vec::new();
+        let (number, told) = match &mut self.place {
+            Place::Acts(member) => (member.number(), member.take_told()),
+            Place::Enters { member, left, .. } => (*member, std::mem::take(&mut left.told)),
+            Place::Follows(_) => return Vec::new(),
         };
-        let (generation, number) = (self.generation.number, member.number());
+        let generation = self.generation.number;
         // A row may be seen to have ended before it is read what was proposed.
         let now = now.max(generation + 1);
         let answered = |records| super::Answered {
@@ -207,7 +233,7 @@ impl<W> Seat<W> {
             row_member::Refusal::NotTaken => NodeRefusal::NotTaken { now },
             refusal => NodeRefusal::Call(refusal),
         };
-        let told = member.take_told().into_iter();
+        let told = told.into_iter();
         told.map(|(waiter, reply)| (waiter, reply.map(answered).map_err(refused)))
             .collect()
     }

@@ -16,7 +16,8 @@ use tokio::task::JoinSet;
 pub(super) enum Read {
     /// The next cells of another member's row.
     Cells {
-        generation: u64,
+        /// The entry into a generation since which it was followed.
+        entry: u64,
         member: u32,
         cells: Vec<Sent>,
     },
@@ -37,6 +38,8 @@ pub(super) struct Following {
     engine: Arc<dyn Engine>,
     /// Of which generation rows are read; 0 of none yet.
     generation: u64,
+    /// How often it was gone to a generation, or to one again.
+    entry: u64,
     /// Whether a cell is set in the node's row before it is read.
     takes_over: bool,
     tell: mpsc::Sender<Read>,
@@ -60,6 +63,7 @@ impl Following {
         Following {
             engine,
             generation: 0,
+            entry: 0,
             takes_over,
             tell,
             read,
@@ -69,8 +73,14 @@ impl Following {
         }
     }
 
-    pub(super) fn generation(&self) -> u64 {
-        self.generation
+    /// Whether it was gone to what the node reads now.
+    pub(super) fn is_at<W>(&self, node: &Node<W>) -> bool {
+        self.generation == node.generation().number && node.wants_own_row().is_none()
+    }
+
+    /// Whether cells that were read since an entry are those that the node reads now.
+    pub(super) fn is_of_now<W>(&self, entry: u64, node: &Node<W>) -> bool {
+        self.entry == entry && self.is_at(node)
     }
 
     pub(super) async fn next(&mut self) -> Read {
@@ -85,6 +95,7 @@ impl Following {
     /// Goes on to the generation of a node: reads its own row, and those of the others as far as they go, and follows them from there.
     pub(super) async fn go_to<W>(&mut self, node: &mut Node<W>, writer: &str) -> Result<(), Stop> {
         self.rows.abort_all();
+        self.entry += 1;
         let generation = node.generation().clone();
         let own = match (node.wants_own_row(), node.member()) {
             (Some(chain), Some(member)) => {
@@ -113,9 +124,8 @@ impl Following {
             }
         }
         for (member, follower) in followers {
-            let tell = self.tell.clone();
-            let number = generation.number;
-            self.rows.spawn(follow(number, member, follower, tell));
+            let (entry, tell) = (self.entry, self.tell.clone());
+            self.rows.spawn(follow(entry, member, follower, tell));
         }
         self.generation = generation.number;
         Ok(())
@@ -160,11 +170,11 @@ impl Following {
 }
 
 /// Gives on each cell of another member's row.
-async fn follow(generation: u64, member: u32, mut follower: Follower, tell: mpsc::Sender<Read>) {
+async fn follow(entry: u64, member: u32, mut follower: Follower, tell: mpsc::Sender<Read>) {
     loop {
         let read = match follower.next().await {
             Ok(cells) => Read::Cells {
-                generation,
+                entry,
                 member,
                 cells,
             },

@@ -109,6 +109,11 @@ impl<W> History<W> {
         self.waiting.remove(&message).unwrap_or_default()
     }
 
+    /// Who waits, and for which call.
+    pub(super) fn into_waiting(self) -> Vec<(Place, W)> {
+        self.waiting.into_values().flatten().collect()
+    }
+
     /// How many calls are sent and not answered.
     pub(super) fn waits(&self) -> usize {
         self.waiting.values().map(Vec::len).sum()

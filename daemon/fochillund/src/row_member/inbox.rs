@@ -68,6 +68,14 @@ impl Inbox {
         self.messages.front()
     }
 
+    /// The clocks of its messages, but for a seal's.
+    pub(super) fn clocks(&self) -> impl Iterator<Item = u64> + '_ {
+        let heads = self.messages.iter().filter_map(|message| message.head);
+        heads
+            .filter(|head| !head.is_seal())
+            .map(|head| head.clock())
+    }
+
     pub(super) fn take_first(&mut self) -> Message {
         self.wanted = None;
         self.messages.pop_front().expect("a message was read")

@@ -50,7 +50,7 @@ impl RowObserver {
     /// # Errors
     /// Where a message can't be taken.
     pub fn turn(&mut self) -> Result<(), MemberFault> {
-        self.taking.take_ready(false)?;
+        self.taking.take_ready(true)?;
         while self.taking.deliver_next()?.is_some() {}
         Ok(())
     }

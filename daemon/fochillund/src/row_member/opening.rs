@@ -26,8 +26,8 @@ pub(super) enum Part {
 /// How far a generation has begun.
 #[derive(Debug)]
 pub(super) struct Opening {
-    /// The dump, where it is known, to be sent or compared.
-    pub(super) dump: Option<Dump>,
+    /// What it begins with.
+    pub(super) begins: Begins,
     /// How many of its commands stand in the cells that were read or set.
     pub(super) read: usize,
     /// Whether the cell that ends it was read or set.
@@ -41,17 +41,21 @@ pub(super) struct Opening {
 impl Opening {
     /// Of a generation that begins with this dump, which the one who founds the first has none of.
     pub(super) fn of(begins: Begins) -> Opening {
-        let (dump, is_open) = match begins {
-            Begins::Empty => (None, true),
-            Begins::With(dump) => (Some(dump), false),
-            Begins::WithUnknown => (None, false),
-        };
+        let is_open = begins == Begins::Empty;
         Opening {
-            dump,
+            begins,
             read: 0,
             is_read: is_open,
             is_open,
             total: 0,
+        }
+    }
+
+    /// The dump, where it is known, to be sent or compared.
+    pub(super) fn dump(&self) -> Option<&Dump> {
+        match &self.begins {
+            Begins::With(dump) => Some(dump),
+            Begins::Empty | Begins::WithUnknown => None,
         }
     }
 
@@ -77,7 +81,7 @@ impl Opening {
                     .is_some_and(|it| it == commands)
         };
         let is_next = !self.is_read && part.first == self.read && to <= part.total;
-        if !is_next || !self.dump.as_ref().is_none_or(is_known) {
+        if !is_next || !self.dump().is_none_or(is_known) {
             return None;
         }
         (self.read, self.total) = (to, part.total);

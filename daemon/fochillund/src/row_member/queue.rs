@@ -84,14 +84,14 @@ impl<W> Queue<W> {
         self.calls.iter().take_while(fits).count()
     }
 
-    /// The JSON array of the commands of the calls that go into the next message; none where no call waits.
-    pub(super) fn next_commands(&self) -> Option<String> {
+    /// The JSON array of the commands of the calls that go into the next message.
+    pub(super) fn next_commands(&self) -> String {
         let calls = self.calls.iter().take(self.together());
         let texts: Vec<&str> = calls
             .flat_map(|waiting| &waiting.call.commands)
             .map(String::as_str)
             .collect();
-        (!texts.is_empty()).then(|| format!("[{}]", texts.join(",")))
+        format!("[{}]", texts.join(","))
     }
 
     /// Takes these calls out.

@@ -33,9 +33,11 @@ pub(crate) struct Taking {
     pub(crate) records: u64,
     /// The stamp of the last one.
     pub(crate) stamp: Option<Stamp>,
-    /// How many messages of the member's own row were taken.
+    /// How many messages of the member's own are set in its row and were taken.
     own: u32,
     /// The clock of the last of these; 0 before the first.
+    set_clock: u64,
+    /// The clock of the member's own last message, which may not be set yet.
     sent_clock: u64,
     /// How many messages the member has taken, its own too.
     steps: u64,
@@ -96,6 +98,7 @@ impl Taking {
             records: 0,
             stamp: None,
             own: 0,
+            set_clock: 0,
             sent_clock: 0,
             steps: 0,
         }
@@ -114,12 +117,20 @@ impl Taking {
         taken: &[u64],
         dump: Option<DumpPart>,
     ) -> Result<Head, MemberFault> {
-        let took = self.member.take_own(number, message);
-        took.map_err(|why| fault_of(self.number, number.into(), why))?;
+        self.take_unset(number, message)?;
         self.has_own(number, message, taken, dump)
     }
 
-    /// The member has taken this message of its own row, which was made when it had taken so many of each.
+    /// Takes a message of the member's own that is to stand in its row next, and may not stand there yet.
+    pub(super) fn take_unset(&mut self, number: u32, message: &str) -> Result<(), MemberFault> {
+        let took = self.member.take_own(number, message);
+        took.map_err(|why| fault_of(self.number, number.into(), why))?;
+        self.sent_clock = Head::of_known(message).clock();
+        self.steps += 1;
+        Ok(())
+    }
+
+    /// The member has taken this message, which stands in its own row, and was made when it had taken so many of each.
     pub(super) fn has_own(
         &mut self,
         number: u32,
@@ -138,9 +149,9 @@ impl Taking {
         }
         let head = Head::of_known(message);
         self.recent.put(self.number, number, head, taken.to_vec());
-        (self.own, self.sent_clock) = (number, head.clock());
+        (self.own, self.set_clock) = (number, head.clock());
+        self.sent_clock = self.sent_clock.max(head.clock());
         self.is_sealed = head.is_seal();
-        self.steps += 1;
         Ok(head)
     }
 
@@ -169,12 +180,12 @@ impl Taking {
     }
 
     /// Takes what was read as far as that needs no message of the member's own. What a message with commands wants is asked once nothing else is left,
-    /// since it is long, and not while a cell is being set: until it is, none can be set that the message wants.
-    pub(super) fn take_ready(&mut self, sets: bool) -> Result<(), MemberFault> {
+    /// since it is long, and only where an acknowledgement can be sent.
+    pub(super) fn take_ready(&mut self, acknowledges: bool) -> Result<(), MemberFault> {
         self.take_what_wants_nothing(false)?;
-        match sets {
-            true => Ok(()),
-            false => self.take_what_wants_nothing(true),
+        match acknowledges {
+            true => self.take_what_wants_nothing(true),
+            false => Ok(()),
         }
     }
 
@@ -267,14 +278,24 @@ impl Taking {
         latest.map(|wanted| wanted.answer.clone())
     }
 
-    /// Delivers what is due, one command. Gives which.
+    /// The latest clock of what was read and is not taken, but for seals; 0 where nothing is left.
+    pub(super) fn latest_read(&self) -> u64 {
+        let clocks = self.inboxes.iter().flat_map(Inbox::clocks);
+        clocks.max().unwrap_or(0)
+    }
+
+    /// Delivers what is due, one command, where a message of the member's own is set that is not earlier: else another process, which is made anew of
+    /// the row, could still send something before it. Gives which.
     pub(super) fn deliver_next(&mut self) -> Result<Option<Waiting>, MemberFault> {
-        let held = self.member.waits();
+        let is_settled =
+            |held: &Waiting| (held.clock, held.member) <= (self.set_clock, self.number);
+        let Some(held) = self.member.waits().filter(is_settled) else {
+            return Ok(None);
+        };
         let delivered = self.member.deliver().map_err(|_| MemberFault::NoMemory)?;
         let Some(record) = delivered else {
             return Ok(None);
         };
-        let held = held.expect("what is delivered was held");
         self.records = record;
         self.stamp = Some(Stamp(held.clock, held.member, held.place));
         Ok(Some(held))

@@ -89,9 +89,17 @@ impl Process {
         self.held.enter(chain, &cells)
     }
 
-    /// Whether its node has gone on, and it has not.
+    /// Where it is to be made anew of its row, it knows what it reads there, which may be an old prefix.
+    pub fn forget_what_is_read_again(&mut self) {
+        let now = self.held.generation().number;
+        if self.held.wants_own_row().is_some() {
+            self.known.retain(|(generation, _), _| *generation != now);
+        }
+    }
+
+    /// Whether its node has gone on, and it has not; or is to be made anew.
     pub fn is_behind_its_node(&self) -> bool {
-        self.generation != self.held.generation().number
+        self.generation != self.held.generation().number || self.held.wants_own_row().is_some()
     }
 
     /// Knows the calls of its row's first cells.

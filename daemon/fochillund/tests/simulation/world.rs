@@ -376,14 +376,17 @@ impl World {
         let there = self.rows.get(&next.row)[next.number as usize - 1].clone();
         let told = process.held.was_taken(next.generation, &there);
         process.observe(&mut self.seen);
+        process.forget_what_is_read_again();
         self.told(at, told);
         self.catch_up_named(next.generation, at);
     }
 
     /// The process that stood at this place goes on, where it is there.
     fn catch_up_named(&mut self, generation: u64, at: usize) {
-        let stands = self.processes.get(at);
-        if stands.is_some_and(|it| it.held.generation().number > generation) {
+        let goes_on = |it: &Process| {
+            it.held.generation().number > generation || it.held.wants_own_row().is_some()
+        };
+        if self.processes.get(at).is_some_and(goes_on) {
             self.catch_up(at);
         }
     }
