@@ -10,6 +10,7 @@ mod ends;
 mod fault;
 mod history;
 mod inbox;
+mod left;
 mod observer;
 mod opening;
 mod queue;
@@ -19,12 +20,13 @@ mod taking;
 pub use call::{NewCall, Refusal, Reply, MOST_BYTES, MOST_COMMANDS, MOST_WAITING};
 pub use ends::check_ends;
 pub use fault::MemberFault;
+pub(crate) use left::Left;
 pub use observer::RowObserver;
 pub use opening::{Begins, Dump};
 pub use recent::RecentMessage;
 
 use crate::generation::Generation;
-use crate::message::{commands_of, is_seal, later_than, seal_of};
+use crate::message::{commands_of, is_seal, later_than, seal_of, Head};
 use bytes::Bytes;
 use call::{ReadCall, LONGEST_MESSAGE};
 use fault::fault_of;
@@ -55,8 +57,8 @@ struct Setting<W> {
     cell: Cell,
     text: Bytes,
     batch: Option<Batch<W>>,
-    /// Whether its message is in the member's memory.
-    is_taken: bool,
+    /// That of its message, where this is in the member's memory.
+    taken: Option<Head>,
 }
 
 /// A message that is to be sent.
@@ -86,26 +88,6 @@ pub struct RowMember<W> {
     is_beside_its_row: bool,
 }
 
-/// What is there of a member before it is made of its row.
-#[derive(Debug)]
-pub(crate) struct Left<W> {
-    pub(crate) begins: Begins,
-    /// Who waits for a call that is set.
-    waiting: Vec<(Place, W)>,
-    pub(crate) told: Vec<(W, Reply)>,
-}
-
-impl<W> Left<W> {
-    /// Of one that was none before.
-    pub(crate) fn of(begins: Begins) -> Left<W> {
-        Left {
-            begins,
-            waiting: Vec::new(),
-            told: Vec::new(),
-        }
-    }
-}
-
 impl<W> RowMember<W> {
     /// The member of a generation that has these cells in its row: made anew, or for the first time where there is none. `writer` is a word that no
     /// other process has, and `chain` stands behind the cells.
@@ -130,7 +112,9 @@ impl<W> RowMember<W> {
         let mut taking = Taking::of(member, number, generation, opening);
         let mut history = History::new();
         for (place, cell) in (1..).zip(cells) {
-            let head = taking.has_own(place, cell.message.get(), &cell.taken, cell.dump)?;
+            let message = cell.message.get();
+            let head = Head::of_known(message);
+            taking.has_own(place, head, message, &cell.taken, cell.dump)?;
             let called: usize = cell.calls.iter().map(|call| call.commands).sum();
             if called != head.commands && (called != 0 || cell.dump.is_none()) {
                 return Err(MemberFault::Calls(cell.number));
@@ -151,23 +135,6 @@ impl<W> RowMember<W> {
             is_closing: false,
             is_beside_its_row: false,
         })
-    }
-
-    /// What is left of it where it is to be made anew.
-    pub(crate) fn into_left(self) -> Left<W> {
-        Left {
-            begins: self.taking.opening.begins,
-            waiting: self.history.into_waiting(),
-            told: self.told,
-        }
-    }
-
-    /// Goes on with what was left of the one that it is made anew of.
-    pub(crate) fn go_on_with(&mut self, left: Left<W>) {
-        for (place, waiter) in left.waiting {
-            self.history.wait(place, waiter);
-        }
-        self.told.extend(left.told);
     }
 
     /// A caller asks. What it is told comes by [`RowMember::take_told`].
@@ -314,7 +281,7 @@ impl<W> RowMember<W> {
     }
 
     fn begin(&mut self, next: Next<W>) -> Result<(u64, Bytes), MemberFault> {
-        let is_taken = matches!(next, Next::Calls(..) | Next::Acknowledgement(_));
+        let is_ahead = matches!(next, Next::Calls(..) | Next::Acknowledgement(_));
         let (message, batch, dump) = match next {
             Next::Calls(message, batch) => (message, Some(batch), None),
             Next::Acknowledgement(message) => (message, None, None),
@@ -322,12 +289,13 @@ impl<W> RowMember<W> {
             Next::Seal => (seal_of(self.taking.number), None, None),
         };
         let number = self.chain.next();
-        let taken = self.taken();
-        if is_taken {
-            self.taking.take_unset(number_of(number), &message)?;
-        }
+        let taken_before = self.taken();
+        let taken = match is_ahead {
+            true => Some(self.taking.take_unset(number_of(number), &message)?),
+            false => None,
+        };
         let message = RawValue::from_string(message).expect("a message is JSON");
-        let mut cell = self.chain.cell(&self.writer, taken, message);
+        let mut cell = self.chain.cell(&self.writer, taken_before, message);
         cell.calls = batch.as_ref().map_or_else(Vec::new, Batch::told);
         cell.dump = dump;
         let text = Bytes::from(serde_json::to_vec(&cell).expect("a cell is JSON"));
@@ -335,7 +303,7 @@ impl<W> RowMember<W> {
             cell,
             text: text.clone(),
             batch,
-            is_taken,
+            taken,
         });
         Ok((number, text))
     }
@@ -345,15 +313,19 @@ impl<W> RowMember<W> {
     /// # Errors
     /// Where memory ends.
     pub fn was_set(&mut self) -> Result<(), MemberFault> {
-        let setting = self.setting.take().expect("a cell was being set");
         let Setting {
-            cell, text, batch, ..
-        } = setting;
+            cell,
+            text,
+            batch,
+            taken,
+        } = self.setting.take().expect("a cell was being set");
         let (at, message) = (number_of(self.chain.next()), cell.message.get());
-        if !setting.is_taken {
-            self.taking.take_unset(at, message)?;
-        }
-        let head = self.taking.has_own(at, message, &cell.taken, cell.dump)?;
+        let head = match taken {
+            Some(head) => head,
+            None => self.taking.take_unset(at, message)?,
+        };
+        self.taking
+            .has_own(at, head, message, &cell.taken, cell.dump)?;
         self.chain.follow(&text);
         let places = self.history.sent(at, &cell.calls, head.commands);
         let waiters = batch.into_iter().flat_map(|batch| batch.waiters);
@@ -377,7 +349,7 @@ impl<W> RowMember<W> {
             return Err(MemberFault::Fenced);
         }
         let setting = self.setting.take();
-        self.is_beside_its_row = setting.as_ref().is_some_and(|it| it.is_taken);
+        self.is_beside_its_row = setting.as_ref().is_some_and(|it| it.taken.is_some());
         let batch = setting.and_then(|setting| setting.batch);
         for waiter in batch.into_iter().flat_map(Batch::into_waiters) {
             self.told.push((waiter, Err(Refusal::NotTaken)));

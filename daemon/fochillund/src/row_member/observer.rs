@@ -39,10 +39,8 @@ impl RowObserver {
             return self.taking.put(member, cell);
         }
         let (number, message) = (super::number_of(cell.number), cell.message.get());
-        let taken = self
-            .taking
-            .take_own(number, message, &cell.taken, cell.dump);
-        taken.map(drop)
+        self.taking
+            .take_own(number, message, &cell.taken, cell.dump)
     }
 
     /// Takes what was read and is below the followed row, and delivers what is due.

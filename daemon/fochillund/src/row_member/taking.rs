@@ -116,28 +116,30 @@ impl Taking {
         message: &str,
         taken: &[u64],
         dump: Option<DumpPart>,
-    ) -> Result<Head, MemberFault> {
-        self.take_unset(number, message)?;
-        self.has_own(number, message, taken, dump)
+    ) -> Result<(), MemberFault> {
+        let head = self.take_unset(number, message)?;
+        self.has_own(number, head, message, taken, dump)
     }
 
     /// Takes a message of the member's own that is to stand in its row next, and may not stand there yet.
-    pub(super) fn take_unset(&mut self, number: u32, message: &str) -> Result<(), MemberFault> {
+    pub(super) fn take_unset(&mut self, number: u32, message: &str) -> Result<Head, MemberFault> {
         let took = self.member.take_own(number, message);
         took.map_err(|why| fault_of(self.number, number.into(), why))?;
-        self.sent_clock = Head::of_known(message).clock();
+        let head = Head::of_known(message);
+        self.sent_clock = head.clock();
         self.steps += 1;
-        Ok(())
+        Ok(head)
     }
 
-    /// The member has taken this message, which stands in its own row, and was made when it had taken so many of each.
+    /// The member has taken this message, which stands in its own row and has this head, and was made when it had taken so many of each.
     pub(super) fn has_own(
         &mut self,
         number: u32,
+        head: Head,
         message: &str,
         taken: &[u64],
         dump: Option<DumpPart>,
-    ) -> Result<Head, MemberFault> {
+    ) -> Result<(), MemberFault> {
         if self.is_sealed {
             let (member, number) = (self.number, number.into());
             return Err(MemberFault::BehindASeal { member, number });
@@ -147,12 +149,11 @@ impl Taking {
             let part = part.ok_or(MemberFault::OtherDump(number.into()))?;
             self.opening.take(part);
         }
-        let head = Head::of_known(message);
         self.recent.put(self.number, number, head, taken.to_vec());
         (self.own, self.set_clock) = (number, head.clock());
         self.sent_clock = self.sent_clock.max(head.clock());
         self.is_sealed = head.is_seal();
-        Ok(head)
+        Ok(())
     }
 
     /// The next message of another member was read of its row.
