@@ -7,12 +7,12 @@ use Rattle.rbac_words.specs.Right.{founding_world}
 use Rattle.rbac_words.specs.Keeping.Member.{Member, IsMember, IsNumber, founded}
 use Rattle.rbac_words.specs.Keeping.Members.{HasReadOf, IsLawfulWorld}
 use Rattle.rbac_words.specs.declared.message.Message.{Message}
-use Rattle.rbac_moves.specs.Moves.{run}
+use Rattle.rbac_moves.specs.Moves.{Move, run}
 use Rattle.rbac_moves.specs.Seal.{row, IsGated, HasPartOfRows}
-use Rattle.rbac_moves.specs.Rows.{HasGrown, rows_after}
+use Rattle.rbac_moves.specs.Rows.{HasGrown, HasRunInRow, rows_after}
 use Rattle.rbac_moves.proofs.MoveLemmas.{keeps_made, reads_made, number_run, group_run, vocabulary_run}
 use Rattle.rbac_moves.proofs.RowLemmas.{own_gated}
-use Rattle.rbac_moves.proofs.RowMoveLemmas.{part_of_rows}
+use Rattle.rbac_moves.proofs.RowMoveLemmas.{part_of_rows, run_in_grown}
 use Rattle.rbac_moves.proofs.SealMoveLemmas.{reads_longer}
 use Rattle.rbac_moves.proofs.RowSetLemmas.{founded_lawful, set_lawful, set_grown}
 use Rattle.rbac_embedded_member.specs.Calls.{Call, called, WereTold, WereSet, IsCalledInRow, IsObserved}
@@ -115,3 +115,13 @@ module _ (group : Group) (vocabulary : Vocabulary) (sets later : List (ℕ × Me
 
     pub part_observed : (i : ℕ) (u : Member) (calls : List Call) → IsObserved now i u calls → HasPartOfRows now u
     part_observed i u calls c = part_of_rows now i u (watched_moves now i u calls c) is_now lawful_now (observed_in_row now i u calls c)
+
+    -- what stood in the rows before
+    stays : (i : ℕ) (u : Member) (moves : List Move) → HasRunInRow before i u moves → HasPartOfRows now u
+    stays i u moves r = part_of_rows now i u moves is_now lawful_now (run_in_grown before now i u moves grown_then r)
+
+    pub part_was_in_row : (i : ℕ) (u : Member) (calls : List Call) → IsCalledInRow before i u calls → HasPartOfRows now u
+    part_was_in_row i u calls c = stays i u (row_moves before i u calls c) (run_in_row before i u calls c)
+
+    pub part_was_observed : (i : ℕ) (u : Member) (calls : List Call) → IsObserved before i u calls → HasPartOfRows now u
+    part_was_observed i u calls c = stays i u (watched_moves before i u calls c) (observed_in_row before i u calls c)

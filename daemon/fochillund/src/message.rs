@@ -79,10 +79,10 @@ pub(crate) fn later_than(message: String, clock: u64) -> Option<String> {
     if own > clock {
         return Some(message);
     }
-    let stamp = (clock + 1, member);
+    let raised = clock.checked_add(1).filter(|clock| *clock < SEAL_CLOCK)?;
+    let stamp = (raised, member);
     let later = Submitted { stamp, ..submitted };
-    let is_below_seals = stamp.0 < SEAL_CLOCK;
-    is_below_seals.then(|| serde_json::to_string(&later).expect("a message is JSON"))
+    Some(serde_json::to_string(&later).expect("a message is JSON"))
 }
 
 /// The commands of a message's text, each as the library writes it.
@@ -125,6 +125,8 @@ mod tests {
     fn no_message_of_commands_has_the_clock_of_a_seal() {
         let message = message();
         assert!(later_than(message.clone(), SEAL_CLOCK - 2).is_some());
-        assert_eq!(later_than(message, SEAL_CLOCK - 1), None);
+        for clock in [SEAL_CLOCK - 1, u64::MAX] {
+            assert_eq!(later_than(message.clone(), clock), None);
+        }
     }
 }
