@@ -5,9 +5,6 @@ use std::collections::BTreeSet;
 use thiserror::Error;
 use toml::value::Table;
 
-/// By which rules the members answer: two processes of one group have the same ones.
-pub const RULES: &str = concat!("fochillun ", env!("CARGO_PKG_VERSION"));
-
 /// The least `sent_limit` of a group over rows. A row that ends early ends its generation.
 pub const LEAST_SENT_LIMIT: u64 = 16_384;
 

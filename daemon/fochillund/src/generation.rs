@@ -1,7 +1,8 @@
 //! Generations: what each is founded with, by the cells of the founding's row.
-use crate::founding::{sent_limit_of, with_members, FoundingFault, RULES};
+use crate::founding::{sent_limit_of, with_members, FoundingFault};
 use crate::process::OwnRow;
 use crate::row_member::Dump;
+use crate::rules;
 use bytes::Bytes;
 use fochillun::{Monitor, OpenError};
 use rows::cell::{hash_of, Chain, Founding, Lost, Why, VERSION};
@@ -144,7 +145,7 @@ impl Foundings {
         if cell.version != VERSION {
             return Err(FoundingFault::Differs("a cell of another version").into());
         }
-        if cell.rules != RULES {
+        if !rules::are_known(&cell.rules) {
             return Err(FoundingFault::Differs("other rules").into());
         }
         if cell.generation != self.latest() + 1 {
@@ -157,15 +158,20 @@ impl Foundings {
         Ok(())
     }
 
-    /// The cell that would propose the next generation, and its number.
+    /// The cell that would propose the next generation, and its number. It calls the rules what the cell before does, so that a process of another
+    /// release knows them.
     pub fn proposal(&self, nodes: &[String], file: Option<&str>, proposer: &str) -> (u64, Bytes) {
+        let rules = self
+            .cells
+            .last()
+            .map_or(rules::NAME, |(cell, _)| &cell.rules);
         let cell = Founding {
             version: VERSION,
             generation: self.latest() + 1,
             before: self.hash(),
             founding: file.map(str::to_owned),
             nodes: nodes.to_owned(),
-            rules: RULES.to_owned(),
+            rules: rules.to_owned(),
             proposer: proposer.to_owned(),
         };
         let text = serde_json::to_vec(&cell).expect("a founding is JSON");

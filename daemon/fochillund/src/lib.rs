@@ -19,6 +19,7 @@ pub mod policy_questions;
 pub mod process;
 pub mod propose;
 pub mod row_member;
+pub mod rules;
 mod stop;
 
 pub use row_member::{check_ends, RowMember};

@@ -441,6 +441,7 @@ impl Process {
         let nodes = self.node.generation().nodes.clone();
         let waited = waits.members.iter();
         State {
+            release: Some(env!("CARGO_PKG_VERSION").to_owned()),
             generation,
             phase: self.node.phase(),
             member: self.node.member(),

@@ -1,10 +1,12 @@
 //! A node through its generations, where it could go wrong: each test is named for what has to hold.
 use bytes::Bytes;
-use fochillund::generation::Foundings;
+use fochillund::founding::FoundingFault;
+use fochillund::generation::{CellFault, Foundings};
 use fochillund::message::{is_seal, seal_of, SEAL_CLOCK};
 use fochillund::node::{Asked, Base, Node, NodeFault, NodeRefusal, Phase, Reply};
 use fochillund::row_member::{MemberFault, NewCall};
-use rows::cell::{Cell, Chain, Identity};
+use fochillund::rules;
+use rows::cell::{Cell, Chain, Founding, Identity};
 use rows::RowName;
 use serde_json::value::RawValue;
 use std::collections::HashMap;
@@ -216,6 +218,24 @@ fn add_user(user: &str) -> String {
 fn has_seal(row: &[Bytes]) -> bool {
     let last: Cell = serde_json::from_slice(row.last().unwrap()).unwrap();
     is_seal(last.message.get())
+}
+
+#[test]
+fn a_group_keeps_the_name_of_its_rules_and_takes_no_others() {
+    let mut foundings = Foundings::new();
+    let (_, text) = foundings.proposal(&names(&["a"]), Some(FILE), "");
+    let text = String::from_utf8(text.to_vec()).unwrap();
+    let named = |name: &str| Bytes::from(text.replace(rules::NAME, name));
+    for other in ["fochillun 0.10.0", "fochillun 0.15", ""] {
+        let refused = foundings.take(&named(other)).unwrap_err();
+        let differs = CellFault::Differs(FoundingFault::Differs("other rules"));
+        assert_eq!(refused, differs, "{other}");
+    }
+    foundings.take(&named("fochillun 0.12.0")).unwrap();
+    let (_, text) = foundings.proposal(&names(&["a", "b"]), None, "operator");
+    let next: Founding = serde_json::from_slice(&text).unwrap();
+    assert_eq!(next.rules, "fochillun 0.12.0");
+    foundings.take(&text).unwrap();
 }
 
 #[test]

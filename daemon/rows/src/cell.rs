@@ -25,7 +25,7 @@ pub struct Founding {
     pub founding: Option<String>,
     /// The nodes of members 1, 2 and so on.
     pub nodes: Vec<String>,
-    /// By which rules members answer: what the library's release calls itself, so that no two that differ make one group.
+    /// By which rules members answer, and what stands in their rows: a name, so that no two processes that differ in these make one group.
     pub rules: String,
     /// Who proposed it: a word that nobody else has. Of the first generation it is empty, so that all who found a group found the same.
     #[serde(default, skip_serializing_if = "String::is_empty")]

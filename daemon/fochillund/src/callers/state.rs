@@ -6,6 +6,9 @@ use serde::{Deserialize, Serialize};
 /// What a member tells of itself.
 #[derive(Clone, Debug, Serialize, Deserialize)]
 pub struct State {
+    /// The release that the process is of; none where that one does not say.
+    #[serde(default)]
+    pub release: Option<String>,
     /// The generation.
     pub generation: u64,
     /// What it does there.

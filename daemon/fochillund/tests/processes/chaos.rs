@@ -5,7 +5,7 @@ mod changing;
 mod figures;
 mod lived;
 
-use crate::group::{founding, Group};
+use crate::group::{founding, named_release, Group};
 use crate::judge::{self, History};
 use crate::store::Store;
 use asking::{ask, check_calls, Asked, Shared};
@@ -36,6 +36,10 @@ async fn befall(group: &mut Group, clocks: &[Clock], random: &mut StdRng, figure
         0..=4 => {
             figures.count("a member killed");
             group.kill(member);
+            if let Some(release) = named_release() {
+                let goes_over = random.gen::<bool>();
+                group.put_release(member, goes_over.then_some(&*release));
+            }
         }
         5 => {
             figures.count("all members killed");
@@ -159,6 +163,8 @@ async fn chaos(store: &Store, seed: u64, changes: bool) -> Figures {
     });
     let mut group = Group::over(starts.collect());
     let mut operator = Operator::of(store.start(seed, 1).rows);
+    let release = named_release();
+    (1..=members).for_each(|member| group.put_release(member, release.as_deref()));
     group.start_all();
     let shared = Arc::new(Shared::default());
     let callers: Vec<_> = (0..CALLERS)

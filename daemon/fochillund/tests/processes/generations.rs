@@ -17,7 +17,7 @@ fn fochillund(words: &[&str]) -> Output {
 }
 
 /// Proposes a generation, and waits until it has begun.
-fn propose(group: &Group, words: &[&str]) {
+pub fn propose(group: &Group, words: &[&str]) {
     let folder = group.folder().to_str().unwrap();
     let told = fochillund(&[&["propose", "--folder", folder], words].concat());
     let said = String::from_utf8_lossy(&told.stderr).into_owned();
@@ -30,7 +30,7 @@ fn add_user(user: &str) -> String {
 }
 
 /// What each record of a call's answer is answered.
-async fn answers(client: &mut Members, member: u32, id: &str, commands: &str) -> Vec<Value> {
+pub async fn answers(client: &mut Members, member: u32, id: &str, commands: &str) -> Vec<Value> {
     let (status, body) = client.call(member, id, commands).await.unwrap();
     assert_eq!(status.as_u16(), 200, "{}", String::from_utf8_lossy(&body));
     let told: Value = serde_json::from_slice(&body).unwrap();

@@ -17,6 +17,8 @@ pub struct Start {
     pub by: Vec<String>,
     /// By which words it finds its rows; where there are none they lie in the group's folder.
     pub rows: Vec<String>,
+    /// The program of another release that it is a process of.
+    pub release: Option<PathBuf>,
 }
 
 /// Processes of members, each of which ends with this.
@@ -26,6 +28,11 @@ pub struct Group {
     starts: Vec<Start>,
     /// Of each member, the latest last.
     processes: Vec<Vec<Child>>,
+}
+
+/// The program of another release, where one is named: that of a commit is `git show COMMIT:dist/fochillund`.
+pub fn named_release() -> Option<PathBuf> {
+    std::env::var_os("OTHER_RELEASE").map(PathBuf::from)
 }
 
 /// The founding of a group.
@@ -65,6 +72,11 @@ impl Group {
         let mut group = Group::of(members);
         group.start_all();
         group
+    }
+
+    /// From its next process on a member is one of this release; of these sources where there is none.
+    pub fn put_release(&mut self, member: u32, release: Option<&Path>) {
+        self.starts[member as usize - 1].release = release.map(Path::to_owned);
     }
 
     /// Starts a process of each member.
@@ -119,7 +131,8 @@ impl Group {
         let start = &self.starts[member as usize - 1];
         let mut by = start.by.clone();
         by.extend(words.iter().copied().map(str::to_owned));
-        by.push(env!("CARGO_BIN_EXE_fochillund").to_owned());
+        let release = start.release.as_ref().map(|it| it.display().to_string());
+        by.push(release.unwrap_or_else(|| env!("CARGO_BIN_EXE_fochillund").to_owned()));
         let mut command = command_of(&by);
         command.arg("member").arg("--folder").arg(folder);
         command.arg("--founding").arg(self.founding());

@@ -7,5 +7,6 @@ mod group;
 #[path = "../judge/mod.rs"]
 mod judge;
 mod lives;
+mod releases;
 mod store;
 mod unit;

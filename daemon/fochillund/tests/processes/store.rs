@@ -83,7 +83,11 @@ impl Store {
             Some(wires) => (wires.words(member), wires.proxies(member)),
         };
         let rows = engine.rows(&addresses, &format!("g{group}"));
-        Start { by, rows }
+        Start {
+            by,
+            rows,
+            ..Start::default()
+        }
     }
 
     /// For how long things befall a group.
