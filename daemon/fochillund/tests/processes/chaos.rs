@@ -166,6 +166,10 @@ async fn chaos(store: &Store, seed: u64, changes: bool) -> Figures {
     let release = named_release();
     (1..=members).for_each(|member| group.put_release(member, release.as_deref()));
     group.start_all();
+    // Whoever founds a group names its rules, and the other release may not know what these sources call them.
+    while release.is_some() && group.client().state(1).await.is_err() {
+        tokio::time::sleep(Duration::from_millis(10)).await;
+    }
     let shared = Arc::new(Shared::default());
     let callers: Vec<_> = (0..CALLERS)
         .map(|caller| {
