@@ -1,8 +1,11 @@
 //! Asking a group on this machine: client lines in, a line of answer for each.
+mod lines;
+
 use crate::callers::State;
 use crate::group::{node, socket_of};
 use fochillun_client::{Address, Wire};
 use hyper::{Body, Request, StatusCode};
+use lines::{Lines, Next};
 use rand::Rng;
 use serde::Deserialize;
 use serde_json::json;
@@ -10,17 +13,9 @@ use serde_json::value::RawValue;
 use std::io;
 use std::path::{Path, PathBuf};
 use std::time::{Duration, Instant};
-use tokio::io::{AsyncBufRead, AsyncBufReadExt};
+use tokio::io::AsyncBufRead;
 
 const PAUSE: Duration = Duration::from_millis(50);
-
-/// A line of a client.
-#[derive(Debug, Deserialize)]
-#[serde(deny_unknown_fields)]
-struct Line {
-    at: u32,
-    command: Box<RawValue>,
-}
 
 #[derive(Debug, Deserialize)]
 struct Records {
@@ -42,6 +37,9 @@ struct Refused {
 
 /// A reply: its status and its body.
 type Told = (StatusCode, Vec<u8>);
+
+/// A command's answer, or the word by which it is refused.
+type Answered = Result<Box<RawValue>, String>;
 
 /// Who the members of a generation are.
 #[derive(Clone, Debug)]
@@ -76,28 +74,30 @@ impl Members {
         }
     }
 
-    /// Answers each line as `serve` does, but that a line which is no client line is refused as BadLine.
+    /// Answers each line as `serve` does, but that a line which is no client line is refused as BadLine. Lines of one member that have come go together
+    /// into one call, and none waits for another.
     ///
     /// # Errors
     /// Where lines can't be read, or a member is silent. What follows is not asked then.
     pub async fn ask_lines(
         &mut self,
-        mut lines: impl AsyncBufRead + Unpin,
+        lines: impl AsyncBufRead + Unpin,
         mut tell: impl FnMut(&str),
     ) -> io::Result<()> {
         self.known(0).await?;
-        let (mut line, mut number) = (String::new(), 0);
-        while lines.read_line(&mut line).await? > 0 {
-            number += 1;
-            let told = match serde_json::from_str(&line) {
-                Ok(line) => self.ask_line(line).await?,
-                Err(_) => Err("BadLine".to_owned()),
+        let (mut lines, mut number) = (Lines::of(lines), 0);
+        while let Some(next) = lines.next().await? {
+            let told = match next {
+                Next::Call(at, commands) => self.ask_all(at, &commands).await?,
+                Next::BadLine => vec![Err("BadLine".to_owned())],
             };
-            tell(&match told {
-                Ok(answer) => format!(r#"{{"answer":{},"line":{number}}}"#, answer.get()),
-                Err(refused) => json!({ "line": number, "refused": refused }).to_string(),
-            });
-            line.clear();
+            for told in told {
+                number += 1;
+                tell(&match told {
+                    Ok(answer) => format!(r#"{{"answer":{},"line":{number}}}"#, answer.get()),
+                    Err(refused) => json!({ "line": number, "refused": refused }).to_string(),
+                });
+            }
         }
         Ok(())
     }
@@ -141,19 +141,41 @@ impl Members {
         furthest.ok_or_else(|| io::Error::other("no process answers"))
     }
 
-    /// What a line's command is answered, or the word by which it is refused.
-    async fn ask_line(&mut self, line: Line) -> io::Result<Result<Box<RawValue>, String>> {
-        let commands = format!("[{}]", line.command.get());
+    /// What each of these commands is answered, or the word by which it is refused.
+    async fn ask_all(&mut self, at: u32, commands: &[Box<RawValue>]) -> io::Result<Vec<Answered>> {
+        let (status, told) = self.ask_together(at, commands).await?;
+        // One that is none has all refused, and nothing is carried out.
+        if status != StatusCode::BAD_REQUEST || commands.len() == 1 {
+            return Ok(told);
+        }
+        let mut told = Vec::new();
+        for command in commands {
+            let (_, alone) = self.ask_together(at, std::slice::from_ref(command)).await?;
+            told.extend(alone);
+        }
+        Ok(told)
+    }
+
+    async fn ask_together(
+        &mut self,
+        at: u32,
+        commands: &[Box<RawValue>],
+    ) -> io::Result<(StatusCode, Vec<Answered>)> {
+        let texts: Vec<&str> = commands.iter().map(|command| command.get()).collect();
         let id = format!("{:032x}", rand::thread_rng().gen::<u128>());
-        let (status, body) = self.call(line.at, &id, &commands).await?;
+        let (status, body) = self
+            .call(at, &id, &format!("[{}]", texts.join(",")))
+            .await?;
         if status != StatusCode::OK {
-            let told: Refused = serde_json::from_slice(&body)?;
-            return Ok(Err(told.error));
+            let refused: Refused = serde_json::from_slice(&body)?;
+            return Ok((status, vec![Err(refused.error); commands.len()]));
         }
         let told: Records = serde_json::from_slice(&body)?;
-        let first = told.records.into_iter().next();
-        let record = first.ok_or_else(|| io::Error::other("no record"))?;
-        Ok(Ok(record.answer))
+        if told.records.len() != commands.len() {
+            return Err(io::Error::other("not a record for each command"));
+        }
+        let answers = told.records.into_iter().map(|record| Ok(record.answer));
+        Ok((status, answers.collect()))
     }
 
     /// Asks a call of the group's member of this number, and again by its id where the member went meanwhile, or waits. A call that its generation
@@ -182,11 +204,11 @@ impl Members {
             );
             let told = self.post(&node, &body).await;
             let is_last = began.elapsed() > self.patience;
-            match next_of(&told, is_first) {
-                Next::Told => return told,
-                Next::Again if is_last => return told,
-                Next::Again => tokio::time::sleep(PAUSE).await,
-                Next::In(generation) => group = self.known(generation).await?,
+            match then_of(&told, is_first) {
+                Then::Told => return told,
+                Then::Again if is_last => return told,
+                Then::Again => tokio::time::sleep(PAUSE).await,
+                Then::In(generation) => group = self.known(generation).await?,
             }
             is_first = false;
         }
@@ -261,7 +283,7 @@ pub struct ToldRecords {
 }
 
 /// What is done of what was told.
-enum Next {
+enum Then {
     /// The caller is told it.
     Told,
     /// The same is asked again.
@@ -271,19 +293,19 @@ enum Next {
 }
 
 /// `is_first` says that the call was not asked before: then one that is too old was carried out nowhere.
-fn next_of(told: &io::Result<Told>, is_first: bool) -> Next {
+fn then_of(told: &io::Result<Told>, is_first: bool) -> Then {
     let Ok((status, body)) = told else {
-        return Next::Again;
+        return Then::Again;
     };
     if *status == StatusCode::OK {
-        return Next::Told;
+        return Then::Told;
     }
     let refused: Option<Refused> = serde_json::from_slice(body).ok();
     match (*status, refused) {
-        (StatusCode::SERVICE_UNAVAILABLE | StatusCode::TOO_MANY_REQUESTS, _) => Next::Again,
-        (StatusCode::CONFLICT, Some(it)) if it.error == "NotTaken" => Next::In(it.generation),
-        (StatusCode::CONFLICT, _) => Next::Again,
-        (StatusCode::GONE, Some(it)) if is_first => Next::In(it.generation),
-        _ => Next::Told,
+        (StatusCode::SERVICE_UNAVAILABLE | StatusCode::TOO_MANY_REQUESTS, _) => Then::Again,
+        (StatusCode::CONFLICT, Some(it)) if it.error == "NotTaken" => Then::In(it.generation),
+        (StatusCode::CONFLICT, _) => Then::Again,
+        (StatusCode::GONE, Some(it)) if is_first => Then::In(it.generation),
+        _ => Then::Told,
     }
 }

@@ -1,9 +1,11 @@
 //! The words `group` and `ask`.
+use fochillund::ask::Members;
 use nix::sys::signal::{kill, Signal};
 use nix::unistd::Pid;
 use std::io::{BufRead, BufReader, Lines};
 use std::path::{Path, PathBuf};
 use std::process::{Child, ChildStdout, Command, Stdio};
+use std::time::Duration;
 
 fn example(name: &str) -> PathBuf {
     Path::new(env!("CARGO_MANIFEST_DIR"))
@@ -95,6 +97,29 @@ fn the_members_end_with_what_has_started_them() {
             std::thread::sleep(std::time::Duration::from_millis(10));
         }
     }
+}
+
+#[tokio::test]
+async fn a_policy_of_many_lines_takes_few_messages() {
+    let room = tempfile::tempdir().unwrap();
+    let folder = room.path().join("group");
+    let mut group = Running::of(&folder, &["--members", "1"]);
+    group.line_with(" is up: ");
+    let users = (0..500).map(|user| user.to_string() + if user == 250 { " " } else { "" });
+    let line =
+        |user| format!("{{\"at\":1,\"command\":{{\"name\":\"AddUser\",\"user\":\"{user}\"}}}}\n");
+    let lines = room.path().join("lines");
+    std::fs::write(&lines, users.map(line).collect::<String>()).unwrap();
+    let (told, status) = asked(&folder, &lines);
+    let wanted = |line: usize| match line {
+        251 => r#"{"line":251,"refused":"BadName"}"#.to_owned(),
+        line => format!(r#"{{"answer":"Done","line":{line}}}"#),
+    };
+    let wanted: Vec<String> = (1..=500).map(wanted).collect();
+    assert_eq!(told.lines().collect::<Vec<_>>(), wanted);
+    assert_eq!(status, Some(0));
+    let state = Members::of(&folder, Duration::ZERO).state(1).await.unwrap();
+    assert!(state.taken[0] < 100, "{} messages", state.taken[0]);
 }
 
 #[test]
