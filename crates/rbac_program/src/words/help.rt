@@ -4,7 +4,7 @@ pub(crate) const ABOUT: &str =
     "Takes commands of role-based access control, one JSON object a line, and answers each line";
 
 // The version, its date, and the logic that it is proved in, which several kits have.
-pub(crate) const VERSION: &str = "0.15.0 (2026-12-01, rattle logic dac8208d650f15bf)";
+pub(crate) const VERSION: &str = "0.16.0 (2026-12-01, rattle logic dac8208d650f15bf)";
 
 pub(crate) const AFTER_HELP: &str = "\
 Without words: the same as 'play - -'.
