@@ -28,6 +28,11 @@ struct Record {
 }
 
 #[derive(Debug, Deserialize)]
+struct Dump {
+    commands: Vec<Box<RawValue>>,
+}
+
+#[derive(Debug, Deserialize)]
 struct Refused {
     error: String,
     /// The generation in which it can be asked.
@@ -119,7 +124,18 @@ impl Members {
     }
 
     async fn furthest(&mut self) -> io::Result<Group> {
-        let mut furthest: Option<Group> = None;
+        let states = self.states().await?.into_iter();
+        let furthest = states.max_by_key(|(_, state)| state.generation);
+        let group = furthest.map(|(_, state)| Group {
+            generation: state.generation,
+            nodes: state.nodes,
+        });
+        group.ok_or_else(nobody_answers)
+    }
+
+    /// What each process tells of itself that has its socket in the folder and answers, by its node.
+    async fn states(&mut self) -> io::Result<Vec<(String, State)>> {
+        let mut states = Vec::new();
         for entry in std::fs::read_dir(&self.folder)? {
             let path = entry?.path();
             let (Some("sock"), Some(name)) = (
@@ -129,16 +145,27 @@ impl Members {
                 continue;
             };
             if let Ok(state) = self.state_of(name).await {
-                let (generation, nodes) = (state.generation, state.nodes);
-                if furthest
-                    .as_ref()
-                    .is_none_or(|it| it.generation < generation)
-                {
-                    furthest = Some(Group { generation, nodes });
-                }
+                states.push((name.to_owned(), state));
             }
         }
-        furthest.ok_or_else(|| io::Error::other("no process answers"))
+        Ok(states)
+    }
+
+    /// The commands that make the policy, as the process shows it that is furthest.
+    ///
+    /// # Errors
+    /// Where none answers, or shows a policy.
+    pub async fn dump(&mut self) -> io::Result<Vec<Box<RawValue>>> {
+        let states = self.states().await?.into_iter();
+        let shows = states.filter(|(_, state)| state.shown.is_some());
+        let furthest = shows.max_by_key(|(_, state)| state.shown);
+        let (node, _) = furthest.ok_or_else(nobody_answers)?;
+        let request = Request::get("/v1/dump").body(Body::empty());
+        let (_, body) = self
+            .send(&node, request.expect("the request is right"))
+            .await?;
+        let dump: Dump = serde_json::from_slice(&body)?;
+        Ok(dump.commands)
     }
 
     /// What each of these commands is answered, or the word by which it is refused.
@@ -271,6 +298,10 @@ impl Members {
         let reply = self.wire.ask(&address, request).await?;
         Ok((reply.status, reply.body.to_vec()))
     }
+}
+
+fn nobody_answers() -> io::Error {
+    io::Error::other("no process answers")
 }
 
 /// The records of a generation.

@@ -47,6 +47,11 @@ enum Verb {
         #[arg(long, default_value_t = 30)]
         patience: u64,
     },
+    /// Prints the policy of a group on this machine as client lines, which make it in a new group that is asked them. Status 1: no process answers
+    Dump {
+        /// The group's folder, or that of a process
+        folder: PathBuf,
+    },
     /// Is one member. Status 2: not started rightly; 3: fenced, another process is this member; 4: rows have lost cells, don't start it again
     /// blindly; 5: the rows can't be set or read
     Member {
@@ -211,6 +216,7 @@ async fn start(verb: Verb) -> Result<u8, String> {
             folder,
         } => start_group(&founding, members, folder).await,
         Verb::Ask { folder, patience } => ask(&folder, patience).await,
+        Verb::Dump { folder } => dump(&folder).await,
         Verb::Member {
             folder,
             place,
@@ -426,18 +432,33 @@ async fn start_group(
 
 async fn ask(folder: &Path, patience: u64) -> Result<u8, String> {
     let mut members = Members::of(folder, Duration::from_secs(patience));
-    let mut out = io::stdout();
-    let tell = |line: &str| {
-        // Who reads no further is answered no further.
-        if writeln!(out, "{line}").is_err() {
-            std::process::exit(1);
+    let asked = members.ask_lines(BufReader::new(stdin()), tell).await;
+    Ok(status_of(folder, asked))
+}
+
+async fn dump(folder: &Path) -> Result<u8, String> {
+    let dumped = Members::of(folder, Duration::ZERO).dump().await;
+    let told = dumped.map(|commands| {
+        for command in commands {
+            tell(&format!(r#"{{"at":1,"command":{}}}"#, command.get()));
         }
-    };
-    match members.ask_lines(BufReader::new(stdin()), tell).await {
-        Ok(()) => Ok(0),
+    });
+    Ok(status_of(folder, told))
+}
+
+/// Who reads no further is told no further.
+fn tell(line: &str) {
+    if writeln!(io::stdout(), "{line}").is_err() {
+        std::process::exit(1);
+    }
+}
+
+fn status_of(folder: &Path, done: io::Result<()>) -> u8 {
+    match done {
+        Ok(()) => 0,
         Err(error) => {
             eprintln!("fochillund: {}: {error}", folder.display());
-            Ok(1)
+            1
         }
     }
 }

@@ -57,6 +57,13 @@ fn asked(folder: &Path, lines: &Path) -> (String, Option<i32>) {
     (String::from_utf8(told.stdout).unwrap(), told.status.code())
 }
 
+/// What `fochillund dump` prints.
+fn dumped(folder: &Path) -> (String, Option<i32>) {
+    let mut command = Command::new(env!("CARGO_BIN_EXE_fochillund"));
+    let told = command.arg("dump").arg(folder).output().unwrap();
+    (String::from_utf8(told.stdout).unwrap(), told.status.code())
+}
+
 /// The process that a line tells.
 fn process_of(line: &str) -> Pid {
     let (_, rest) = line.split_once("(process ").unwrap();
@@ -97,6 +104,27 @@ fn the_members_end_with_what_has_started_them() {
             std::thread::sleep(std::time::Duration::from_millis(10));
         }
     }
+}
+
+#[test]
+fn a_policy_is_dumped_and_makes_another_group() {
+    let room = tempfile::tempdir().unwrap();
+    let dump = example("hospital.dump.jsonl");
+    let wanted = (std::fs::read_to_string(&dump).unwrap(), Some(0));
+    for (name, lines) in [("first", example("hospital.jsonl")), ("second", dump)] {
+        let folder = room.path().join(name);
+        let mut group = Running::of(&folder, &[]);
+        (0..3).for_each(|_| drop(group.line_with(" is up: ")));
+        let (told, _) = asked(&folder, &lines);
+        let answered = told.lines().count();
+        assert_eq!(
+            answered,
+            std::fs::read_to_string(lines).unwrap().lines().count()
+        );
+        // Members that nobody asked may be behind the first.
+        assert_eq!(dumped(&folder), wanted, "{name}");
+    }
+    assert_eq!(dumped(room.path()), (String::new(), Some(1)));
 }
 
 #[tokio::test]
