@@ -292,7 +292,7 @@ uint32_t member_close(struct member_place *place);
 /* ---- The version
  *
  * That of this header, and of the library that it came with. */
-static inline const char *policy_version(void) { return "0.15.0"; }
+static inline const char *policy_version(void) { return "0.16.0"; }
 
 /* ---- What a status says
  *
