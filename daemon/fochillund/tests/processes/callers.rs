@@ -51,7 +51,7 @@ fn answers(told: &(u16, Value)) -> Vec<Value> {
 }
 
 /// The status with which a process ends, within a minute.
-fn ended(mut process: Child) -> Option<i32> {
+pub fn ended(mut process: Child) -> Option<i32> {
     ended_of(&mut process)
 }
 

@@ -1,13 +1,16 @@
 //! A group whose processes are of two releases: of the last one, in `dist/`, or that whose program `OTHER_RELEASE` names, and of these sources.
+use crate::callers::ended;
 use crate::generations::{answers, propose, state_where};
-use crate::group::{named_release, Group};
+use crate::group::{founding, named_release, Group};
+use bytes::Bytes;
 use fochillund::ask::Members;
 use fochillund::callers::State;
+use fochillund::generation::Foundings;
 use fochillund::group::node;
 use fochillund::node::Phase;
 use fochillund::rules;
 use rows::cell::Founding;
-use rows::{Engine, Files, RowName};
+use rows::{Engine, Files, RowName, Told};
 use serde_json::json;
 use std::path::{Path, PathBuf};
 
@@ -61,6 +64,20 @@ async fn histories(group: &Group, client: &mut Members) -> Vec<Vec<String>> {
 }
 
 #[tokio::test]
+async fn who_joins_a_group_of_other_rules_ends() {
+    let group = Group::of(1);
+    let file = founding(1);
+    let (number, text) = Foundings::new().proposal(&[node(1)], Some(&file), "");
+    let mut cell: Founding = serde_json::from_slice(&text).unwrap();
+    cell.rules = "of another".to_owned();
+    let text = Bytes::from(serde_json::to_vec(&cell).unwrap());
+    let (rows, row) = (Files::of(group.folder()), RowName::founding());
+    assert_eq!(rows.set(&row, number, &[text]).await, Ok(Told::Set));
+    assert_eq!(ended(group.spawn(1, &[])), Some(2));
+    assert!(group.last_said().contains("other rules"));
+}
+
+#[tokio::test]
 async fn a_group_goes_over_to_another_release_and_back_one_process_at_a_time() {
     let other = other_release();
     let mut group = Group::of(MEMBERS);
@@ -69,8 +86,9 @@ async fn a_group_goes_over_to_another_release_and_back_one_process_at_a_time() {
     let mut client = group.client();
     ask_all(&mut client, 0).await;
     if !rules::are_known(&rules_of(&group).await) {
-        let mut stranger = group.spawn_in(&group.folder().join("elsewhere"), 1, &[]);
-        assert_eq!(stranger.wait().unwrap().code(), Some(2));
+        group.kill(1);
+        group.put_release(1, None);
+        assert_eq!(ended(group.spawn(1, &[])), Some(2));
         return;
     }
     let steps = [(1, None), (3, None), (1, Some(&*other)), (2, None)];
